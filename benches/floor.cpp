@@ -1,5 +1,5 @@
 // What a build and a listing of a file take in C++ that tests nothing and keeps no promise: a yardstick for `build --sorted --kind
-// simple --bare` and for `list --trust`, whose bytes and lines it has to give. Arguments: `build IN OUT` or `list FILE OUT`. It is
+// simple --bare` and for `list --no-check`, whose bytes and lines it has to give. Arguments: `build IN OUT` or `list FILE OUT`. It is
 // undefined what it does on lines that are no pairs, keys that do not ascend or are longer than its buffers, and bytes that are no trie.
 //
 // It is no second library. A build holds nothing of the lines but the last key. Where a key parts from the one before it, all that was

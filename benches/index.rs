@@ -39,9 +39,9 @@ fn look_ups(title: &str, sets: &[Set], rounds: usize, asked: impl Fn(&Set) -> Ve
         let flat = &Flat::of(&asked(set));
         let keys = &flat.slices();
         let turns = turns_of(set);
-        let mut contestants: Contestants<'_> = vec![("the index", Box::new(|| index_calls::ask_many(bytes, flat, turns)))];
+        let mut contestants: Contestants<'_> = vec![("the index", Box::new(|| index_calls::ask_many(bytes, keys, turns)))];
         if let Some(trie) = &trie {
-            contestants.push(("a trie", Box::new(|| index_calls::trie_ask_many(trie, flat, turns))));
+            contestants.push(("a trie", Box::new(|| index_calls::trie_ask_many(trie, keys, turns))));
         }
         contestants.extend(peers.look_ups(turns, keys));
         let sums: Vec<usize> = contestants.iter_mut().map(|(_, work)| work()).collect();

@@ -94,7 +94,7 @@ def refuses_another_version(prefix):
 def reader(prefix):
     """The header alone, in C99 and in C++, over a file that the program made."""
     room = folder("reader")
-    run(prefix / "bin/zerotrie", "build", "-", "-o", room / "names.trie", given="foo\t1\nbar\t2\nbazzoo\t3\n")
+    run(prefix / "bin/zerotrie", "build", "-", "-o", room / "names.trie", "--tagged", given="foo\t1\nbar\t2\nbazzoo\t3\n")
     (room / "read.c").write_text('''#include "zerotrie_read.h"
 #include <inttypes.h>
 #include <stdio.h>
@@ -175,7 +175,7 @@ def pythons():
 def program(path):
     room = folder("program")
     assert run(path, "--version") == f"zerotrie {VERSION}\n"
-    for command in ("build", "get", "longest", "list", "check", "dump", "dot", "code"):
+    for command in ("build", "get", "longest", "list", "verify", "stats", "inspect", "code"):
         assert f"Usage: zerotrie {command}" in run(path, command, "--help")
     run(path, "build", "-", "-o", "names.trie", cwd=room, given="foo\t1\nbar\t2\nbazzoo\t3\n")
     assert run(path, "get", "names.trie", "bar", "x", cwd=room, status=1) == "2\nnone\n"

@@ -94,7 +94,7 @@ def manual():
     lines = [f'.TH ZEROTRIE 1 "" "zerotrie {VERSION}" "User Commands"', ".SH NAME", f"zerotrie \\- {TOP.about[0].lower()}{roff(TOP.about[1:])}",
              ".SH SYNOPSIS", *(f"{roff(page.usage)}\n.br" for page in HELPS.values()), ".SH DESCRIPTION",
              "A trie is a read\\-only map from byte strings, the keys, to numbers below 2^64, as one list of bytes. A file of one has "
-             "the number of its kind in front. Every function of the program's library is proved to meet its contract.",
+             "a header with its kind, its length and a checksum in front. Every function of the program's library is proved to meet its contract.",
              ".SH COMMANDS"]
     for name, page in HELPS.items():
         lines += [f".SS {name}", roff(page.about) + ".", f".PP\n\\fB{roff(page.usage)}\\fR"]
@@ -102,10 +102,18 @@ def manual():
             lines += map(tagged, page.sections.get(section, []))
         for head, text in page.paragraphs():
             lines.append(f".PP\n{roff(head)}: \\fB{roff(text)}\\fR" if head == "Example" else f".PP\n{roff(head)}: {roff(text)}")
+    lines += notes()
     lines += [".SH OPTIONS", *map(tagged, TOP.sections["Options"]), ".SH EXIT STATUS"]
     lines += [roff(text) for head, text in TOP.paragraphs() if head in ("Status", "")]
     lines += [".SH SEE ALSO", "The file FORMAT.md describes the bytes, and zerotrie.h the library for C."]
     return "\n".join(lines) + "\n"
+
+
+def notes():
+    """The sections of NOTES.md of the program."""
+    page = pathlib.Path(__file__).resolve().parent.parent / "crates/zerotrie_cli/NOTES.md"
+    for block in page.read_text().strip().split("\n\n"):
+        yield f".SH {block[2:].upper()}" if block.startswith("# ") else f".PP\n{roff(block.replace('`', ''))}"
 
 
 def options(name):

@@ -18,7 +18,7 @@
  *   - The bytes may be anything. Every call returns, and reads nothing outside of them. If they are
  *     not a trie of the kind, the result is unspecified. A trie of an unknown kind has no keys.
  *     Nothing here validates bytes: take zerotrie_is_well_formed() of the library, or
- *     `zerotrie check`.
+ *     `zerotrie verify`.
  *   - A pointer with a length after it points to that many bytes. It may be null if that is 0.
  *   - A cursor points into the bytes. They must stay in place and unchanged while it is used.
  *   - There is no state between calls, so any number of threads may read the same bytes.

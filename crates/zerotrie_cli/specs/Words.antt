@@ -1,26 +1,49 @@
 -- The words of a command line, and what they ask for.
-use Rattle.std.specs.Prelude.{◌≡◌, ◌≢◌, ◌⊎◌, ℕ, List, [], Option, Some, None, Bool, true, false, Vec, codes, map, unwrap_or}
+use Rattle.std.specs.Prelude.{◌≡◌, ◌≢◌, ◌⊎◌, ℕ, List, [], ◌∷◌, Option, Some, None, Bool, true, false, Vec, codes, map, unwrap_or, eqb, if◌then◌else◌}
+use Rattle.std.specs.List.{ends_with}
 use Rattle.std.specs.Global.{Global}
 use Rattle.std.specs.Borrow.{Bor}
+use Rattle.std.specs.declared.ops.Bound.{Bound}
+use Rattle.std.specs.declared.ops.Bound.TheVariants.{Included, Excluded, Unbounded}
 use Rattle.std.specs.Option.{option_map}
+use Rattle.std.specs.Str.{chars}
 use Rattle.clap.specs.Matches.{found_of, first_value, matched_of, one_text, raw_values}
 use Rattle.clap.specs.declared.parser.matches.ArgMatches.{ArgMatches}
 use Rattle.zerotrie_cli.specs.declared.arguments.Topic.{Topic}
 use Rattle.zerotrie_cli.specs.declared.arguments.Topic.TheVariants as topic
+use Rattle.zerotrie_cli.specs.declared.build.Input.{Input}
+use Rattle.zerotrie_cli.specs.declared.build.Input.TheVariants as input
 use Rattle.zerotrie_core.specs.Kinds.{kind_name}
 use Rattle.zerotrie_core.specs.declared.TrieKind.{TrieKind}
-use Rattle.zerotrie_lines.specs.declared.reading.Format.TheVariants.{Tsv, Csv, Lines}
+use Rattle.zerotrie_lines.specs.declared.reading.Format.TheVariants.{Tsv, TsvRaw, Csv, Lines}
+use Rattle.zerotrie_lines.specs.declared.reading.LineEnd.{LineEnd}
+use Rattle.zerotrie_lines.specs.declared.reading.LineEnd.TheVariants.{CrLf, Lf}
 use Rattle.zerotrie_queries.specs.code.Names.{is_name}
 use Rattle.zerotrie_queries.specs.code.Texts.{usual_name}
 use Rattle.zerotrie_queries.specs.declared.code.Language.{Language}
 use Rattle.zerotrie_queries.specs.declared.code.Language.TheVariants as lang
+use Rattle.zerotrie_queries.specs.declared.lookups.Asked.{Asked}
+use Rattle.zerotrie_queries.specs.declared.lookups.Asked.TheVariants as asked
+use Rattle.zerotrie_queries.specs.declared.reports.ReportForm.{ReportForm}
+use Rattle.zerotrie_queries.specs.declared.reports.ReportForm.TheVariants as report
+use Rattle.zerotrie_queries.specs.declared.source.Choice.{Choice}
+use Rattle.zerotrie_queries.specs.declared.source.Choice.TheVariants as choice
+use Rattle.zerotrie_search.specs.Words.{letters_of}
+use Rattle.zerotrie_search.specs.declared.range.KeyRange.{KeyRange}
+use Rattle.zerotrie_queries.specs.declared.views.View.{View}
 use Rattle.zerotrie_queries.specs.declared.print.Form.{Form}
 use Rattle.zerotrie_queries.specs.declared.print.Form.TheVariants as form
 use Rattle.zerotrie_queries.specs.declared.print.Style.TheVariants as style
 use Rattle.zerotrie_queries.specs.declared.views.View.TheVariants as view
 use Rattle.zerotrie_making.specs.declared.making.Plan.{Plan}
+use Rattle.zerotrie_making.specs.declared.duplicates.Duplicates.{Duplicates}
+use Rattle.zerotrie_making.specs.declared.duplicates.Duplicates.TheVariants as again
+use Rattle.zerotrie_making.specs.declared.making.FileForm.{FileForm}
+use Rattle.zerotrie_making.specs.declared.making.FileForm.TheVariants as made
 use Rattle.zerotrie_making.specs.declared.making.Source.{Source}
 use Rattle.zerotrie_making.specs.declared.making.Source.TheVariants.{Text, Json}
+use Rattle.zerotrie_run.specs.declared.command.Check.{Check}
+use Rattle.zerotrie_run.specs.declared.command.Check.TheVariants as check
 use Rattle.zerotrie_run.specs.declared.command.Keys.{Keys}
 use Rattle.zerotrie_run.specs.declared.command.Keys.TheVariants as keys
 use Rattle.zerotrie_run.specs.declared.command.Question.{Question}
@@ -43,19 +66,125 @@ flag_of matches name = one_text (found_of matches) name
 abbrev pub IsFlag : Option (List ℕ) → Bool → Type 0
 IsFlag word flag = (word ≡ Some (codes "true") → flag ≡ true) × (word ≡ Some (codes "false") → flag ≡ false) × (word ≡ None → flag ≡ false)
 
--- how a form of input is named
-abbrev pub format_word : Source → List ℕ
-format_word (Text Tsv) = codes "tsv"
-format_word (Text Csv) = codes "csv"
-format_word (Text Lines) = codes "lines"
-format_word Json = codes "json"
+-- how a format of input is named
+abbrev pub format_word : Input → List ℕ
+format_word input.Tsv = codes "tsv"
+format_word input.Csv = codes "csv"
+format_word input.Lines = codes "lines"
+format_word input.Json = codes "json"
 
--- how a form of output is
-abbrev pub form_word : Form → List ℕ
-form_word (form.Lines style.Tsv) = codes "tsv"
-form_word (form.Lines style.Keys) = codes "keys"
-form_word (form.Lines style.Values) = codes "values"
-form_word form.Json = codes "json"
+-- the format of a file by the ending of its path
+abbrev pub by_ending : List ℕ → Input
+by_ending path =
+    if ends_with eqb path (codes ".csv") then input.Csv
+    else if ends_with eqb path (codes ".json") then input.Json
+    else if ends_with eqb path (codes ".txt") then input.Lines
+    else input.Tsv
+
+-- the format of an input: the one that is named, or by the ending of its path
+abbrev pub IsFormat : Option (List ℕ) → Option (List ℕ) → Input → Type 0
+IsFormat (Some word) path format = word ≡ format_word format
+IsFormat None path format = format ≡ by_ending (unwrap_or path [])
+
+-- what ends a line, by its word
+abbrev pub end_word : LineEnd → List ℕ
+end_word CrLf = codes "crlf"
+end_word Lf = codes "lf"
+
+-- an input of a format is such pairs, by whether it is raw: only `tsv` is
+abbrev pub IsSourceOf : Input → Bool → LineEnd → Source → Type 0
+IsSourceOf input.Tsv true end source = source ≡ Text TsvRaw end
+IsSourceOf input.Tsv false end source = source ≡ Text Tsv end
+IsSourceOf input.Csv raw end source = (raw ≡ false) × (source ≡ Text Csv end)
+IsSourceOf input.Lines raw end source = (raw ≡ false) × (source ≡ Text Lines end)
+IsSourceOf input.Json raw end source = (raw ≡ false) × (source ≡ Json)
+
+-- What the input of a build is, by its words.
+pub record IsInput (matches : ArgMatches) (source : Source) : Type 0 where
+  pub format : Input
+  pub named : IsFormat (word_of matches (codes "format")) (word_of matches (codes "IN")) format
+  pub end : LineEnd
+  pub ended : word_of matches (codes "eol") ≡ Some (end_word end)
+  pub raw : Bool
+  pub flag : IsFlag (flag_of matches (codes "raw")) raw
+  pub of : IsSourceOf format raw end source
+
+-- what becomes of a key that comes again, by its word
+abbrev pub duplicates_word : Duplicates → List ℕ
+duplicates_word again.Refuse = codes "refuse"
+duplicates_word again.First = codes "first"
+duplicates_word again.Last = codes "last"
+
+-- what a file has beside the bytes of its trie, by whether it is to be tagged or bare
+abbrev pub form_by : Bool → Bool → Option FileForm
+form_by false false = Some made.Sealed
+form_by true false = Some made.Tagged
+form_by false true = Some made.Bare
+form_by true true = None
+
+-- what it has by the words of these flags
+abbrev pub IsForm : Option (List ℕ) → Option (List ℕ) → FileForm → Type 0
+IsForm tagged bare form = (t : Bool) × (b : Bool) × IsFlag tagged t × IsFlag bare b × (form_by t b ≡ Some form)
+
+-- how a form of output is, if it is named by a word
+abbrev pub form_word : Form → Option (List ℕ)
+form_word (form.Lines style.Tsv) = Some (codes "tsv")
+form_word (form.Lines style.TsvRaw) = None
+form_word (form.Lines style.Csv) = Some (codes "csv")
+form_word (form.Lines style.Keys) = Some (codes "keys")
+form_word (form.Lines style.Values) = Some (codes "values")
+form_word (form.Lines style.JsonLines) = Some (codes "jsonl")
+form_word form.Json = Some (codes "json")
+form_word form.Count = None
+
+-- the form of a list: a number if it is only to be counted, and else by its word
+abbrev pub IsFormOf : Bool → Option (List ℕ) → Form → Type 0
+IsFormOf true word f = f ≡ form.Count
+IsFormOf false word f = (word ≡ form_word f) × (f ≢ form.Count)
+
+abbrev pub IsListForm : Option (List ℕ) → Option (List ℕ) → Form → Type 0
+IsListForm count word f = (flag : Bool) × IsFlag count flag × IsFormOf flag word f
+
+-- a limit, which is none without a word; that it is the number of the word, tests show
+abbrev pub IsLimit : Option (List ℕ) → Option ℕ → Type 0
+IsLimit None limit = limit ≡ None
+IsLimit (Some word) limit = limit ≢ None
+
+-- the byte at which a key may end: the one byte of the word
+abbrev pub IsBorder : Option (List ℕ) → Option ℕ → Type 0
+IsBorder word None = word ≡ None
+IsBorder word (Some byte) = word ≡ Some (byte ∷ [])
+
+-- what is asked of texts: the longest key, at a byte or anywhere, or all of them
+abbrev pub IsLongestOf : Bool → Option ℕ → Asked → Type 0
+IsLongestOf false None a = a ≡ asked.Longest
+IsLongestOf true None a = a ≡ asked.Prefixes
+IsLongestOf false (Some byte) a = a ≡ asked.LongestAt byte
+IsLongestOf true (Some byte) a = ⊥
+
+abbrev pub IsLongest : ArgMatches → Asked → Type 0
+IsLongest matches a = (all : Bool) × (border : Option ℕ) × IsFlag (flag_of matches (codes "all")) all × IsBorder (word_of matches (codes "at")) border × IsLongestOf all border a
+
+-- what is asked of keys: their values, and the keys, too, by the flag
+abbrev pub get_by : Bool → Asked
+get_by true = asked.Pair
+get_by false = asked.Value
+
+abbrev pub IsGet : Option (List ℕ) → Asked → Type 0
+IsGet word a = (flag : Bool) × IsFlag word flag × (a ≡ get_by flag)
+
+-- how a report is printed: as JSON by the flag
+abbrev pub report_by : Bool → ReportForm
+report_by true = report.Json
+report_by false = report.Lines
+
+abbrev pub IsReportForm : Option (List ℕ) → ReportForm → Type 0
+IsReportForm word form = (flag : Bool) × IsFlag word flag × (form ≡ report_by flag)
+
+-- how nodes are shown, by the word
+abbrev pub view_word : View → List ℕ
+view_word view.Dump = codes "dump"
+view_word (view.Dot most) = codes "dot"
 
 -- how a language is
 abbrev pub language_word : Language → List ℕ
@@ -85,11 +214,12 @@ IsTarget word Stream = IsPlace word Stream ⊎ (word ≡ Some (codes "/dev/stdou
 
 -- How a file is to be made, by the words of a build.
 pub record IsPlan (matches : ArgMatches) (plan : Plan) : Type 0 where
-  pub source : word_of matches (codes "format") ≡ Some (format_word plan.source)
+  pub source : IsInput matches plan.source
+  pub duplicates : word_of matches (codes "duplicates") ≡ Some (duplicates_word plan.duplicates)
   pub kind : IsKind (word_of matches (codes "kind")) plan.kind
   pub sorted : IsFlag (flag_of matches (codes "sorted")) plan.sorted
   pub lower_case : IsFlag (flag_of matches (codes "lower-case")) plan.lower_case
-  pub bare : IsFlag (flag_of matches (codes "bare")) plan.bare
+  pub form : IsForm (flag_of matches (codes "tagged")) (flag_of matches (codes "bare")) plan.form
 
 -- whether steps are told: if messages go to a terminal, and else by the flag
 abbrev pub IsProgress : Bool → Option (List ℕ) → Bool → Type 0
@@ -105,42 +235,96 @@ abbrev pub given_words : ArgMatches → Topic → Option (List (List ℕ))
 given_words matches topic.Get = words_of matches (codes "KEY")
 given_words matches topic.Longest = words_of matches (codes "TEXT")
 given_words matches topic.List = None
-given_words matches topic.Check = None
-given_words matches topic.Dump = None
-given_words matches topic.Dot = None
+given_words matches topic.Search = None
+given_words matches topic.Verify = None
+given_words matches topic.Stats = None
+given_words matches topic.Inspect = None
 given_words matches topic.Code = None
 
 -- words as bytes
 abbrev pub texts_of : Option (Vec (Bor (List ℕ)) Global) → Option (List (List ℕ))
 texts_of words = option_map (λ w. map (λ text. text.now) w.items) words
 
--- the keys that are asked for: these, or the lines of standard input
+-- the keys that are asked for: these words, or the lines of standard input if the only one is a hyphen
 abbrev pub AreKeysOf : Option (List (List ℕ)) → Keys → Type 0
-AreKeysOf None (keys.Words words) = ⊥
-AreKeysOf None keys.Lines = Unit {0}
-AreKeysOf (Some texts) (keys.Words words) = map (λ w. w.now) words.now ≡ texts
-AreKeysOf (Some texts) keys.Lines = ⊥
+AreKeysOf None of = ⊥
+AreKeysOf (Some texts) (keys.Words words) = (map (λ w. w.now) words.now ≡ texts) × (texts ≢ codes "-" ∷ [])
+AreKeysOf (Some texts) keys.Lines = texts ≡ codes "-" ∷ []
 
--- whether a file is taken without a test: a check takes none so
-abbrev pub IsTrusted : Topic → Option (List ℕ) → Bool → Type 0
-IsTrusted topic.Get word trust = IsFlag word trust
-IsTrusted topic.Longest word trust = IsFlag word trust
-IsTrusted topic.List word trust = IsFlag word trust
-IsTrusted topic.Check word trust = trust ≡ false
-IsTrusted topic.Dump word trust = IsFlag word trust
-IsTrusted topic.Dot word trust = IsFlag word trust
-IsTrusted topic.Code word trust = IsFlag word trust
+-- a test as usual, or none but of the seal by the flag
+abbrev pub by_flag : Bool → Check
+by_flag true = check.Skip
+by_flag false = check.Usual
+
+abbrev pub IsChecked : Option (List ℕ) → Check → Type 0
+IsChecked word by = (flag : Bool) × IsFlag word flag × (by ≡ by_flag flag)
+
+-- how a file is tested: in full by `verify`, and by others as usual unless a flag leaves that out
+abbrev pub IsCheck : Topic → Option (List ℕ) → Check → Type 0
+IsCheck topic.Get word by = IsChecked word by
+IsCheck topic.Longest word by = IsChecked word by
+IsCheck topic.List word by = IsChecked word by
+IsCheck topic.Search word by = IsChecked word by
+IsCheck topic.Verify word by = by ≡ check.Full
+IsCheck topic.Stats word by = IsChecked word by
+IsCheck topic.Inspect word by = IsChecked word by
+IsCheck topic.Code word by = IsChecked word by
 
 -- The file that is asked, by the words of a question.
 pub record IsFile (matches : ArgMatches) (about : Topic) (file : TrieFile) : Type 0 where
   pub place : IsSource (word_of matches (codes "FILE")) file.place
-  pub kind : IsKind (word_of matches (codes "kind")) file.kind
-  pub trust : IsTrusted about (flag_of matches (codes "trust")) file.trust
+  pub bare : IsKind (word_of matches (codes "bare")) file.bare
+  pub check : IsCheck about (flag_of matches (codes "no-check")) file.check
 
 -- The pairs that are listed, by the words of a listing.
-pub record IsListing (matches : ArgMatches) (form : Form) (prefix : List ℕ) : Type 0 where
-  pub format : word_of matches (codes "format") ≡ Some (form_word form)
+pub record IsListing (matches : ArgMatches) (form : Form) (prefix : List ℕ) (limit : Option ℕ) : Type 0 where
+  pub format : IsListForm (flag_of matches (codes "count")) (word_of matches (codes "format")) form
   pub front : prefix ≡ unwrap_or (word_of matches (codes "prefix")) []
+  pub most : IsLimit (word_of matches (codes "limit")) limit
+
+-- the pattern, or the word, that is looked for; that the edits are those of the number, tests show
+abbrev pub IsGlob : List ℕ → Choice → Type 0
+IsGlob word (choice.Glob g) = g.pattern.now ≡ word
+IsGlob word (choice.Prefix p) = ⊥
+IsGlob word (choice.Fuzzy l) = ⊥
+IsGlob word (choice.Subsequence s) = ⊥
+IsGlob word (choice.Range r) = ⊥
+
+abbrev pub IsFuzzy : List ℕ → Choice → Type 0
+IsFuzzy word (choice.Fuzzy l) = letters_of l.word ≡ chars word
+IsFuzzy word (choice.Prefix p) = ⊥
+IsFuzzy word (choice.Glob g) = ⊥
+IsFuzzy word (choice.Subsequence s) = ⊥
+IsFuzzy word (choice.Range r) = ⊥
+
+-- a range from a key on, if its word is there, and below another
+abbrev pub IsFrom : Option (List ℕ) → Bound (Bor (List ℕ)) → Type 0
+IsFrom word (Included key) = word ≡ Some key.now
+IsFrom word (Excluded key) = ⊥
+IsFrom word Unbounded = word ≡ None
+
+abbrev pub IsBelow : Option (List ℕ) → Bound (Bor (List ℕ)) → Type 0
+IsBelow word (Included key) = ⊥
+IsBelow word (Excluded key) = word ≡ Some key.now
+IsBelow word Unbounded = word ≡ None
+
+abbrev pub IsRange : ArgMatches → KeyRange → Type 0
+IsRange matches r = IsFrom (word_of matches (codes "from")) r.from × IsBelow (word_of matches (codes "below")) r.to
+
+-- what is looked for, by the word of its option; the others are not there
+abbrev pub IsSought : ArgMatches → Choice → Type 0
+IsSought matches (choice.Prefix p) = ⊥
+IsSought matches (choice.Glob g) = (word_of matches (codes "glob") ≡ Some g.pattern.now) × (word_of matches (codes "fuzzy") ≡ None) × (word_of matches (codes "subsequence") ≡ None)
+IsSought matches (choice.Fuzzy l) = (word : List ℕ) × (word_of matches (codes "fuzzy") ≡ Some word) × (letters_of l.word ≡ chars word)
+    × (word_of matches (codes "glob") ≡ None) × (word_of matches (codes "subsequence") ≡ None)
+IsSought matches (choice.Subsequence s) = (word_of matches (codes "subsequence") ≡ Some s.0.now) × (word_of matches (codes "glob") ≡ None) × (word_of matches (codes "fuzzy") ≡ None)
+IsSought matches (choice.Range r) = IsRange matches r × (word_of matches (codes "glob") ≡ None) × (word_of matches (codes "fuzzy") ≡ None) × (word_of matches (codes "subsequence") ≡ None)
+
+-- The pairs that are listed, by the words of a search.
+pub record IsSearch (matches : ArgMatches) (form : Form) (c : Choice) (limit : Option ℕ) : Type 0 where
+  pub format : IsListForm (flag_of matches (codes "count")) (word_of matches (codes "format")) form
+  pub sought : IsSought matches c
+  pub most : IsLimit (word_of matches (codes "limit")) limit
 
 -- The code that is written, by the words of its command.
 pub record IsCode (matches : ArgMatches) (language : Language) (name : List ℕ) : Type 0 where
@@ -150,12 +334,13 @@ pub record IsCode (matches : ArgMatches) (language : Language) (name : List ℕ)
 
 -- what a trie is asked, by the words of a command
 abbrev pub IsQuestion : ArgMatches → Topic → Option (List (List ℕ)) → Question → Type 0
-IsQuestion matches topic.Get texts q = (of : Keys) × AreKeysOf texts of × (q ≡ question.Get of)
-IsQuestion matches topic.Longest texts q = (of : Keys) × AreKeysOf texts of × (q ≡ question.Longest of)
-IsQuestion matches topic.List texts q = (form : Form) × (prefix : Bor (List ℕ)) × IsListing matches form prefix.now × (q ≡ question.List form prefix)
-IsQuestion matches topic.Check texts q = q ≡ question.Report
-IsQuestion matches topic.Dump texts q = q ≡ question.View view.Dump
-IsQuestion matches topic.Dot texts q = (most : ℕ) × (q ≡ question.View (view.Dot most))
+IsQuestion matches topic.Get texts q = (a : Asked) × (of : Keys) × IsGet (flag_of matches (codes "keys")) a × AreKeysOf texts of × (q ≡ question.LookUp a of)
+IsQuestion matches topic.Longest texts q = (a : Asked) × (of : Keys) × IsLongest matches a × AreKeysOf texts of × (q ≡ question.LookUp a of)
+IsQuestion matches topic.List texts q = (f : Form) × (prefix : Bor (List ℕ)) × (limit : Option ℕ) × IsListing matches f prefix.now limit × (q ≡ question.List f (choice.Prefix prefix) limit)
+IsQuestion matches topic.Search texts q = (f : Form) × (c : Choice) × (limit : Option ℕ) × IsSearch matches f c limit × (q ≡ question.List f c limit)
+IsQuestion matches topic.Verify texts q = q ≡ question.Verify
+IsQuestion matches topic.Stats texts q = (f : ReportForm) × IsReportForm (flag_of matches (codes "json")) f × (q ≡ question.Report f)
+IsQuestion matches topic.Inspect texts q = (v : View) × (word_of matches (codes "VIEW") ≡ Some (view_word v)) × (q ≡ question.View v)
 IsQuestion matches topic.Code texts q = (language : Language) × (name : Bor (List ℕ)) × IsCode matches language name.now × (q ≡ question.Code language name)
 
 -- the command that asks it of the file

@@ -19,20 +19,22 @@ pub enum Otherwise {
     Nothing,
 }
 
-/// How an argument stands on the command line.
+/// How an argument stands on the command line. An option may have a letter, too.
 pub enum Form {
     /// A word at its place, which has to be there.
     Place,
-    /// Words, as many as there are.
+    /// One of these words at its place, which has to be there.
+    Word(&'static [&'static str]),
+    /// Words, one at least.
     Words,
     /// Its name alone.
-    Flag,
-    /// Its name, or a letter, and a word after it, which help calls so.
+    Flag(Option<char>),
+    /// Its name and a word after it, which help calls so.
     Text(&'static str, Option<char>, Otherwise),
     /// Its name and any word after it, which help calls so; also one that begins with a hyphen.
-    AnyText(&'static str),
+    AnyText(&'static str, Option<char>),
     /// Its name and one of these words after it, which help calls so.
-    OneOf(&'static str, &'static [&'static str], Otherwise),
+    OneOf(&'static str, Option<char>, &'static [&'static str], Otherwise),
 }
 
 /// An argument, with the help for it.
@@ -48,9 +50,10 @@ pub enum Topic {
     Get,
     Longest,
     List,
-    Check,
-    Dump,
-    Dot,
+    Search,
+    Verify,
+    Stats,
+    Inspect,
     Code,
 }
 
@@ -82,26 +85,46 @@ fn or_otherwise<'a>(option: Arg<'a>, otherwise: &Otherwise) -> Arg<'a> {
     }
 }
 
+/// An option with its name and its letter, if it has one.
+fn named<'a>(option: Arg<'a>, name: &'static str, letter: Option<char>) -> Arg<'a> {
+    let option = option.long(name);
+    match letter {
+        Some(letter) => option.short(letter),
+        None => option,
+    }
+}
+
+/// An option with a word after its name, which help calls so.
+fn with_word<'a>(
+    option: Arg<'a>,
+    name: &'static str,
+    letter: Option<char>,
+    value: &'static str,
+) -> Arg<'a> {
+    named(option, name, letter)
+        .action(ArgAction::Set)
+        .value_name(value)
+}
+
 impl Argument {
     fn to_clap<'a>(&self, alloc: Global) -> Arg<'a> {
         let arg = Arg::new(alloc, self.name).help(self.help);
         match &self.form {
             Form::Place => arg.action(ArgAction::Set).required(true),
-            Form::Words => arg.action(ArgAction::Append).num_args(1..),
-            Form::Flag => arg.action(ArgAction::SetTrue).long(self.name),
+            Form::Word(words) => arg
+                .action(ArgAction::Set)
+                .required(true)
+                .value_parser(*words),
+            Form::Words => arg.action(ArgAction::Append).num_args(1..).required(true),
+            Form::Flag(letter) => named(arg, self.name, *letter).action(ArgAction::SetTrue),
             Form::Text(value, letter, otherwise) => {
-                let option = arg.action(ArgAction::Set).long(self.name).value_name(value);
-                match letter {
-                    Some(letter) => or_otherwise(option.short(*letter), otherwise),
-                    None => or_otherwise(option, otherwise),
-                }
+                or_otherwise(with_word(arg, self.name, *letter, value), otherwise)
             }
-            Form::AnyText(value) => {
-                let option = arg.action(ArgAction::Set).long(self.name).value_name(value);
-                option.allow_hyphen_values(true)
+            Form::AnyText(value, letter) => {
+                with_word(arg, self.name, *letter, value).allow_hyphen_values(true)
             }
-            Form::OneOf(value, words, otherwise) => {
-                let option = arg.action(ArgAction::Set).long(self.name).value_name(value);
+            Form::OneOf(value, letter, words, otherwise) => {
+                let option = with_word(arg, self.name, *letter, value);
                 or_otherwise(option.value_parser(*words), otherwise)
             }
         }
@@ -145,16 +168,16 @@ pub fn task_of(name: &str) -> Option<Task> {
     None
 }
 
-/// Returns the named kind. `None` if none is named, or the build chooses. It is an error, with the
-/// message, if the word is no kind.
-pub fn kind_in(matches: &ArgMatches<'_>) -> Result<Option<TrieKind>, &'static str>
-    ensures { IfOk result (IsKind (word_of matches.now (codes "kind"))) }
+/// Returns the kind that an option names. `None` if it is left out, or the build chooses. It is an
+/// error, with the message, if the word is no kind.
+pub fn kind_in(matches: &ArgMatches<'_>, name: &str) -> Result<Option<TrieKind>, &'static str>
+    ensures { IfOk result (IsKind (word_of matches.now name.now)) }
 {
-    match matches.get_str("kind") {
+    match matches.get_str(name) {
         None | Some("auto") => Ok(None),
-        Some(name) => match TrieKind::named(name) {
+        Some(word) => match TrieKind::named(word) {
             Some(kind) => Ok(Some(kind)),
-            None => Err("--kind asks for a kind"),
+            None => Err("simple, ignore, hash and ext are the kinds"),
         },
     }
 }

@@ -63,7 +63,7 @@ fn show(rt: &HostRuntime, said: &clap::Error) -> Status {
         ErrorKind::DisplayHelp | ErrorKind::DisplayVersion => match shown {
             Ok(()) => Status::Done,
             // who reads the output has enough
-            Err(error) if error.kind() == io::ErrorKind::BrokenPipe => Status::Unwritten,
+            Err(error) if error.kind() == io::ErrorKind::BrokenPipe => Status::Closed,
             Err(error) => {
                 let _ = eprintln!(rt; "zerotrie: standard output: {error}");
                 Status::Unwritten
@@ -85,7 +85,8 @@ fn lead_to_one_file(rt: &HostRuntime, path: &str, other: &str) -> bool {
 fn run_build(rt: &HostRuntime, build: Build<'_>) -> Status {
     if let (Place::File(from), Place::File(to)) = (build.from, build.to) {
         if from == to || lead_to_one_file(rt, from, to) {
-            return refuse(rt, "IN and OUT are the same file");
+            let _ = eprintln!(rt; "zerotrie: {from} and {to}: IN and OUT are the same file");
+            return Status::BadUsage;
         }
     }
     run_here(rt, Command::Build(build))
@@ -124,7 +125,7 @@ pub fn run_words(rt: &HostRuntime) -> Status {
         Err(error) => {
             if error.kind() == io::ErrorKind::InvalidData {
                 let _ = eprintln!(rt;
-                    "zerotrie: the arguments are not UTF-8; give keys of other bytes as lines of standard input, and a file of such a name as - with <"
+                    "zerotrie: the arguments are not UTF-8; give keys of other bytes as lines of standard input by -, and a file of such a name as - with <"
                 );
                 Status::BadUsage
             } else {

@@ -8,12 +8,18 @@ const KINDS_OR_AUTO: &[&str] = &["auto", "simple", "ignore", "hash", "ext"];
 
 const INPUTS: &[&str] = &["tsv", "csv", "lines", "json"];
 
-const OUTPUTS: &[&str] = &["tsv", "keys", "values", "json"];
+const OUTPUTS: &[&str] = &["tsv", "csv", "keys", "values", "json", "jsonl"];
+
+const ENDS: &[&str] = &["crlf", "lf"];
+
+const CHOICES: &[&str] = &["refuse", "first", "last"];
 
 const LANGUAGES: &[&str] = &["rust", "c", "rattle"];
 
-/// How many nodes are drawn if `--most` is left out.
-pub const MOST: &str = "100";
+const VIEWS: &[&str] = &["dump", "dot"];
+
+/// How many nodes are drawn if `--limit` is left out.
+const DRAWN: &str = "100";
 
 /// The file of a trie.
 const FILE: Argument = Argument {
@@ -22,23 +28,21 @@ const FILE: Argument = Argument {
     help: "A trie, or - for standard input",
 };
 
-const KIND: Argument = Argument {
-    name: "kind",
-    form: Form::OneOf("K", KINDS, Otherwise::Nothing),
-    help: "Only for a file of build --bare: read it as bare bytes of this kind. Any other file has the number of its kind in \
-        front, which would be taken for the first byte of every key",
+const BARE: Argument = Argument {
+    name: "bare",
+    form: Form::OneOf("K", Some('b'), KINDS, Otherwise::Nothing),
+    help: "Read FILE as bare bytes of this kind",
 };
 
-const TRUST: Argument = Argument {
-    name: "trust",
-    form: Form::Flag,
-    help: "Skip the check that FILE is a valid trie, which reads all of it once",
+const NO_CHECK: Argument = Argument {
+    name: "no-check",
+    form: Form::Flag(None),
+    help: "Skip the test of the bytes of a file that is not sealed",
 };
 
 /// What a status says, in the help of the program.
 pub const STATUSES: &str =
-    "Status: 0 if all is done or found; 1 if a key is not there, a text begins with none, or a build is refused; 2 if the \
-    command line is wrong, FILE is no trie, or IN is no pairs; 3 if a file can't be read or written, or memory runs out.";
+    "Status: 0 if all is done or found; 1 if a key is not there, a text\nbegins with none, or a build is refused; 2 if the command line is\nwrong, FILE is no trie, or IN is no pairs; 3 if a file can't be read\nor written, or memory runs out; 4 if whoever reads the output has\nclosed it.";
 
 /// What the program can be asked to do.
 pub const COMMANDS: &[Subcommand] = &[
@@ -46,9 +50,9 @@ pub const COMMANDS: &[Subcommand] = &[
         name: "build",
         task: Task::Build,
         about: "Make a trie from a file of pairs",
-        help: "Example: zerotrie build names.tsv -o names.trie\nIn memory: \
-            the input, the trie, and 24 to 36 bytes a pair, 24 more if they are to be sorted, and 16 if keys are copied, as those \
-            of csv and json and with escapes; of json the parsed value, too.\nStatus: 1 if the build is refused, 2 if IN is no pairs.",
+        help: "Example: zerotrie build names.tsv -o names.trie\n\
+            In every format of text a byte order mark in front is left out,\nand a carriage return before a line feed.\n\
+            Status: 1 if the build is refused, 2 if IN is no pairs.",
         arguments: &[
             Argument {
                 name: "IN",
@@ -61,37 +65,59 @@ pub const COMMANDS: &[Subcommand] = &[
                 help: "The file to make, or - for standard output",
             },
             Argument {
-                name: "kind",
-                form: Form::OneOf("K", KINDS_OR_AUTO, Otherwise::Is("auto")),
-                help: "The kind of the trie: simple for some hundreds of ASCII keys, ignore for ASCII keys that are to be found in \
-                    either case, hash for any bytes or many keys, ext for gigabytes; auto takes simple for fewer than 512 \
-                    ASCII keys, else hash",
+                name: "no-clobber",
+                form: Form::Flag(Some('n')),
+                help: "Refuse the build if OUT is there already",
             },
             Argument {
                 name: "format",
-                form: Form::OneOf("F", INPUTS, Otherwise::Is("tsv")),
-                help: "The format of the input: tsv, a key with escapes as \\t, a tab and a number; csv, two fields, no header; \
-                    lines, a key, whose value is the number of its line; json, an object or a list of pairs",
+                form: Form::OneOf("F", Some('f'), INPUTS, Otherwise::Nothing),
+                help: "The format of IN, else by its ending, else tsv",
             },
             Argument {
-                name: "sorted",
-                form: Form::Flag,
-                help: "Take the keys as they come: they have to ascend by their bytes, each once",
+                name: "raw",
+                form: Form::Flag(Some('r')),
+                help: "Read tsv without escapes",
             },
             Argument {
-                name: "bare",
-                form: Form::Flag,
-                help: "Leave out the number of the kind in front; name the kind too, since the file will not tell it",
+                name: "eol",
+                form: Form::OneOf("E", None, ENDS, Otherwise::Is("crlf")),
+                help: "What ends a line: lf keeps carriage returns",
+            },
+            Argument {
+                name: "duplicates",
+                form: Form::OneOf("D", Some('d'), CHOICES, Otherwise::Is("refuse")),
+                help: "What becomes of a key that comes again",
             },
             Argument {
                 name: "lower-case",
-                form: Form::Flag,
-                help: "Bring the ASCII letters of the keys into lower case first",
+                form: Form::Flag(Some('l')),
+                help: "Bring ASCII letters of keys into lower case first",
+            },
+            Argument {
+                name: "sorted",
+                form: Form::Flag(Some('s')),
+                help: "Refuse keys that do not ascend by their bytes",
+            },
+            Argument {
+                name: "kind",
+                form: Form::OneOf("K", Some('k'), KINDS_OR_AUTO, Otherwise::Is("auto")),
+                help: "The kind of the trie: auto is simple for fewer than 512 ASCII keys, else hash",
+            },
+            Argument {
+                name: "tagged",
+                form: Form::Flag(Some('t')),
+                help: "Put the number of the kind in front, and no checksum",
+            },
+            Argument {
+                name: "bare",
+                form: Form::Flag(Some('b')),
+                help: "Put nothing in front; name the kind too",
             },
             Argument {
                 name: "progress",
-                form: Form::Flag,
-                help: "Report each step on standard error, which is done anyway if that is a terminal",
+                form: Form::Flag(Some('p')),
+                help: "Report each step on standard error, even if it is no terminal",
             },
         ],
     },
@@ -99,109 +125,204 @@ pub const COMMANDS: &[Subcommand] = &[
         name: "get",
         task: Task::Ask(Topic::Get),
         about: "Print the values of keys",
-        help: "Example: zerotrie get names.trie amp lt\nIn memory: the file, the longest key and a megabyte.\nStatus: 1 if a key is not there, 2 if FILE is no trie.",
+        help: "Example: zerotrie get names.trie amp lt\n\
+            Status: 1 if a key is not there, 2 if FILE is no trie.",
         arguments: &[
             FILE,
-            KIND,
-            TRUST,
             Argument {
                 name: "KEY",
                 form: Form::Words,
-                help: "Keys, without escapes; with none they are the lines of standard input",
+                help: "Keys; - alone reads them from standard input, one a line",
             },
+            Argument {
+                name: "keys",
+                form: Form::Flag(Some('k')),
+                help: "Print each key in front of its value",
+            },
+            BARE,
+            NO_CHECK,
         ],
     },
     Subcommand {
         name: "longest",
         task: Task::Ask(Topic::Longest),
         about: "Print the longest key that each text begins with, and its value",
-        help: "Example: zerotrie longest names.trie ampersand\nIn memory: the file and the longest text.\n\
+        help: "Example: zerotrie longest names.trie ampersand\n\
             Status: 1 if a text begins with no key, 2 if FILE is no trie.",
         arguments: &[
             FILE,
-            KIND,
-            TRUST,
             Argument {
                 name: "TEXT",
                 form: Form::Words,
-                help: "Texts; with none they are the lines of standard input",
+                help: "Texts; - alone reads them from standard input, one a line",
             },
+            Argument {
+                name: "all",
+                form: Form::Flag(Some('a')),
+                help: "Print all keys that a text begins with, shortest first",
+            },
+            Argument {
+                name: "at",
+                form: Form::AnyText("BYTE", None),
+                help: "Take only keys that end with the text or before this byte",
+            },
+            BARE,
+            NO_CHECK,
         ],
     },
     Subcommand {
         name: "list",
         task: Task::Ask(Topic::List),
         about: "Print the pairs",
-        help: "Example: zerotrie list names.trie --prefix am\nIn memory: the file and the longest key.\n\
+        help: "Example: zerotrie list names.trie --prefix am\n\
             Status: 0 also if no key begins so, 2 if FILE is no trie.",
         arguments: &[
             FILE,
-            KIND,
-            TRUST,
             Argument {
                 name: "prefix",
-                form: Form::AnyText("P"),
+                form: Form::AnyText("P", Some('p')),
                 help: "Only keys that begin so",
             },
             Argument {
                 name: "format",
-                form: Form::OneOf("F", OUTPUTS, Otherwise::Is("tsv")),
+                form: Form::OneOf("F", Some('f'), OUTPUTS, Otherwise::Is("tsv")),
                 help: "The format of the output",
             },
+            Argument {
+                name: "limit",
+                form: Form::Text("N", Some('n'), Otherwise::Nothing),
+                help: "At most this many pairs",
+            },
+            Argument {
+                name: "count",
+                form: Form::Flag(Some('c')),
+                help: "Print how many pairs there are",
+            },
+            BARE,
+            NO_CHECK,
         ],
     },
     Subcommand {
-        name: "check",
-        task: Task::Ask(Topic::Check),
-        about: "Test the bytes, and print what the trie is made of, or where and why they are no trie",
-        help: "Example: zerotrie check names.trie\nIn memory: the file and the open \
-            branches. Places are counted after the number of the kind.\nStatus: 2 if FILE is no trie.",
-        arguments: &[FILE, KIND],
-    },
-    Subcommand {
-        name: "dump",
-        task: Task::Ask(Topic::Dump),
-        about: "Print a line for each node: place, depth, edge, meaning and bytes",
-        help: "Example: zerotrie dump names.trie\nIn memory: the file and the open branches.",
-        arguments: &[FILE, KIND, TRUST],
-    },
-    Subcommand {
-        name: "dot",
-        task: Task::Ask(Topic::Dot),
-        about: "Print a drawing of the first nodes, for Graphviz",
-        help: "Example: zerotrie dot names.trie --most 40 | dot -Tsvg -o names.svg\n\
-            In memory: the file and the open branches.",
+        name: "search",
+        task: Task::Ask(Topic::Search),
+        about: "Print the pairs whose keys match, are near a word, or are in a range",
+        help: "Example: zerotrie search names.trie --fuzzy ampersend\n\
+            Give one of --glob, --fuzzy and --subsequence, or --from and --below.\n\
+            Status: 0 also if no key is found, 2 if FILE is no trie.",
         arguments: &[
             FILE,
-            KIND,
-            TRUST,
             Argument {
-                name: "most",
-                form: Form::Text("N", None, Otherwise::Is(MOST)),
-                help: "At most this many nodes",
+                name: "glob",
+                form: Form::AnyText("P", Some('g')),
+                help: "Keys that match *, ?, [a-z], [!a-z] and \\ before any of these",
             },
+            Argument {
+                name: "fuzzy",
+                form: Form::AnyText("WORD", Some('z')),
+                help: "Keys that few edits make of this word of at most 63 characters",
+            },
+            Argument {
+                name: "edits",
+                form: Form::Text("E", Some('e'), Otherwise::Is("1")),
+                help: "How many characters --fuzzy may insert, delete or change",
+            },
+            Argument {
+                name: "subsequence",
+                form: Form::AnyText("S", Some('s')),
+                help: "Keys that have these bytes in this order",
+            },
+            Argument {
+                name: "from",
+                form: Form::AnyText("A", None),
+                help: "Keys from this one on, by their bytes",
+            },
+            Argument {
+                name: "below",
+                form: Form::AnyText("B", None),
+                help: "Keys below this one, by their bytes",
+            },
+            Argument {
+                name: "format",
+                form: Form::OneOf("F", Some('f'), OUTPUTS, Otherwise::Is("tsv")),
+                help: "The format of the output",
+            },
+            Argument {
+                name: "limit",
+                form: Form::Text("N", Some('n'), Otherwise::Nothing),
+                help: "At most this many pairs",
+            },
+            Argument {
+                name: "count",
+                form: Form::Flag(Some('c')),
+                help: "Print how many pairs there are",
+            },
+            BARE,
+            NO_CHECK,
+        ],
+    },
+    Subcommand {
+        name: "verify",
+        task: Task::Ask(Topic::Verify),
+        about: "Test all bytes, and print nothing if they are a trie",
+        help: "Example: zerotrie verify names.trie\nStatus: 2 if FILE is no trie.",
+        arguments: &[FILE, BARE],
+    },
+    Subcommand {
+        name: "stats",
+        task: Task::Ask(Topic::Stats),
+        about: "Print what the trie is made of",
+        help: "Example: zerotrie stats names.trie --json\nStatus: 2 if FILE is no trie.",
+        arguments: &[
+            FILE,
+            Argument {
+                name: "json",
+                form: Form::Flag(Some('j')),
+                help: "Print one JSON object",
+            },
+            BARE,
+            NO_CHECK,
+        ],
+    },
+    Subcommand {
+        name: "inspect",
+        task: Task::Ask(Topic::Inspect),
+        about: "Print each node of the trie, or a drawing for Graphviz",
+        help: "Example: zerotrie inspect dot names.trie -n 40 | dot -Tsvg",
+        arguments: &[
+            Argument {
+                name: "VIEW",
+                form: Form::Word(VIEWS),
+                help: "A line for each node, or a drawing",
+            },
+            FILE,
+            Argument {
+                name: "limit",
+                form: Form::Text("N", Some('n'), Otherwise::Is(DRAWN)),
+                help: "At most this many nodes of a drawing",
+            },
+            BARE,
+            NO_CHECK,
         ],
     },
     Subcommand {
         name: "code",
         task: Task::Ask(Topic::Code),
         about: "Print the bytes as a constant of a program, with the call that reads it",
-        help: "Example: zerotrie code names.trie --lang c --name names\nIn memory: the file.",
+        help: "Example: zerotrie code names.trie --lang c --name names",
         arguments: &[
             FILE,
-            KIND,
-            TRUST,
             Argument {
                 name: "lang",
-                form: Form::OneOf("L", LANGUAGES, Otherwise::Refused),
+                form: Form::OneOf("L", Some('l'), LANGUAGES, Otherwise::Refused),
                 help: "The language",
             },
             Argument {
                 name: "name",
                 form: Form::Text("NAME", None, Otherwise::Nothing),
-                help: "The name of the static in Rust, of the function in Rattle, and in front of \
-                    those in C; else TRIE, get and trie.",
+                help: "The name of what is made, else TRIE, get and trie",
             },
+            BARE,
+            NO_CHECK,
         ],
     },
 ];

@@ -2,6 +2,8 @@
 use Rattle.std.specs.Prelude.{◌≡◌, ◌≢◌, ◌⊎◌, ℕ, Bool, List, ◌++◌, All, Option, Some, None, Result, MatchBool, MatchResult, OnOk}
 use Rattle.std.specs.declared.io.Error.{Error}
 use Rattle.zerotrie_files.specs.Faults.{IsOutOfMemory}
+use Rattle.zerotrie_files.specs.declared.found.Found.{Found}
+use Rattle.zerotrie_files.specs.declared.found.Found.TheVariants.{Nothing, File, Folder, Stream}
 
 -- what the file of each path holds, if there is one; each path is a file of its own, so links are left out
 abbrev pub Files : Type 0
@@ -86,6 +88,13 @@ Replaces path beside bytes result old new = Passes (IsWhole path beside bytes ol
     × MatchResult result
     (λ free. MatchBool free ((old.now beside ≡ None) × Holds path bytes old.now new.now) (IsTaken beside old new))
     (λ _. (new.now path ≡ old.now path) × Spares beside old new)
+
+-- what a path leads to, by what its file holds: to nothing if there is none
+abbrev pub IsFound : Option (List ℕ) → Found → Type 0
+IsFound held Nothing = held ≡ None
+IsFound held (File mode) = held ≢ None
+IsFound held Folder = held ≢ None
+IsFound held Stream = held ≢ None
 
 -- why a file is not read: there is none, or it is out of memory
 abbrev pub IsUnread : List ℕ → Story → Error → Type 0

@@ -1,53 +1,16 @@
 //! The calls of a file system that read a file and replace one.
 
-ghost use Rattle.std.specs.Prelude.{◌≡◌, ◌⊎◌, ◌%◌, ◌<◌, List, ℕ, Option, true, IfOk, IfErr, IfSome};
+ghost use Rattle.std.specs.Prelude.{◌≡◌, ◌⊎◌, List, ℕ, Option, true, IfOk, IfErr, IfSome};
 ghost use Rattle.std.specs.String.{string_bytes};
 ghost use Rattle.zerotrie_files.specs.Stores.{names_open_file};
-ghost use Rattle.zerotrie_files.specs.Disks.{Story, Known, IsUnread, WritesNew, Renames, Removes, HasNoStream};
+ghost use Rattle.zerotrie_files.specs.Disks.{Story, Known, IsFound, IsUnread, WritesNew, Renames, Removes, HasNoStream};
 
+use crate::found::{Found, Mode};
 use std::io;
-
-/// Who may read, write and run a file: the bits of its mode that stay if it is replaced. There is
-/// no set-id bit.
-#[derive(Clone, Copy, Debug)]
-pub struct Mode {
-    bits: u32,
-    pub ghost kept: { bits < 512 },
-}
-
-impl Mode {
-    /// What stays of the mode of a file.
-    pub fn kept(mode: u32) -> Self
-        ensures { result.bits ≡ mode % 512 }
-    {
-        Mode {
-            bits: mode % 0o1000,
-        }
-    }
-
-    /// The bits.
-    pub fn bits(self) -> u32
-        ensures { result ≡ self.bits }
-    {
-        self.bits
-    }
-}
-
-/// What a path leads to.
-#[derive(Clone, Copy, Debug)]
-pub enum Found {
-    /// Nothing, and it is no link either.
-    Nothing,
-    /// A file.
-    File(Mode),
-    Folder,
-    /// A device or a pipe.
-    Stream,
-}
 
 /// Where files are read, written, renamed and removed.
 pub trait Disk {
-    ghost use Rattle.zerotrie_files.specs.declared.disk.Found.TheVariants.{Stream};
+    ghost use Rattle.zerotrie_files.specs.declared.found.Found.TheVariants.{Stream};
 
     /// What the files hold, and held at each moment before. `None` says nothing of them.
     ghost story: { Self → Option Story };
@@ -64,7 +27,9 @@ pub trait Disk {
 
     /// Returns what a path leads to, by whatever links. A link to nothing is an error.
     fn find(&self, path: &str) -> io::Result<Found>
-        ensures { IfOk result (λ found. found ≡ Stream → is_stream self.now path.now) };
+        ensures stream { IfOk result (λ found. found ≡ Stream → is_stream self.now path.now) }
+        ensures there { IfOk result (λ found.
+            IfSome (story self.now) (λ known. IsFound (known.now path.now) found)) };
 
     /// Tests that the file of a path can be written.
     fn test_writable(&self, path: &str) -> io::Result<()>;
@@ -86,6 +51,12 @@ pub trait Disk {
     /// Removes a file.
     fn remove(&mut self, path: &str) -> io::Result<()>
         ensures { Known (story self.old) (story self.new) (Removes path.now result) };
+
+    /// Removes the file of a path if an interrupted replacement left it, and no process has it open
+    /// for one. A disk that tells what its files hold has none of these.
+    fn remove_left(&mut self, path: &str)
+        ensures story { story self.new ≡ story self.old }
+        ensures streams { (other : List ℕ) → is_stream self.old other → is_stream self.new other };
 
     /// Writes the bytes to a device or a pipe, or to the end of an open file. A disk that tells
     /// what its files hold has none of these.

@@ -5,6 +5,7 @@
 
 mod disk;
 mod faults;
+mod found;
 mod noted;
 mod output;
 mod replacing;
@@ -12,7 +13,8 @@ mod store;
 mod system;
 mod writing;
 
-pub use disk::{Disk, Found, Mode};
+pub use disk::Disk;
+pub use found::{Found, Mode};
 pub use noted::Noted;
 pub use output::write_output;
 pub use replacing::{replace, replace_beside};

@@ -4,7 +4,8 @@ ghost use Rattle.std.specs.Prelude.{◌≡◌};
 ghost use Rattle.zerotrie_files.specs.Disks.{Known};
 ghost use Rattle.zerotrie_files.specs.Stores.{ReplacesBeside, names_open_file};
 
-use crate::disk::{Disk, Found};
+use crate::disk::Disk;
+use crate::found::Found;
 use crate::replacing::replace_beside;
 use std::alloc::Global;
 use std::io;

@@ -5,7 +5,8 @@ ghost use Rattle.std.specs.String.{string_bytes};
 ghost use Rattle.zerotrie_files.specs.Disks.{Known, Replaces};
 ghost use Rattle.zerotrie_files.specs.Stores.{numbered_path, ReplacesBeside};
 
-use crate::disk::{Disk, Mode};
+use crate::disk::Disk;
+use crate::found::Mode;
 use std::alloc::{AllocError, Global};
 use std::io;
 use std::io::ErrorKind;
@@ -53,13 +54,20 @@ fn path_beside(alloc: Global, path: &str, number: usize) -> Result<String, Alloc
     Ok(beside)
 }
 
-/// Replaces the file of a path by these bytes, or makes it: writes them to a new file at
-/// `PATH.N.tmp`, where N is a number below 100, with this mode and renames it.
-///
-/// At each moment the file holds its old bytes or all of the new ones, and no other file that was
-/// there changes. After an error it is unchanged, and the new file is removed, if that can be done.
-/// If all of these hundred paths have files, it fails with `AlreadyExists`.
-pub fn replace_beside<D: Disk>(
+/// Removes the files at `PATH.N.tmp` that interrupted replacements left, and that no process holds.
+fn remove_all_left<D: Disk>(alloc: Global, disk: &mut D, path: &str)
+    ensures { D.story disk.new ≡ D.story disk.old }
+{
+    for number in 0..MOST_TRIES {
+        if let Ok(beside) = path_beside(alloc, path, number) {
+            disk.remove_left(beside.as_str());
+        }
+    }
+}
+
+/// Replaces the file of a path by these bytes, or makes it, by way of the first of the hundred
+/// paths beside it that is free. If none is, it fails with `AlreadyExists`.
+fn replace_by_first<D: Disk>(
     alloc: Global,
     disk: &mut D,
     path: &str,
@@ -76,4 +84,25 @@ pub fn replace_beside<D: Disk>(
         }
     }
     Err(io::Error::from(ErrorKind::AlreadyExists))
+}
+
+/// Replaces the file of a path by these bytes, or makes it: writes them to a new file at
+/// `PATH.N.tmp`, where N is a number below 100, with this mode and renames it. It removes the files
+/// at these paths first that interrupted replacements left, and that no process holds.
+///
+/// At each moment the file holds its old bytes or all of the new ones, and no other file that was
+/// there changes. After an error it is unchanged, and the new file is removed, if that can be done.
+/// If all of these hundred paths have files that are held, it fails with `AlreadyExists`.
+pub fn replace_beside<D: Disk>(
+    alloc: Global,
+    disk: &mut D,
+    path: &str,
+    mode: Option<Mode>,
+    bytes: &[u8],
+) -> io::Result<()>
+    ensures { Known (D.story disk.old) (D.story disk.new)
+        (ReplacesBeside path.now bytes.now result) }
+{
+    remove_all_left(alloc, disk, path);
+    replace_by_first(alloc, disk, path, mode, bytes)
 }

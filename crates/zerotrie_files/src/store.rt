@@ -1,15 +1,17 @@
 //! Reads and replacements of whole files.
 
-ghost use Rattle.std.specs.Prelude.{◌≡◌, ◌↔◌, ◌⊎◌, Some, IfOk, IfErr, IfSome, IsTrue, false};
+ghost use Rattle.std.specs.Prelude.{◌≡◌, ◌≢◌, ◌↔◌, ◌⊎◌, Some, None, MatchBool, IfOk, IfErr, IfSome, IsTrue, OnOk, false};
 ghost use Rattle.zerotrie_files.specs.Disks.{Known, IsUnread};
 ghost use Rattle.zerotrie_files.specs.Stores.{ReplacesBeside};
 ghost use Rattle.zerotrie_files.specs.Faults.{IsFault, IsNoted};
 
 use crate::disk::Disk;
 use crate::faults::is_fault;
+use crate::found::Found;
 use crate::output::write_output;
 use std::alloc::Global;
 use std::io;
+use std::io::ErrorKind;
 use std::marker::Model;
 
 /// The files of a disk, read and replaced, with a note of what failed.
@@ -77,6 +79,25 @@ impl<D: Disk> Store<D> {
         let outcome = self.disk.read(path);
         self.unread |= is_fault(&outcome);
         outcome
+    }
+
+    /// Returns whether there is a file at a path.
+    pub fn has(&mut self, path: &str) -> io::Result<bool>
+        ensures there { IfOk result (λ there. IfSome (D.story self.old.disk) (λ known.
+            MatchBool there (known.now path.now ≢ None) (known.now path.now ≡ None))) }
+        ensures same { self.new.disk ≡ self.old.disk }
+        ensures unchanged { OnOk result (self.new ≡ self.old) }
+        ensures unwritten { self.new.unwritten ≡ self.old.unwritten }
+        ensures noted { IsNoted result self.old.unread self.new.unread }
+    {
+        match self.disk.find(path) {
+            Ok(Found::Nothing) => Ok(false),
+            Ok(_) => Ok(true),
+            Err(error) => {
+                self.unread |= error.kind() != ErrorKind::OutOfMemory;
+                Err(error)
+            }
+        }
     }
 
     /// Replaces the file of a path by the bytes, or makes it, as `write_output` does.

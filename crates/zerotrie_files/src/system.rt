@@ -2,10 +2,11 @@
 
 ghost use Rattle.std.specs.Prelude.{None};
 
-use crate::disk::{Disk, Found, Mode};
-use std::fs::{File, Metadata, OpenFile, OpenOptions, Permissions};
+use crate::disk::Disk;
+use crate::found::{Found, Mode};
+use std::fs::{File, Metadata, OpenOptions, Permissions, TryLockError};
 use std::io::{ErrorKind, Read, Write};
-use std::os::unix::fs::PermissionsExt;
+use std::os::unix::fs::{MetadataExt, PermissionsExt};
 use std::rt::Files;
 use std::{fs, io};
 
@@ -13,12 +14,18 @@ use std::{fs, io};
 #[derive(Drop)]
 pub struct SystemDisk<'a, R> {
     system: &'a R,
+    /// The last new file. It is locked as long as it is open, so that no other process takes it for
+    /// one that was left behind.
+    new_file: Option<File>,
 }
 
 impl<'a, R> SystemDisk<'a, R> {
     /// The files of the system.
     pub fn new(system: &'a R) -> Self {
-        SystemDisk { system }
+        SystemDisk {
+            system,
+            new_file: None,
+        }
     }
 }
 
@@ -33,8 +40,23 @@ fn found(metadata: &Metadata) -> Found {
     }
 }
 
+/// Locks a new file. Returns whether it is still there and no other process has locked it. Where
+/// files can't be locked, none is removed by another process.
+fn lock_new(file: &File) -> io::Result<bool> {
+    match file.try_lock() {
+        Ok(()) => Ok(file.metadata()?.nlink() > 0),
+        Err(TryLockError::WouldBlock) => Ok(false),
+        Err(TryLockError::Error(_)) => Ok(true),
+    }
+}
+
+/// Whether two descriptions are of one file.
+fn are_one_file(one: &Metadata, other: &Metadata) -> bool {
+    one.dev() == other.dev() && one.ino() == other.ino()
+}
+
 /// Writes the bytes to a new file, and syncs it.
-fn fill<F: OpenFile + Write>(file: &mut F, mode: Option<Mode>, bytes: &[u8]) -> io::Result<()> {
+fn fill(file: &mut File, mode: Option<Mode>, bytes: &[u8]) -> io::Result<()> {
     if let Some(mode) = mode {
         file.set_permissions(Permissions::from_mode(mode.bits()))?;
     }
@@ -42,7 +64,25 @@ fn fill<F: OpenFile + Write>(file: &mut F, mode: Option<Mode>, bytes: &[u8]) -> 
     file.sync_all()
 }
 
-impl<'a, R: Files + AllocGlobal> Disk for SystemDisk<'a, R> {
+impl<'a, R: Files<File = File>> SystemDisk<'a, R> {
+    /// Removes the file of a path if no process holds it.
+    fn remove_unheld(&self, path: &str) -> io::Result<()> {
+        let found = fs::symlink_metadata(self.system, path)?;
+        if !found.is_file() {
+            return Ok(());
+        }
+        let file = OpenOptions::new().write(true).open(self.system, path)?;
+        file.try_lock()?;
+        // the path may have another file by now, which is held
+        let now = fs::symlink_metadata(self.system, path)?;
+        if are_one_file(&file.metadata()?, &now) {
+            fs::remove_file(self.system, path)?;
+        }
+        Ok(())
+    }
+}
+
+impl<'a, R: Files<File = File> + AllocGlobal> Disk for SystemDisk<'a, R> {
     ghost story = { λ _. None };
 
     ghost is_stream = { λ _ _. Unit {0} };
@@ -81,8 +121,14 @@ impl<'a, R: Files + AllocGlobal> Disk for SystemDisk<'a, R> {
             Err(error) if error.kind() == ErrorKind::AlreadyExists => return Ok(false),
             Err(error) => return Err(error),
         };
+        if !lock_new(&file)? {
+            return Ok(false);
+        }
         match fill(&mut file, mode, bytes) {
-            Ok(()) => Ok(true),
+            Ok(()) => {
+                self.new_file = Some(file);
+                Ok(true)
+            }
             Err(error) => {
                 let _ = self.remove(path);
                 Err(error)
@@ -96,6 +142,10 @@ impl<'a, R: Files + AllocGlobal> Disk for SystemDisk<'a, R> {
 
     fn remove(&mut self, path: &str) -> io::Result<()> {
         fs::remove_file(self.system, path)
+    }
+
+    fn remove_left(&mut self, path: &str) {
+        let _ = self.remove_unheld(path);
     }
 
     fn append(&mut self, path: &str, bytes: &[u8]) -> io::Result<()> {

@@ -1,5 +1,5 @@
 -- What is written is read back, and nothing else is.
-use Rattle.std.proofs.Common.{get_or, ◌≡◌, ℕ, ◌+◌, ◌-◌, ◌*◌, ◌/◌, ◌%◌, ◌^◌, ◌<◌, ◌≤◌, inl, inr, List, [], ◌∷◌, ◌++◌, length, take, drop, refl, sym, ◌∙◌, ap, subst, arith, Bool, true, false, append_assoc, suc}
+use Rattle.std.proofs.Common.{◌≡◌, ℕ, ◌+◌, ◌-◌, ◌*◌, ◌/◌, ◌%◌, ◌^◌, ◌<◌, ◌≤◌, ◌⊎◌, inl, inr, map, List, [], ◌∷◌, ◌++◌, length, take, drop, refl, sym, ◌∙◌, ap, subst, arith, Bool, true, false, append_assoc, suc}
 use Rattle.std.specs.Prelude.{◌≢◌, ◌==◌, ◌&&◌, nat_lt, not, if◌then◌else◌, decimal, All}
 use Rattle.std.specs.List.{before_first, after_first, position_or_len}
 use Rattle.std.proofs.lemmas.Bool.{eqb-true, eqb-false, ltb-true, lt-ltb, le-ltb}
@@ -9,10 +9,21 @@ use Rattle.std.proofs.lemmas.List.{length-append}
 use Rattle.std.proofs.Math.Seq.{take-append_seam}
 use Rattle.zerotrie_lines.specs.Numbers.{AreDigits, number_behind, IsNumber}
 use Rattle.zerotrie_lines.specs.Tables.{Pair, Pairs}
-use Rattle.zerotrie_lines.specs.Escapes.{IsHexDigit, SpellsHex, SpellsEscape, SpellsFirst, Spells, hex_digit, is_plain, escape_of, escape, escaped}
-use Rattle.zerotrie_lines.specs.Lines.{is_tab, onto_line, lines_of, IsPairLine, tsv_line, tsv_lines}
-use Rattle.zerotrie_lines.specs.Reads.{ReadsLines}
-use Rattle.zerotrie_lines.specs.declared.reading.Format.TheVariants.{Tsv}
+use Rattle.zerotrie_lines.specs.Escapes.{IsHexDigit, SpellsHex, SpellsEscape, SpellsFirst, Spells, hex_digit, is_plain, escape_of, escape, spelled, has_mark, escaped}
+use Rattle.csv.specs.Reading.{is_bom, strip_bom}
+use Rattle.csv.specs.declared.parser.State.TheVariants as st
+use Rattle.zerotrie_lines.specs.Records.{Fields, IsPairRecord, ArePairRecords, config_of}
+use Rattle.zerotrie_lines.specs.declared.fault.BadLine.{BadLine}
+use Rattle.zerotrie_lines.specs.declared.fault.BadLine.TheVariants as bad
+use Rattle.zerotrie_lines.specs.declared.fault.ReadError.TheVariants.{Line}
+use Rattle.zerotrie_lines.proofs.RecordLemmas.{one_rows, rows_on}
+use Rattle.zerotrie_lines.specs.Lines.{is_tab, onto_line, lines_of, ended, ended_lines, text_lines, IsKeyText, IsPairLine, tsv_line, tsv_lines}
+use Rattle.zerotrie_lines.specs.Reads.{IsPairIn, ReadsLines, Reads, tabbed, IsLineFault, IsRecordFault, IsBadLine, Explains}
+use Rattle.zerotrie_lines.specs.declared.reading.Format.TheVariants.{Lines, Tsv, TsvRaw, Csv}
+use Rattle.zerotrie_lines.specs.declared.reading.Format.{Format}
+use Rattle.zerotrie_lines.specs.declared.reading.LineEnd.{LineEnd}
+use Rattle.zerotrie_lines.proofs.BytesLemmas.{High, high_append, digits_high, Lacks, lacks_low, lacks_append, place_behind, drop_behind}
+use Rattle.zerotrie_lines.proofs.EndLemmas.{ended_on, ended_high, no_mark}
 use Rattle.zerotrie_lines.proofs.EscapeLemmas.{one_rest}
 
 -- a fact of both arms of a test
@@ -69,10 +80,32 @@ first_back b rest =
     by_test (λ t. SpellsFirst (t ++ rest) b rest) (is_plain b) (b ∷ []) (escape_of b)
     (λ plain. itself b rest (plain_is b plain).1) (λ not. spells_of b rest (not_plain b not))
 
+-- bytes that are written spell themselves
+spelled_back : (key : List ℕ) → Spells (spelled key) key
+spelled_back [] = refl
+spelled_back (b ∷ key) = (spelled key, first_back b (spelled key), spelled_back key)
+
+-- so does a key that has a byte order mark in front
+marked_back : (key : List ℕ) → has_mark key ≡ true → Spells (escape_of 239 ++ spelled (drop 1 key)) key
+marked_back [] h = absurd (cc h)
+marked_back (a ∷ []) h = absurd (cc h)
+marked_back (a ∷ b ∷ []) h = absurd (cc h)
+marked_back (a ∷ b ∷ c ∷ rest) h =
+    let mark : a ≡ 239 = eqb-true a 239 (both_left (a == 239) (b == 187) (both_left (a == 239 && b == 187) (c == 191) h)) in
+    subst (λ d. Spells (escape_of 239 ++ spelled (b ∷ c ∷ rest)) (d ∷ b ∷ c ∷ rest)) (sym mark)
+    (spelled (b ∷ c ∷ rest), by_hex (spelled (b ∷ c ∷ rest)), spelled_back (b ∷ c ∷ rest))
+  where
+    both_left : (p q : Bool) → (p && q) ≡ true → p ≡ true
+    both_left true q h = refl
+    both_left false q h = absurd (cc h)
+
+    by_hex : (rest : List ℕ) → SpellsFirst (escape_of 239 ++ rest) 239 rest
+    by_hex rest = inr (refl, inr (inr (inr (inr (refl, (14, 15, inr (omega arith, omega arith, inl refl), inr (omega arith, omega arith, inl refl), refl, refl))))))
+
 -- a key that is written spells that key
 pub spells_back : (key : List ℕ) → Spells (escaped key) key
-spells_back [] = refl
-spells_back (b ∷ key) = (escaped key, first_back b (escaped key), spells_back key)
+unfolding escaped
+spells_back key = by_test (λ t. Spells t key) (has_mark key) _ _ (λ mark. marked_back key mark) (λ _. spelled_back key)
 
 -- the byte that a text spells first
 digit_of : ℕ → ℕ
@@ -139,16 +172,6 @@ one_key text (b ∷ key) (d ∷ other) h k =
     let rest : k.0 ≡ h.0 = one_rest text h.0 k.0 b d h.1 k.1 in
     rw (same, one_key h.0 key other h.2 (subst (λ r. Spells r other) rest k.2)) refl
 
--- bytes from 32 on, which are no line feeds and no tabs
-pub High : List ℕ → Type 0
-High [] = Unit {0}
-High (b ∷ bytes) = (32 ≤ b) × High bytes
-
-high_append : (front bytes : List ℕ) → High front → High bytes → High (front ++ bytes)
-unfolding High
-high_append [] bytes h k = k
-high_append (b ∷ front) bytes h k = (h.0, high_append front bytes h.1 k)
-
 high_hex : (n : ℕ) → n < 16 → 32 ≤ hex_digit n
 high_hex n most = by_test (λ d. 32 ≤ d) (nat_lt n 10) (48 + n) (87 + n) (λ _. omega arith) (λ _. omega arith)
 
@@ -161,69 +184,81 @@ high_of b few =
     (λ _. by_test High (b == 92) _ _ (λ _. (omega arith, (omega arith, tt)))
     (λ _. (omega arith, (omega arith, (high_hex (b / 16) (omega arith), (high_hex (b % 16) (omega arith), tt))))))))
 
+spelled_high : (key : List ℕ) → High (spelled key)
+unfolding High
+spelled_high [] = tt
+spelled_high (b ∷ key) =
+    high_append (escape b) (spelled key)
+    (by_test High (is_plain b) (b ∷ []) (escape_of b) (λ plain. ((plain_is b plain).0, tt)) (λ not. high_of b (not_plain b not))) (spelled_high key)
+
+mark_high : High (escape_of 239)
+unfolding High
+mark_high = (omega arith, (omega arith, (omega arith, (omega arith, tt))))
+
 escaped_high : (key : List ℕ) → High (escaped key)
-unfolding High
-escaped_high [] = tt
-escaped_high (b ∷ key) =
-    high_append (escape b) (escaped key)
-    (by_test High (is_plain b) (b ∷ []) (escape_of b) (λ plain. ((plain_is b plain).0, tt)) (λ not. high_of b (not_plain b not))) (escaped_high key)
+unfolding escaped
+escaped_high key = by_test High (has_mark key) _ _ (λ _. high_append (escape_of 239) (spelled (drop 1 key)) mark_high (spelled_high (drop 1 key))) (λ _. spelled_high key)
 
-pub digits_high : (digits : List ℕ) → AreDigits digits → High digits
-unfolding High
-digits_high [] h = tt
-digits_high (d ∷ digits) h = (omega (arith, h.0), digits_high digits h.2)
+-- The first byte that is written: itself, or a backslash.
+abbrev IsWritten : ℕ → List ℕ → Type 0
+IsWritten b text = ((c : ℕ) × (rest : List ℕ) × (text ≡ 92 ∷ c ∷ rest)) ⊎ (text ≡ b ∷ [])
 
--- bytes none of which is a
-pub Lacks : ℕ → List ℕ → Type 0
-Lacks a [] = Unit {0}
-Lacks a (b ∷ bytes) = ((b == a) ≡ false) × Lacks a bytes
+written : (b : ℕ) → IsWritten b (escape b)
+written b =
+    by_test (IsWritten b) (is_plain b) (b ∷ []) (escape_of b) (λ _. inr refl)
+    (λ _. by_test (IsWritten b) (b == 9) _ _ (λ _. inl (_, _, refl))
+    (λ _. by_test (IsWritten b) (b == 10) _ _ (λ _. inl (_, _, refl))
+    (λ _. by_test (IsWritten b) (b == 13) _ _ (λ _. inl (_, _, refl))
+    (λ _. by_test (IsWritten b) (b == 92) _ _ (λ _. inl (_, _, refl)) (λ _. inl (_, _, refl))))))
 
-pub lacks_low : (a : ℕ) (bytes : List ℕ) → a < 32 → High bytes → Lacks a bytes
-unfolding High Lacks
-lacks_low a [] low h = tt
-lacks_low a (b ∷ bytes) low h = (elim (eqb_tells b a) [ inl t ↦ absurd (omega (arith, t.1, h.0)) | inr f ↦ f.0 ], lacks_low a bytes low h.1)
+-- bytes that have no mark in front have none when they are written, with a tab after them
+and_false : (p : Bool) → (p && false) ≡ false
+and_false true = refl
+and_false false = refl
 
-pub lacks_append : (a : ℕ) (front bytes : List ℕ) → Lacks a front → Lacks a bytes → Lacks a (front ++ bytes)
-unfolding Lacks
-lacks_append a [] bytes h k = k
-lacks_append a (b ∷ front) bytes h k = (h.0, lacks_append a front bytes h.1 k)
+is_apart : (a b c : ℕ) → (b == 187) ≡ false → is_bom a b c ≡ false
+is_apart a b c other = rw (other, and_false (a == 239)) refl
 
-add_one : (n : ℕ) → 1 + n ≡ suc n
-add_one n = omega arith
+last_apart : (a b c : ℕ) → (c == 191) ≡ false → is_bom a b c ≡ false
+last_apart a b c other = rw other (and_false (a == 239 && b == 187))
 
--- bytes that are not a
-pub lacks_by : (a : ℕ) (xs : List ℕ) → ((k : ℕ) → k < length xs → get_or xs k 0 ≢ a) → Lacks a xs
-unfolding Lacks
-lacks_by a [] none = tt
-lacks_by a (x ∷ xs) none = (elim (eqb_tells x a) [ inl t ↦ absurd (none 0 (omega arith) t.1) | inr f ↦ f.0 ], lacks_by a xs (λ k l. none (suc k) (omega arith)))
+low_start : (a : ℕ) (rest : List ℕ) → (a == 239) ≡ false → has_mark (a ∷ rest) ≡ false
+low_start a [] other = refl
+low_start a (b ∷ []) other = refl
+low_start a (b ∷ c ∷ rest) other = rw other refl
 
--- which has no place among them
-pub no_place_of : (a : ℕ) (xs : List ℕ) → Lacks a xs → position_or_len (λ b. b == a) xs ≡ length xs
-unfolding Lacks
-no_place_of a [] lacks = refl
-no_place_of a (x ∷ xs) lacks = rw lacks.0 (ap (λ n. 1 + n) (no_place_of a xs lacks.1) ∙ add_one (length xs))
+third_low : (a b : ℕ) (c : ℕ) (rest : List ℕ) → (c == 191) ≡ false → has_mark (a ∷ b ∷ c ∷ rest) ≡ false
+third_low a b c rest other = last_apart a b c other
 
-pub lacks_next : (a b : ℕ) (bytes : List ℕ) → (b == a) ≡ false → Lacks a bytes → Lacks a (b ∷ bytes)
-unfolding Lacks
-lacks_next a b bytes other h = (other, h)
+second_low : (a b : ℕ) (rest : List ℕ) → (b == 187) ≡ false → has_mark (a ∷ b ∷ rest) ≡ false
+second_low a b [] other = refl
+second_low a b (c ∷ rest) other = is_apart a b c other
 
--- the first place of a byte
-pub place_behind : (a : ℕ) (front rest : List ℕ) → Lacks a front → position_or_len (λ b. b == a) (front ++ a ∷ rest) ≡ length front
-unfolding Lacks
-place_behind a [] rest lacks = elim (eqb_tells a a) [ inl t ↦ rw t.0 refl | inr f ↦ absurd (f.1 refl) ]
-place_behind a (b ∷ front) rest lacks = rw lacks.0 (ap (λ n. 1 + n) (place_behind a front rest lacks.1) ∙ add_one (length front))
+third_of : (a b : ℕ) (key more : List ℕ) → has_mark (a ∷ b ∷ key) ≡ false → has_mark (a ∷ b ∷ (spelled key ++ 9 ∷ more)) ≡ false
+third_of a b [] more none = third_low a b 9 more refl
+third_of a b (c ∷ key) more none = elim (written c) [
+  | inl slash ↦ rw (append_assoc (escape c) (spelled key) (9 ∷ more), slash.2) (third_low a b 92 (slash.0 ∷ slash.1 ++ (spelled key ++ 9 ∷ more)) refl)
+  | inr same ↦ rw (append_assoc (escape c) (spelled key) (9 ∷ more), same) none
+]
 
--- and the first place behind bytes that are not it
-pub place_on : (a : ℕ) (front rest : List ℕ) → Lacks a front → position_or_len (λ b. b == a) (front ++ rest) ≡ length front + position_or_len (λ b. b == a) rest
-unfolding Lacks
-place_on a [] rest lacks = omega arith
-place_on a (b ∷ front) rest lacks =
-    let more : 1 + (length front + position_or_len (λ b. b == a) rest) ≡ suc (length front) + position_or_len (λ b. b == a) rest = omega arith in
-    rw lacks.0 (ap (λ n. 1 + n) (place_on a front rest lacks.1) ∙ more)
+second_of : (a : ℕ) (key more : List ℕ) → has_mark (a ∷ key) ≡ false → has_mark (a ∷ (spelled key ++ 9 ∷ more)) ≡ false
+second_of a [] more none = second_low a 9 more refl
+second_of a (b ∷ key) more none = elim (written b) [
+  | inl slash ↦ rw (append_assoc (escape b) (spelled key) (9 ∷ more), slash.2) (second_low a 92 (slash.0 ∷ slash.1 ++ (spelled key ++ 9 ∷ more)) refl)
+  | inr same ↦ rw (append_assoc (escape b) (spelled key) (9 ∷ more), same) (third_of a b key more none)
+]
 
-pub drop_behind : (a : ℕ) (front rest : List ℕ) → drop (length front + 1) (front ++ a ∷ rest) ≡ rest
-drop_behind a [] rest = refl
-drop_behind a (b ∷ front) rest = let e : suc (length front) + 1 ≡ suc (length front + 1) = omega arith in rw e (drop_behind a front rest)
+first_of : (key more : List ℕ) → has_mark key ≡ false → has_mark (spelled key ++ 9 ∷ more) ≡ false
+first_of [] more none = low_start 9 more refl
+first_of (a ∷ key) more none = elim (written a) [
+  | inl slash ↦ rw (append_assoc (escape a) (spelled key) (9 ∷ more), slash.2) (low_start 92 (slash.0 ∷ slash.1 ++ (spelled key ++ 9 ∷ more)) refl)
+  | inr same ↦ rw (append_assoc (escape a) (spelled key) (9 ∷ more), same) (second_of a key more none)
+]
+
+-- a key that is written begins with no mark
+unmarked : (key more : List ℕ) → has_mark (escaped key ++ 9 ∷ more) ≡ false
+unfolding escaped
+unmarked key more = by_test (λ t. has_mark (t ++ 9 ∷ more) ≡ false) (has_mark key) _ _ (λ _. refl) (λ none. first_of key more none)
 
 -- a line and its line feed in front of an input
 line_first : (line input : List ℕ) → Lacks 10 line → lines_of (line ++ 10 ∷ input) ≡ line ∷ lines_of input
@@ -279,7 +314,7 @@ no_feed e h =
     lacks_append 10 (escaped e.0) (9 ∷ decimal e.1) (lacks_low 10 (escaped e.0) (omega arith) (escaped_high e.0))
     (refl, lacks_low 10 (decimal e.1) (omega arith) (digits_high (decimal e.1) (number_back e.1 h).all))
 
-pair_back : (e : Pair) → e.1 < 2 ^ 64 → IsPairLine (line_of e) e
+pair_back : (e : Pair) → e.1 < 2 ^ 64 → IsPairLine false (line_of e) e
 unfolding line_of
 pair_back e h =
     let place : position_or_len is_tab (line_of e) ≡ length (escaped e.0) = place_behind 9 (escaped e.0) (decimal e.1) (lacks_low 9 (escaped e.0) (omega arith) (escaped_high e.0)) in
@@ -290,25 +325,129 @@ pair_back e h =
       subst (λ t. IsNumber t e.1) (sym behind) (number_back e.1 h),
     )
 
--- the lines of pairs are these pairs
-pub lines_back : (pairs : Pairs) (n : ℕ) → All (λ e. e.1 < 2 ^ 64) pairs → ReadsLines Tsv n (lines_of (tsv_lines pairs)) pairs
-lines_back [] n below = tt
-lines_back (e ∷ pairs) n below =
+ended_line : (end : LineEnd) (e : Pair) → e.1 < 2 ^ 64 → ended end (line_of e) ≡ line_of e
+unfolding line_of
+ended_line end e h =
+    ended_on end (escaped e.0) 9 (decimal e.1) (λ is. absurd (omega (arith, is)))
+    ∙ ap (λ t. escaped e.0 ++ 9 ∷ t) (ended_high end (decimal e.1) (digits_high (decimal e.1) (number_back e.1 h).all))
+
+back_on : (end : LineEnd) (pairs : Pairs) (n : ℕ) → All (λ e. e.1 < 2 ^ 64) pairs → ReadsLines Tsv n (ended_lines end (tsv_lines pairs)) pairs
+back_on end [] n below = tt
+back_on end (e ∷ pairs) n below =
     let h : e.1 < 2 ^ 64 = below 0 e (omega arith) in
     let first : lines_of (tsv_lines (e ∷ pairs)) ≡ line_of e ∷ lines_of (tsv_lines pairs) = ap lines_of (line_is e (tsv_lines pairs)) ∙ line_first (line_of e) (tsv_lines pairs) (no_feed e h) in
-    subst (λ lines. ReadsLines Tsv n lines (e ∷ pairs)) (sym first) (pair_back e h, lines_back pairs (n + 1) (λ k d l. below (suc k) d (omega (arith, l))))
+    let lines : ended_lines end (tsv_lines (e ∷ pairs)) ≡ line_of e ∷ ended_lines end (tsv_lines pairs) = ap (map (ended end)) first ∙ ap (λ l. l ∷ ended_lines end (tsv_lines pairs)) (ended_line end e h) in
+    subst (λ lines. ReadsLines Tsv n lines (e ∷ pairs)) (sym lines) (pair_back e h, back_on end pairs (n + 1) (λ k d l. below (suc k) d (omega (arith, l))))
 
-one_pair : (line : List ℕ) (e other : Pair) → IsPairLine line e → IsPairLine line other → other ≡ e
-one_pair line e other h k =
-    let keys : other.0 ≡ e.0 = one_key (before_first is_tab line) e.0 other.0 h.1 k.1 in
+lines_unmarked : (pairs : Pairs) → has_mark (tsv_lines pairs) ≡ false
+lines_unmarked [] = refl
+lines_unmarked (e ∷ pairs) =
+    rw (append_assoc (escaped e.0) (9 ∷ (decimal e.1 ++ (10 ∷ []))) (tsv_lines pairs)) (unmarked e.0 (decimal e.1 ++ (10 ∷ []) ++ tsv_lines pairs))
+
+-- the lines of pairs are these pairs
+pub lines_back : (end : LineEnd) (pairs : Pairs) → All (λ e. e.1 < 2 ^ 64) pairs → Reads Tsv end (tsv_lines pairs) pairs
+lines_back end pairs below = subst (λ t. ReadsLines Tsv 1 (ended_lines end t) pairs) (sym (no_mark (tsv_lines pairs) (lines_unmarked pairs))) (back_on end pairs 1 below)
+
+one_key_text : (raw : Bool) (text key other : List ℕ) → IsKeyText raw text key → IsKeyText raw text other → other ≡ key
+one_key_text true text key other h k = k ∙ sym h
+one_key_text false text key other h k = one_key text key other h k
+
+one_pair : (raw : Bool) (line : List ℕ) (e other : Pair) → IsPairLine raw line e → IsPairLine raw line other → other ≡ e
+one_pair raw line e other h k =
+    let keys : other.0 ≡ e.0 = one_key_text raw (before_first is_tab line) e.0 other.0 h.1 k.1 in
     let values : other.1 ≡ e.1 = k.2.is ∙ sym h.2.is in
     ap (λ key. (key, other.1)) keys ∙ ap (λ v. (e.0, v)) values
 
+one_pair_in : (format : Format) (n : ℕ) (line : List ℕ) (e other : Pair) → IsPairIn format n line e → IsPairIn format n line other → other ≡ e
+one_pair_in Lines n line e other h k = k ∙ sym h
+one_pair_in Tsv n line e other h k = one_pair false line e other h k
+one_pair_in TsvRaw n line e other h k = one_pair true line e other h k
+one_pair_in Csv n line e other h k = absurd h
+
 -- lines are one list of pairs at most
-pub one_list : (lines : List (List ℕ)) (n : ℕ) (pairs others : Pairs) → ReadsLines Tsv n lines pairs → ReadsLines Tsv n lines others → others ≡ pairs
-one_list [] n [] [] h k = refl
-one_list [] n [] (o ∷ others) h k = absurd k
-one_list [] n (e ∷ pairs) others h k = absurd h
-one_list (line ∷ lines) n [] others h k = absurd h
-one_list (line ∷ lines) n (e ∷ pairs) [] h k = absurd k
-one_list (line ∷ lines) n (e ∷ pairs) (o ∷ others) h k = rw (one_pair line e o h.0 k.0, one_list lines (n + 1) pairs others h.1 k.1) refl
+pub one_list : (format : Format) (lines : List (List ℕ)) (n : ℕ) (pairs others : Pairs) → ReadsLines format n lines pairs → ReadsLines format n lines others → others ≡ pairs
+one_list format [] n [] [] h k = refl
+one_list format [] n [] (o ∷ others) h k = absurd k
+one_list format [] n (e ∷ pairs) others h k = absurd h
+one_list format (line ∷ lines) n [] others h k = absurd h
+one_list format (line ∷ lines) n (e ∷ pairs) [] h k = absurd k
+one_list format (line ∷ lines) n (e ∷ pairs) (o ∷ others) h k = rw (one_pair_in format n line e o h.0 k.0, one_list format lines (n + 1) pairs others h.1 k.1) refl
+
+one_record : (row : Fields) (e other : Pair) → IsPairRecord row e → IsPairRecord row other → other ≡ e
+one_record [] e other h k = absurd h
+one_record (key ∷ []) e other h k = absurd h
+one_record (key ∷ digits ∷ []) e other h k =
+    let keys : other.0 ≡ e.0 = k.0 ∙ sym h.0 in
+    let values : other.1 ≡ e.1 = k.1.is ∙ sym h.1.is in
+    ap (λ key. (key, other.1)) keys ∙ ap (λ v. (e.0, v)) values
+one_record (key ∷ digits ∷ field ∷ row) e other h k = absurd h
+
+one_records : (rows : List Fields) (pairs others : Pairs) → ArePairRecords rows pairs → ArePairRecords rows others → others ≡ pairs
+one_records [] [] [] h k = refl
+one_records [] [] (o ∷ others) h k = absurd k
+one_records [] (e ∷ pairs) others h k = absurd h
+one_records (row ∷ rows) [] others h k = absurd h
+one_records (row ∷ rows) (e ∷ pairs) [] h k = absurd k
+one_records (row ∷ rows) (e ∷ pairs) (o ∷ others) h k = rw (one_record row e o h.0 k.0, one_records rows pairs others h.1 k.1) refl
+
+-- an input is one list of pairs at most
+pub one_input : (format : Format) (end : LineEnd) (input : List ℕ) (pairs others : Pairs) → Reads format end input pairs → Reads format end input others → others ≡ pairs
+one_input Lines end input pairs others h k = one_list Lines (text_lines end input) 1 pairs others h k
+one_input Tsv end input pairs others h k = one_list Tsv (text_lines end input) 1 pairs others h k
+one_input TsvRaw end input pairs others h k = one_list TsvRaw (text_lines end input) 1 pairs others h k
+one_input Csv end input pairs others h k =
+    let rows = one_rows (config_of end) st.StartRecord (strip_bom input) h.0 k.0 h.1 k.1 in
+    one_records h.0 pairs others h.2 (subst (λ r. ArePairRecords r others) rows k.2)
+
+no_empty : (raw : Bool) (line : List ℕ) (e : Pair) → line ≡ [] → IsPairLine raw line e → ⊥
+no_empty raw line e none h = let t = rw none at h.0 in omega (arith, t)
+
+-- a line that is bad is no pair
+no_line : (raw : Bool) (line : List ℕ) (fault : BadLine) (e : Pair) → IsLineFault raw line fault → IsPairLine raw line e → ⊥
+no_line raw line bad.Empty e f h = no_empty raw line e f h
+no_line raw line bad.NoTab e f h = f.1 h.0
+no_line raw line bad.Escape e f h = f.1 e.0 h.1
+no_line raw line (bad.Value v) e f h = f.1 e.1 h.2
+no_line raw line bad.Fields e f h = f
+
+no_lines : (raw : Bool) (lines : List (List ℕ)) (n m : ℕ) (fault : BadLine) (pairs : Pairs) → IsBadLine raw n lines m fault → ReadsLines (tabbed raw) n lines pairs → ⊥
+no_lines raw [] n m fault pairs f h = f
+no_lines raw (line ∷ lines) n m fault [] f h = h
+no_lines raw (line ∷ lines) n m fault (e ∷ pairs) f h = elim f [
+  | inl here ↦ no_line raw line fault e here.1 (pair_of raw n line e h.0)
+  | inr later ↦ no_lines raw lines (n + 1) m fault pairs later.2 h.1
+]
+  where
+    pair_of : (raw : Bool) (n : ℕ) (line : List ℕ) (e : Pair) → IsPairIn (tabbed raw) n line e → IsPairLine raw line e
+    pair_of true n line e h = h
+    pair_of false n line e h = h
+
+no_record : (row : Fields) (fault : BadLine) (e : Pair) → IsRecordFault row fault → IsPairRecord row e → ⊥
+no_record row bad.Empty e f h = f
+no_record row bad.NoTab e f h = f
+no_record row bad.Escape e f h = f
+no_record row (bad.Value v) e f h = let p = rw f.2 at h in f.3 e.1 p.1
+no_record row bad.Fields e f h = f (two row h)
+  where
+    two : (row : Fields) → IsPairRecord row e → length row ≡ 2
+    two [] h = absurd h
+    two (key ∷ []) h = absurd h
+    two (key ∷ digits ∷ []) h = refl
+    two (key ∷ digits ∷ field ∷ row) h = absurd h
+
+no_records : (rows more : List Fields) (row : Fields) (fault : BadLine) (pairs : Pairs) → IsRecordFault row fault → ArePairRecords (rows ++ row ∷ more) pairs → ⊥
+no_records [] more row fault [] f h = h
+no_records [] more row fault (e ∷ pairs) f h = no_record row fault e f h.0
+no_records (r ∷ rows) more row fault [] f h = h
+no_records (r ∷ rows) more row fault (e ∷ pairs) f h = no_records rows more row fault pairs f h.1
+
+-- an input with a line or record that is bad is no pairs
+pub bad_unread : (format : Format) (end : LineEnd) (input : List ℕ) (m : ℕ) (fault : BadLine) (pairs : Pairs) → Explains format end input (Line m fault) → Reads format end input pairs → ⊥
+bad_unread Lines end input m fault pairs f h = absurd (cc f)
+bad_unread Tsv end input m fault pairs f h = no_lines false (text_lines end input) 1 m fault pairs f h
+bad_unread TsvRaw end input m fault pairs f h = no_lines true (text_lines end input) 1 m fault pairs f h
+bad_unread Csv end input m fault pairs f h =
+    let first = f.3 in
+    let all = h.1 in
+    let more = rows_on (config_of end) st.StartRecord (strip_bom input) (f.0 ++ f.1 ∷ []) h.0 first.0 first.1 first.2 all in
+    no_records f.0 more.0 f.1 fault pairs f.6 (subst (λ r. ArePairRecords r pairs) (more.1 ∙ append_assoc f.0 (f.1 ∷ []) more.0) h.2)

@@ -4,7 +4,7 @@ use Rattle.std.specs.Prelude.{◌≢◌, ◌==◌, ◌&&◌, IfNone, if◌then�
 use Rattle.std.specs.List.{list_all}
 use Rattle.std.proofs.lemmas.Bool.Decides.{eqb_tells}
 use Rattle.std.proofs.lemmas.List.{append-nil}
-use Rattle.zerotrie_lines.specs.Escapes.{IsHexDigit, SpellsHex, SpellsEscape, SpellsFirst, Spells, is_plain, escaped}
+use Rattle.zerotrie_lines.specs.Escapes.{IsHexDigit, SpellsHex, SpellsEscape, SpellsFirst, Spells, is_plain, spelled}
 
 -- what is left after the first byte that a text spells
 after_escape : ℕ → List ℕ → List ℕ
@@ -90,7 +90,7 @@ both true false h = absurd (cc)
 both false q h = absurd (cc)
 
 -- bytes that stand for themselves
-pub all_plain : (key : List ℕ) → list_all is_plain key ≡ true → escaped key ≡ key
+pub all_plain : (key : List ℕ) → list_all is_plain key ≡ true → spelled key ≡ key
 all_plain [] all = refl
 all_plain (b ∷ key) all =
     let parts = both (is_plain b) (list_all is_plain key) all in

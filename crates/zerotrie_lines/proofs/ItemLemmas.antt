@@ -1,5 +1,5 @@
 -- Lines whose keys stand in them as they are.
-use Rattle.std.proofs.Common.{◌≡◌, ℕ, ◌+◌, ◌-◌, ◌*◌, ◌^◌, ◌<◌, ◌≤◌, ◌⊎◌, inl, inr, zero, suc, List, [], ◌∷◌, ◌++◌, length, take, drop, get_or, refl, sym, ◌∙◌, ap, subst, arith, append_assoc}
+use Rattle.std.proofs.Common.{false, ◌≡◌, ℕ, ◌+◌, ◌-◌, ◌*◌, ◌^◌, ◌<◌, ◌≤◌, ◌⊎◌, inl, inr, zero, suc, List, [], ◌∷◌, ◌++◌, length, take, drop, get_or, refl, sym, ◌∙◌, ap, subst, arith, append_assoc}
 use Rattle.std.specs.Prelude.{◌≢◌, ◌==◌, true}
 use Rattle.std.specs.List.{Contains}
 use Rattle.memchr.specs.Find.{Nowhere, Passes, is_byte3}
@@ -15,11 +15,13 @@ use Rattle.zerotrie_lines.specs.Numbers.{AreDigits, number_behind, IsNumber}
 use Rattle.zerotrie_lines.specs.Escapes.{Spells}
 use Rattle.std.specs.Borrow.{Bor}
 use Rattle.zerotrie_lines.specs.Tables.{pairs_of}
-use Rattle.zerotrie_lines.specs.Lines.{is_feed, is_tab, HasTab, IsPairLine}
+use Rattle.zerotrie_lines.specs.Lines.{is_feed, is_tab, ended, IsEnd, HasTab, IsPairLine}
 use Rattle.zerotrie_lines.specs.Reads.{IsKeyOf, IsNotPlain}
 use Rattle.zerotrie_lines.proofs.EscapeLemmas.{spells_itself}
 use Rattle.zerotrie_lines.proofs.LineLemmas.{lacks_slash}
-use Rattle.zerotrie_lines.proofs.BackLemmas.{Lacks, lacks_by, lacks_append, lacks_low, lacks_next, digits_high, place_behind, place_on, no_place_of, drop_behind}
+use Rattle.zerotrie_lines.specs.declared.reading.LineEnd.{LineEnd}
+use Rattle.zerotrie_lines.proofs.BytesLemmas.{Lacks, lacks_by, lacks_append, lacks_low, lacks_next, digits_high, place_behind, place_on, no_place_of, drop_behind}
+use Rattle.zerotrie_lines.proofs.EndLemmas.{ended_on, ended_high, ended_lacks, return_off}
 
 -- The first count bytes are digits of the value.
 pub record DigitsTo (text : List ℕ) (count value : ℕ) : Type 0 where
@@ -82,13 +84,24 @@ first_is front tail rest lacks ends = elim ends [
       (take_all (length front) front (omega arith), sym (drop_of_length-le front (omega arith)))
 ]
 
--- a number, up to a line feed or the end
-pub number_line : (all rest : List ℕ) (count value : ℕ) → IsNumber (take count all) value → (drop count all ≡ 10 ∷ rest) ⊎ ((drop count all ≡ []) × (rest ≡ []))
-    → IsNumber (before_first is_feed all) value × (rest ≡ after_first is_feed all)
-number_line all rest count value number ends =
-    let lacks : Lacks 10 (take count all) = lacks_low 10 (take count all) (omega arith) (digits_high (take count all) number.all) in
-    let line = first_is (take count all) (drop count all) rest lacks ends in
-    subst (λ t. IsNumber (before_first is_feed t) value × (rest ≡ after_first is_feed t)) (take-append-drop count all) (rw line.0 number, line.1)
+-- a number, up to the end of a line
+pub number_line : (end : LineEnd) (all rest : List ℕ) (count value : ℕ) → IsNumber (take count all) value → IsEnd end (drop count all) rest
+    → IsNumber (ended end (before_first is_feed all)) value × (rest ≡ after_first is_feed all)
+number_line end all rest count value number ends =
+    let digits = take count all in
+    let lacks : Lacks 10 digits = lacks_low 10 digits (omega arith) (digits_high digits number.all) in
+    let Line : List ℕ → Type 0 = λ t. IsNumber (ended end (before_first is_feed t)) value × (rest ≡ after_first is_feed t) in
+    subst Line (take-append-drop count all) (elim ends [
+      | inl feed ↦ let line = first_is digits (drop count all) rest lacks (inl feed) in (rw (line.0, ended_high end digits (digits_high digits number.all)) number, line.1)
+      | inr more ↦ elim more [
+        | inl none ↦ let line = first_is digits (drop count all) rest lacks (inr none) in (rw (line.0, ended_high end digits (digits_high digits number.all)) number, line.1)
+        | inr both ↦
+            let joined : digits ++ drop count all ≡ (digits ++ 13 ∷ []) ++ 10 ∷ rest = ap (λ t. digits ++ t) both.1 ∙ sym (append_assoc digits (13 ∷ []) (10 ∷ rest)) in
+            let low : Lacks 10 (digits ++ 13 ∷ []) = lacks_append 10 digits (13 ∷ []) lacks (lacks_next 10 13 [] refl (lacks_low 10 [] (omega arith) (digits_high [] tt))) in
+            let line = first_is (digits ++ 13 ∷ []) (10 ∷ rest) rest low (inl refl) in
+            subst Line (sym joined) (rw (both.0, line.0, return_off digits) number, line.1)
+      ]
+    ])
 
 -- bytes without a line feed belong to the first line of what they stand before
 before_on : (a : ℕ) (front rest : List ℕ) → Lacks a front → before_first (λ b. b == a) (front ++ rest) ≡ front ++ before_first (λ b. b == a) rest
@@ -112,30 +125,31 @@ none_before all place within none k l =
     let few : k < place = omega (arith, l, length-take-le place all) in
     rw (get_or-take place all k 0 few) (bytes_apart (get_or all k 0) (none k (omega arith) few))
 
--- an input in parts: what stands before a byte, the byte, and what stands behind it
+-- an input in parts: what is before a byte, the byte, and what is behind it
 cut_at : (all : List ℕ) (place : ℕ) → place < length all → all ≡ take place all ++ get_or all place 0 ∷ drop (place + 1) all
 cut_at all place within = sym (take-append-drop place all) ∙ ap (λ t. take place all ++ t) (drop_more all place 0 within)
 
 -- an input whose first tab, backslash or line feed is a tab
-pub record StopsAtTab (all : List ℕ) (place : ℕ) : Type 0 where
-  pub line : before_first is_feed all ≡ take place all ++ 9 ∷ before_first is_feed (drop (place + 1) all)
+pub record StopsAtTab (end : LineEnd) (all : List ℕ) (place : ℕ) : Type 0 where
+  pub line : ended end (before_first is_feed all) ≡ take place all ++ 9 ∷ ended end (before_first is_feed (drop (place + 1) all))
   pub after : after_first is_feed all ≡ after_first is_feed (drop (place + 1) all)
-  pub key : before_first is_tab (before_first is_feed all) ≡ take place all
-  pub digits : after_first is_tab (before_first is_feed all) ≡ before_first is_feed (drop (place + 1) all)
-  pub tab : HasTab (before_first is_feed all)
+  pub key : before_first is_tab (ended end (before_first is_feed all)) ≡ take place all
+  pub digits : after_first is_tab (ended end (before_first is_feed all)) ≡ ended end (before_first is_feed (drop (place + 1) all))
+  pub tab : HasTab (ended end (before_first is_feed all))
   pub plain : (k : ℕ) → k < length (take place all) → get_or (take place all) k 0 ≢ 92
 
-pub at_tab : (all : List ℕ) (place : ℕ) → place < length all → Nowhere (Passes (is_byte3 9 92 10) all) 0 place → get_or all place 0 ≡ 9 → StopsAtTab all place
-at_tab all place within none tab =
+pub at_tab : (end : LineEnd) (all : List ℕ) (place : ℕ) → place < length all → Nowhere (Passes (is_byte3 9 92 10) all) 0 place → get_or all place 0 ≡ 9 → StopsAtTab end all place
+at_tab end all place within none tab =
     let key = take place all in
     let text = drop (place + 1) all in
-    let digits = before_first is_feed text in
+    let digits = ended end (before_first is_feed text) in
     let apart = none_before all place within none in
     let whole : all ≡ key ++ 9 ∷ text = cut_at all place within ∙ ap (λ b. key ++ b ∷ text) tab in
     let joined : all ≡ (key ++ 9 ∷ []) ++ text = whole ∙ sym (append_assoc key (9 ∷ []) text) in
     let feed : Lacks 10 (key ++ 9 ∷ []) = lacks_append 10 key (9 ∷ []) (lacks_by 10 key (λ k l. (apart k l).2)) (lacks_next 10 9 [] refl (lacks_low 10 [] (omega arith) (digits_high [] tt))) in
-    let line : before_first is_feed all ≡ key ++ 9 ∷ digits =
-    ap (λ t. before_first is_feed t) joined ∙ before_on 10 (key ++ 9 ∷ []) text feed ∙ append_assoc key (9 ∷ []) digits in
+    let line : ended end (before_first is_feed all) ≡ key ++ 9 ∷ digits =
+    ap (λ t. ended end (before_first is_feed t)) joined ∙ ap (ended end) (before_on 10 (key ++ 9 ∷ []) text feed ∙ append_assoc key (9 ∷ []) (before_first is_feed text))
+    ∙ ended_on end key 9 (before_first is_feed text) (λ is. absurd (omega (arith, is))) in
     let first : position_or_len is_tab (key ++ 9 ∷ digits) ≡ length key = place_behind 9 key digits (lacks_by 9 key (λ k l. (apart k l).0)) in
     let long = length-append key (9 ∷ digits) in record {
       line = line;
@@ -146,28 +160,30 @@ at_tab all place within none tab =
       plain = λ k l. (apart k l).1;
     }
 
--- the first line is a pair if a number stands behind the tab
-pub plain_pair : (all : List ℕ) (place value : ℕ) → StopsAtTab all place → IsNumber (before_first is_feed (drop (place + 1) all)) value → IsPairLine (before_first is_feed all) (take place all, value)
-plain_pair all place value stop number =
+-- the first line is a pair if a number is behind the tab
+pub plain_pair : (end : LineEnd) (all : List ℕ) (place value : ℕ) → StopsAtTab end all place → IsNumber (ended end (before_first is_feed (drop (place + 1) all))) value
+    → IsPairLine false (ended end (before_first is_feed all)) (take place all, value)
+plain_pair end all place value stop number =
     (stop.tab, subst (λ t. Spells t (take place all)) (sym stop.key) (spells_itself (take place all) stop.plain), subst (λ d. IsNumber d value) (sym stop.digits) number)
 
-pub plain_key : (all : List ℕ) (place : ℕ) → StopsAtTab all place → IsKeyOf (before_first is_feed all) (take place all)
-plain_key all place stop = (sym stop.key, lacks_slash (take place all) stop.plain)
+pub plain_key : (end : LineEnd) (all : List ℕ) (place : ℕ) → StopsAtTab end all place → IsKeyOf (ended end (before_first is_feed all)) (take place all)
+plain_key end all place stop = (sym stop.key, lacks_slash (take place all) stop.plain)
 
--- and none if none does
-pub no_number : (all : List ℕ) (place : ℕ) → StopsAtTab all place → ((value : ℕ) → IsNumber (before_first is_feed (drop (place + 1) all)) value → ⊥) → IsNotPlain (before_first is_feed all)
-no_number all place stop none = inr (λ e h. none e.1 (subst (λ d. IsNumber d e.1) stop.digits h.2))
+-- and none if none is
+pub no_number : (end : LineEnd) (all : List ℕ) (place : ℕ) → StopsAtTab end all place → ((value : ℕ) → IsNumber (ended end (before_first is_feed (drop (place + 1) all))) value → ⊥)
+    → IsNotPlain false (ended end (before_first is_feed all))
+no_number end all place stop none = inr (λ e h. none e.1 (subst (λ d. IsNumber d e.1) stop.digits h.2))
 
 -- a line without a tab is no pair
-no_tab : (line : List ℕ) → Lacks 9 line → IsNotPlain line
+no_tab : (line : List ℕ) → Lacks 9 line → IsNotPlain false line
 no_tab line lacks = inr (λ e h. let end : position_or_len is_tab line ≡ length line = no_place_of 9 line lacks in omega (arith, h.0, end))
 
 -- an input without a tab, a backslash and a line feed
-pub no_stop : (all : List ℕ) → Nowhere (Passes (is_byte3 9 92 10) all) 0 (length all) → IsNotPlain (before_first is_feed all)
-no_stop all none =
+pub no_stop : (end : LineEnd) (all : List ℕ) → Nowhere (Passes (is_byte3 9 92 10) all) 0 (length all) → IsNotPlain false (ended end (before_first is_feed all))
+no_stop end all none =
     let apart : (k : ℕ) → k < length all → (get_or all k 0 ≢ 9) × (get_or all k 0 ≢ 92) × (get_or all k 0 ≢ 10) = λ k l. bytes_apart (get_or all k 0) (none k (omega arith) l) in
     let line : before_first is_feed all ≡ all = ap (λ n. take n all) (no_place_of 10 all (lacks_by 10 all (λ k l. (apart k l).2))) ∙ take_all (length all) all (omega arith) in
-    subst IsNotPlain (sym line) (no_tab all (lacks_by 9 all (λ k l. (apart k l).0)))
+    subst (λ t. IsNotPlain false (ended end t)) (sym line) (no_tab (ended end all) (ended_lacks end 9 all (lacks_by 9 all (λ k l. (apart k l).0))))
 
 -- which of the three bytes it is
 one_of : (x : ℕ) → is_byte3 9 92 10 x ≡ true → x ≢ 9 → (x ≡ 92) ⊎ (x ≡ 10)
@@ -183,9 +199,9 @@ slash_is : Contains {X = ℕ} (92 ∷ []) 92
 slash_is = (0, omega arith, refl)
 
 -- an input whose first tab, backslash or line feed is no tab
-pub other_stop : (all : List ℕ) (place : ℕ) → place < length all → Nowhere (Passes (is_byte3 9 92 10) all) 0 place → Passes (is_byte3 9 92 10) all place → get_or all place 0 ≢ 9
-    → IsNotPlain (before_first is_feed all)
-other_stop all place within none here other =
+pub other_stop : (end : LineEnd) (all : List ℕ) (place : ℕ) → place < length all → Nowhere (Passes (is_byte3 9 92 10) all) 0 place → Passes (is_byte3 9 92 10) all place
+    → get_or all place 0 ≢ 9 → IsNotPlain false (ended end (before_first is_feed all))
+other_stop end all place within none here other =
     let key = take place all in
     let text = drop (place + 1) all in
     let apart = none_before all place within none in
@@ -193,17 +209,20 @@ other_stop all place within none here other =
     let feed : Lacks 10 key = lacks_by 10 key (λ k l. (apart k l).2) in
     let whole = cut_at all place within in elim (one_of (get_or all place 0) here other) [
       | inl slash ↦
+          let rest = ended end (before_first is_feed text) in
           let front : Lacks 10 (key ++ 92 ∷ []) = lacks_append 10 key (92 ∷ []) feed (lacks_next 10 92 [] refl (lacks_low 10 [] (omega arith) (digits_high [] tt))) in
           let tab : Lacks 9 (key ++ 92 ∷ []) = lacks_append 9 key (92 ∷ []) low (lacks_next 9 92 [] refl (lacks_low 9 [] (omega arith) (digits_high [] tt))) in
           let joined : all ≡ (key ++ 92 ∷ []) ++ text = whole ∙ ap (λ b. key ++ b ∷ text) slash ∙ sym (append_assoc key (92 ∷ []) text) in
-          let line : before_first is_feed all ≡ (key ++ 92 ∷ []) ++ before_first is_feed text = ap (λ t. before_first is_feed t) joined ∙ before_on 10 (key ++ 92 ∷ []) text front in
-          let first : before_first is_tab (before_first is_feed all) ≡ (key ++ 92 ∷ []) ++ before_first is_tab (before_first is_feed text) =
-          ap (λ t. before_first is_tab t) line ∙ before_on 9 (key ++ 92 ∷ []) (before_first is_feed text) tab in
-          inl (subst (λ t. Contains t 92) (sym first) (Contains-append_left (key ++ 92 ∷ []) (before_first is_tab (before_first is_feed text)) 92 (Contains-append_right key (92 ∷ []) 92 slash_is)))
+          let line : ended end (before_first is_feed all) ≡ (key ++ 92 ∷ []) ++ rest =
+          ap (λ t. ended end (before_first is_feed t)) joined ∙ ap (ended end) (before_on 10 (key ++ 92 ∷ []) text front ∙ append_assoc key (92 ∷ []) (before_first is_feed text))
+          ∙ ended_on end key 92 (before_first is_feed text) (λ is. absurd (omega (arith, is))) ∙ sym (append_assoc key (92 ∷ []) rest) in
+          let first : before_first is_tab (ended end (before_first is_feed all)) ≡ (key ++ 92 ∷ []) ++ before_first is_tab rest =
+          ap (λ t. before_first is_tab t) line ∙ before_on 9 (key ++ 92 ∷ []) rest tab in
+          inl (subst (λ t. Contains t 92) (sym first) (Contains-append_left (key ++ 92 ∷ []) (before_first is_tab rest) 92 (Contains-append_right key (92 ∷ []) 92 slash_is)))
       | inr is ↦
           let line : before_first is_feed all ≡ key =
           ap (λ t. before_first is_feed t) (whole ∙ ap (λ b. key ++ b ∷ text) is) ∙ ap (λ n. take n (key ++ 10 ∷ text)) (place_behind 10 key text feed) ∙ take-append_seam key (10 ∷ text) in
-          subst IsNotPlain (sym line) (no_tab key low)
+          subst (λ t. IsNotPlain false (ended end t)) (sym line) (no_tab (ended end key) (ended_lacks end 9 key low))
     ]
 
 -- an item that is added

@@ -6,6 +6,9 @@ mod EscapeLemmas
 mod ItemLemmas
 mod LineLemmas
 mod BlockLemmas
+mod BytesLemmas
+mod EndLemmas
+mod FaultLemmas
 mod ReadLemmas
 mod BackLemmas
 mod RecordLemmas

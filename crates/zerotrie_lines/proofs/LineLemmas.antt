@@ -64,7 +64,7 @@ is_nil (x ∷ xs) h = absurd (let n : length (x ∷ xs) ≡ 0 = eqb-true (length
 pub not_nil : (xs : List ℕ) → false ≡ (length xs == 0) → xs ≢ []
 not_nil xs h e = eqb-false (length xs) 0 (sym h) (ap length e)
 
--- what stands before the first place that passes, and what stands after it
+-- what is before the first place that passes, and what is after it
 pub front_is : (test : ℕ → Bool) (hay : List ℕ) (k : ℕ) → k < length hay → Nowhere (Passes test hay) 0 k → Passes test hay k → take k hay ≡ before_first test hay
 front_is test hay k l none here = ap (λ n. take n hay) (sym (place_is test hay k l none here))
 

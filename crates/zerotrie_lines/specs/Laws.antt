@@ -3,8 +3,12 @@ use Rattle.std.specs.Prelude.{◌≡◌, ◌↔◌, ℕ, ◌^◌, ◌<◌, List,
 use Rattle.zerotrie_lines.specs.Tables.{Pairs}
 use Rattle.zerotrie_lines.specs.Escapes.{Spells, escaped}
 use Rattle.zerotrie_lines.specs.Lines.{tsv_lines}
-use Rattle.zerotrie_lines.specs.Reads.{Reads}
+use Rattle.zerotrie_lines.specs.Reads.{Reads, Explains}
+use Rattle.zerotrie_lines.specs.declared.reading.Format.{Format}
 use Rattle.zerotrie_lines.specs.declared.reading.Format.TheVariants.{Tsv}
+use Rattle.zerotrie_lines.specs.declared.reading.LineEnd.{LineEnd}
+use Rattle.zerotrie_lines.specs.declared.fault.BadLine.{BadLine}
+use Rattle.zerotrie_lines.specs.declared.fault.ReadError.TheVariants.{Line}
 
 -- a key that is written spells that key, and no other
 abbrev pub EscapedReadsBack : Type 0
@@ -12,8 +16,13 @@ EscapedReadsBack = (key other : List ℕ) → Spells (escaped key) other ↔ (ot
 
 -- the lines of pairs whose values are below 2 ^ 64 are these pairs
 abbrev pub LinesReadBack : Type 0
-LinesReadBack = (pairs : Pairs) → All (λ e. e.1 < 2 ^ 64) pairs → Reads Tsv (tsv_lines pairs) pairs
+LinesReadBack = (end : LineEnd) (pairs : Pairs) → All (λ e. e.1 < 2 ^ 64) pairs → Reads Tsv end (tsv_lines pairs) pairs
 
--- an input of lines is one list of pairs at most
+-- an input is one list of pairs at most
 abbrev pub OneReading : Type 0
-OneReading = (input : List ℕ) (pairs others : Pairs) → Reads Tsv input pairs → Reads Tsv input others → others ≡ pairs
+OneReading = (format : Format) (end : LineEnd) (input : List ℕ) (pairs others : Pairs) → Reads format end input pairs → Reads format end input others → others ≡ pairs
+
+-- an input with a line or record that is no pair is no pairs
+abbrev pub BadIsUnread : Type 0
+BadIsUnread = (format : Format) (end : LineEnd) (input : List ℕ) (number : ℕ) (fault : BadLine) (pairs : Pairs)
+    → Explains format end input (Line number fault) → Reads format end input pairs → ⊥

@@ -2,6 +2,7 @@ pub mod Numbers
 pub mod Tables
 pub mod Escapes
 pub mod Lines
+pub mod Faults
 pub mod Blocks
 pub mod Records
 pub mod Reads

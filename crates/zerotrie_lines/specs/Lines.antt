@@ -1,9 +1,12 @@
 -- The lines of an input, and which of them are pairs.
-use Rattle.std.specs.Prelude.{ℕ, ◌<◌, ◌==◌, Bool, List, [], ◌∷◌, ◌++◌, length, decimal, if◌then◌else◌}
+use Rattle.std.specs.Prelude.{◌≡◌, ℕ, ◌⊎◌, ◌<◌, ◌==◌, Bool, true, false, List, [], ◌∷◌, ◌++◌, length, map, decimal, if◌then◌else◌}
 use Rattle.std.specs.List.{before_first, after_first, position_or_len}
+use Rattle.csv.specs.Reading.{strip_bom}
 use Rattle.zerotrie_lines.specs.Numbers.{IsNumber}
 use Rattle.zerotrie_lines.specs.Escapes.{Spells, escaped}
 use Rattle.zerotrie_lines.specs.Tables.{Pair, Pairs}
+use Rattle.zerotrie_lines.specs.declared.reading.LineEnd.{LineEnd}
+use Rattle.zerotrie_lines.specs.declared.reading.LineEnd.TheVariants.{CrLf, Lf}
 
 -- a line feed, and a tab
 abbrev pub is_feed : ℕ → Bool
@@ -22,13 +25,41 @@ abbrev pub lines_of : List ℕ → List (List ℕ)
 lines_of [] = []
 lines_of (b ∷ input) = if is_feed b then [] ∷ lines_of input else onto_line b (lines_of input)
 
+-- a line without a carriage return at its end
+abbrev pub without_return : List ℕ → List ℕ
+without_return [] = []
+without_return (b ∷ []) = if b == 13 then [] else b ∷ []
+without_return (b ∷ c ∷ line) = b ∷ without_return (c ∷ line)
+
+-- a line as it is read: a carriage return at its end belongs to what ends it, unless line feeds alone end lines
+abbrev pub ended : LineEnd → List ℕ → List ℕ
+ended CrLf line = without_return line
+ended Lf line = line
+
+-- the lines of a text, each without what ends it
+abbrev pub ended_lines : LineEnd → List ℕ → List (List ℕ)
+ended_lines end text = map (ended end) (lines_of text)
+
+-- The lines of an input: a byte order mark in front of it is left out, and so is what ends a line.
+abbrev pub text_lines : LineEnd → List ℕ → List (List ℕ)
+text_lines end input = ended_lines end (strip_bom input)
+
+-- the text begins with the end of a line, or is empty, and the rest follows
+abbrev pub IsEnd : LineEnd → List ℕ → List ℕ → Type 0
+IsEnd end text rest = (text ≡ 10 ∷ rest) ⊎ ((text ≡ []) × (rest ≡ [])) ⊎ ((end ≡ CrLf) × (text ≡ 13 ∷ 10 ∷ rest))
+
 -- a line has a tab
 abbrev pub HasTab : List ℕ → Type 0
 HasTab line = position_or_len is_tab line < length line
 
--- the line has a tab; what stands before the first spells the key, and what stands after it are the digits of the value
-abbrev pub IsPairLine : List ℕ → Pair → Type 0
-IsPairLine line e = HasTab line × Spells (before_first is_tab line) e.0 × IsNumber (after_first is_tab line) e.1
+-- a text is the key as it is, if keys are raw, and else spells it
+abbrev pub IsKeyText : Bool → List ℕ → List ℕ → Type 0
+IsKeyText true text key = key ≡ text
+IsKeyText false text key = Spells text key
+
+-- the line has a tab; what is before the first is the text of the key, and what is after it are the digits of the value
+abbrev pub IsPairLine : Bool → List ℕ → Pair → Type 0
+IsPairLine raw line e = HasTab line × IsKeyText raw (before_first is_tab line) e.0 × IsNumber (after_first is_tab line) e.1
 
 -- the line of a pair, with its line feed
 abbrev pub tsv_line : Pair → List ℕ

@@ -1,40 +1,87 @@
 //! Why an input is no pairs.
 
 ghost use Rattle.std.specs.Prelude.{◌≡◌};
-ghost use Rattle.zerotrie_lines.specs.declared.fault.ReadError.TheVariants.{OutOfMemory};
+ghost use Rattle.zerotrie_lines.specs.declared.fault.ReadError.{ReadError};
+ghost use Rattle.zerotrie_lines.specs.declared.fault.ReadError.TheVariants.{Line, OutOfMemory};
 
 use std::alloc::AllocError;
 use std::fmt;
 
-/// What is bad in a line.
+/// What is wrong with a field that is no value, which is a number below 2^64 of 1 to 20 decimal
+/// digits.
 #[derive(Clone, Copy, PartialEq, Eq, Debug)]
+pub enum ValueFault {
+    /// It is empty.
+    Empty,
+    /// It begins with a sign.
+    Sign,
+    /// It has a space or a tab.
+    Blank,
+    /// A carriage return is at its end.
+    CarriageReturn,
+    /// It begins with `0x`.
+    Hexadecimal,
+    /// It begins with a digit, and has a dot or an exponent.
+    Fraction,
+    /// It is more than 20 digits.
+    TooLong,
+    /// It is digits, and its number is 2^64 or more.
+    TooGreat,
+    /// It is none of these.
+    Other,
+}
+
+/// A field that is no value.
+#[derive(PartialEq, Eq, Debug, Drop)]
+pub struct BadValue {
+    /// What is wrong with it.
+    pub fault: ValueFault,
+    /// The first 40 bytes of it, or all if it has fewer.
+    pub front: Vec<u8>,
+}
+
+/// What is bad in a line.
+#[derive(PartialEq, Eq, Debug, Drop)]
 pub enum BadLine {
     /// It is empty.
     Empty,
     /// It has no tab, but something else.
     NoTab,
-    /// What stands before its tab spells no key.
+    /// What is before its tab spells no key.
     Escape,
-    /// Its value is no number below 2^64 of 1 to 20 decimal digits.
-    Number,
-    /// A carriage return stands after the value, as if a line ended in both.
-    CarriageReturn,
+    /// Its value is none.
+    Value(BadValue),
     /// The record has not two fields.
     Fields,
 }
 
-impl BadLine {
+impl ValueFault {
     /// What a message says of it.
     pub fn text(self) -> &'static str {
         match self {
+            ValueFault::Empty => "the value is missing",
+            ValueFault::Sign => "the value has a sign",
+            ValueFault::Blank => "a blank is in the value",
+            ValueFault::CarriageReturn => "a carriage return is at the end of the value",
+            ValueFault::Hexadecimal => "the value is hexadecimal, not decimal",
+            ValueFault::Fraction => "the value is a fraction or has an exponent",
+            ValueFault::TooLong => "the value has more than 20 digits",
+            ValueFault::TooGreat => "the value is 2^64 or more",
+            ValueFault::Other => "the value is no decimal number",
+        }
+    }
+}
+
+impl BadLine {
+    /// What a message says of it.
+    pub fn text(&self) -> &'static str {
+        match self {
             BadLine::Empty => "an empty line",
             BadLine::NoTab => "no tab between a key and its value",
-            BadLine::Escape =>
-                "a backslash that begins no escape; the escapes are \\t \\n \\r \\\\ \\xHH",
-            BadLine::Number => "the value is no decimal number below 2^64 of at most 20 digits",
-            BadLine::CarriageReturn => {
-                "a carriage return after the value; a line ends in a line feed alone"
+            BadLine::Escape => {
+                "a backslash that begins no escape; the escapes are \\t \\n \\r \\\\ \\xHH"
             }
+            BadLine::Value(bad) => bad.fault.text(),
             BadLine::Fields => "not two fields, a key and its value",
         }
     }
@@ -47,7 +94,7 @@ impl fmt::Display for BadLine {
 }
 
 /// Why an input is no pairs.
-#[derive(Clone, Copy, PartialEq, Eq, Debug)]
+#[derive(PartialEq, Eq, Debug, Drop)]
 pub enum ReadError {
     /// The line, or record of comma-separated fields, with this number is no pair, and why.
     Line(usize, BadLine),
@@ -61,4 +108,11 @@ impl From<AllocError> for ReadError {
     fn from(_: AllocError) -> Self {
         ReadError::OutOfMemory
     }
+}
+
+/// The error of the line with this number.
+pub(crate) fn at_line(number: usize, bad: BadLine) -> ReadError
+    ensures { result ≡ Line number bad }
+{
+    ReadError::Line(number, bad)
 }

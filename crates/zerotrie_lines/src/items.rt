@@ -1,18 +1,20 @@
 //! Pairs whose keys borrow the input.
 
-ghost use Rattle.std.specs.Prelude.{◌≡◌, ◌≤◌, ◌⊎◌, ◌∷◌, ℕ, [], length, take, IfOk, IfSome, IfNone};
+ghost use Rattle.std.specs.Prelude.{◌≡◌, ◌≤◌, ◌⊎◌, ◌∷◌, ℕ, [], length, take, true, false, Any, IfOk, IfSome, IfNone};
 ghost use Rattle.std.specs.List.{before_first, after_first};
 ghost use Rattle.memchr.specs.Find.{IsFirstByte, is_byte3};
 ghost use Rattle.zerotrie_lines.specs.Numbers.{IsNumber};
 ghost use Rattle.zerotrie_lines.specs.Tables.{pairs_of};
-ghost use Rattle.zerotrie_lines.specs.Lines.{is_feed, IsPairLine};
-ghost use Rattle.zerotrie_lines.specs.Reads.{Reads, IsKeyOf, IsNotPlain, HasNoItems};
-ghost use Rattle.zerotrie_lines.specs.declared.reading.Format.TheVariants.{Lines, Tsv};
+ghost use Rattle.zerotrie_lines.specs.Lines.{is_feed, ended, ended_lines, IsEnd, IsPairLine};
+ghost use Rattle.zerotrie_lines.specs.Reads.{ReadsLines, Reads, IsKeyOf, IsNotPlain, HasNoItems};
+ghost use Rattle.zerotrie_lines.specs.declared.reading.Format.TheVariants.{Lines, Tsv, TsvRaw};
+ghost use Rattle.zerotrie_lines.specs.declared.reading.LineEnd.TheVariants.{CrLf};
 
-use crate::lines::take_line;
+use crate::escapes::without_mark;
+use crate::lines::take_ended;
 use crate::numbers::parse_number;
-use crate::reading::Format;
-use memchr::memchr3;
+use crate::reading::{Format, LineEnd};
+use memchr::{memchr, memchr3};
 use std::alloc::{AllocError, Global};
 use std::simd::prelude::*;
 
@@ -50,6 +52,31 @@ fn after_feed(text: &[u8]) -> Option<&[u8]>
     }
 }
 
+/// Returns what follows the carriage return and line feed that a text begins with.
+#[inline(always)]
+fn after_return(text: &[u8]) -> Option<&[u8]>
+    ensures { IfSome result (λ rest. text.now ≡ 13 ∷ 10 ∷ rest.now) }
+{
+    match text {
+        [b'\r', b'\n', rest @ ..] => Some(rest),
+        _ => None,
+    }
+}
+
+/// Returns what follows the line end that a text begins with, or nothing if the text is empty.
+#[inline(always)]
+fn after_end(end: LineEnd, text: &[u8]) -> Option<&[u8]>
+    ensures { IfSome result (λ rest. IsEnd end text.now rest.now) }
+{
+    match after_feed(text) {
+        Some(rest) => Some(rest),
+        None => match end {
+            LineEnd::CrLf => after_return(text),
+            LineEnd::Lf => None,
+        },
+    }
+}
+
 /// Finds the first tab, backslash or line feed. It compares the first sixteen bytes at once, since
 /// most keys are shorter.
 #[inline(always)]
@@ -71,21 +98,21 @@ fn first_stop(text: &[u8]) -> Option<usize>
 
 /// Takes the first line off, which is a number. `None` if it is not; the rest is then unspecified.
 #[inline(always)]
-fn take_number(rest: &mut &[u8]) -> Option<usize>
-    ensures number { IfSome result (IsNumber (before_first is_feed rest.old.now)) }
+fn take_number(end: LineEnd, rest: &mut &[u8]) -> Option<usize>
+    ensures number { IfSome result (IsNumber (ended end (before_first is_feed rest.old.now))) }
     ensures rest { IfSome result (λ _. rest.new.now ≡ after_first is_feed rest.old.now) }
-    ensures none { IfNone result ((value : ℕ) → IsNumber (before_first is_feed rest.old.now) value
-        → ⊥) }
+    ensures none { IfNone result ((value : ℕ)
+        → IsNumber (ended end (before_first is_feed rest.old.now)) value → ⊥) }
 {
     let all = *rest;
     if let Some((value, count)) = leading_number(all) {
         let (_, tail) = all.split_at(count);
-        if let Some(after) = after_feed(tail) {
+        if let Some(after) = after_end(end, tail) {
             *rest = after;
             return Some(value);
         }
     }
-    parse_number(take_line(rest))
+    parse_number(take_ended(end, rest))
 }
 
 /// Takes the first line off, which is a key, a tab and a number, and returns the pair. The key
@@ -93,21 +120,23 @@ fn take_number(rest: &mut &[u8]) -> Option<usize>
 ///
 /// ```
 /// let mut rest = b"ad\t22\nadef\t33\n".as_slice();
-/// assert_eq!(rt; take_plain(&mut rest), Some((b"ad".as_slice(), 22)));
+/// assert_eq!(rt; take_plain(LineEnd::CrLf, &mut rest), Some((b"ad".as_slice(), 22)));
 /// assert_eq!(rt; rest, b"adef\t33\n".as_slice());
 /// ```
 ///
-/// It is `None` exactly if a backslash stands before the tab, or the line is no pair. The input is
+/// It is `None` exactly if a backslash is before the tab, or the line is no pair. The input is
 /// then left unchanged.
 #[inline(always)]
-pub fn take_plain<'a>(rest: &mut &'a [u8]) -> Option<(&'a [u8], usize)>
+pub fn take_plain<'a>(end: LineEnd, rest: &mut &'a [u8]) -> Option<(&'a [u8], usize)>
     ensures pair { IfSome result (λ e.
-        IsPairLine (before_first is_feed rest.old.now) (e.0.now, e.1)) }
+        IsPairLine false (ended end (before_first is_feed rest.old.now)) (e.0.now, e.1)) }
     ensures front { IfSome result (λ e. e.0.now ≡ take (length e.0.now) rest.old.now) }
-    ensures key { IfSome result (λ e. IsKeyOf (before_first is_feed rest.old.now) e.0.now) }
+    ensures key { IfSome result (λ e.
+        IsKeyOf (ended end (before_first is_feed rest.old.now)) e.0.now) }
     ensures rest { IfSome result (λ _. rest.new.now ≡ after_first is_feed rest.old.now) }
     ensures none { IfNone result (rest.new.now ≡ rest.old.now) }
-    ensures not_plain { IfNone result (IsNotPlain (before_first is_feed rest.old.now)) }
+    ensures not_plain { IfNone result
+        (IsNotPlain false (ended end (before_first is_feed rest.old.now))) }
 {
     let all = *rest;
     let place = first_stop(all)?;
@@ -116,21 +145,59 @@ pub fn take_plain<'a>(rest: &mut &'a [u8]) -> Option<(&'a [u8], usize)>
     }
     let (key, _) = all.split_at(place);
     let (_, mut after) = all.split_at(place + 1);
-    let value = take_number(&mut after)?;
+    let value = take_number(end, &mut after)?;
     *rest = after;
     Some((key, value))
 }
 
 /// Reads lines with a tab. `None` if a key has an escape, or a line is no pair.
-fn items_of_tsv(alloc: Global, input: &[u8]) -> Result<Option<Vec<(&[u8], usize)>>, AllocError>
+fn items_of_tsv(
+    alloc: Global,
+    end: LineEnd,
+    text: &[u8],
+) -> Result<Option<Vec<(&[u8], usize)>>, AllocError>
     ensures reads { IfOk result (λ items. IfSome items (λ items.
-        Reads Tsv input.now (pairs_of items.items))) }
-    ensures none { IfOk result (λ items. IfNone items (HasNoItems Tsv input.now)) }
+        ReadsLines Tsv 1 (ended_lines end text.now) (pairs_of items.items))) }
+    ensures none { IfOk result (λ items.
+        IfNone items (Any (IsNotPlain false) (ended_lines end text.now))) }
 {
     let mut items = Vec::new(alloc);
-    let mut rest = input;
+    let mut rest = text;
     while !rest.is_empty() {
-        match take_plain(&mut rest) {
+        match take_plain(end, &mut rest) {
+            Some(item) => items.push(item)?,
+            None => return Ok(None),
+        }
+    }
+    Ok(Some(items))
+}
+
+/// Splits a line into a key, a tab and a number. `None` if it is no pair.
+#[inline(always)]
+fn raw_pair(line: &[u8]) -> Option<(&[u8], usize)>
+    ensures pair { IfSome result (λ e. IsPairLine true line.now (e.0.now, e.1)) }
+    ensures none { IfNone result (IsNotPlain true line.now) }
+{
+    let place = memchr(b'\t', line)?;
+    let value = parse_number(&line[place + 1..])?;
+    Some((&line[..place], value))
+}
+
+/// Reads lines with a tab, whose keys are raw. `None` if a line is no pair.
+fn items_of_raw(
+    alloc: Global,
+    end: LineEnd,
+    text: &[u8],
+) -> Result<Option<Vec<(&[u8], usize)>>, AllocError>
+    ensures reads { IfOk result (λ items. IfSome items (λ items.
+        ReadsLines TsvRaw 1 (ended_lines end text.now) (pairs_of items.items))) }
+    ensures none { IfOk result (λ items.
+        IfNone items (Any (IsNotPlain true) (ended_lines end text.now))) }
+{
+    let mut items = Vec::new(alloc);
+    let mut rest = text;
+    while !rest.is_empty() {
+        match raw_pair(take_ended(end, &mut rest)) {
             Some(item) => items.push(item)?,
             None => return Ok(None),
         }
@@ -139,14 +206,19 @@ fn items_of_tsv(alloc: Global, input: &[u8]) -> Result<Option<Vec<(&[u8], usize)
 }
 
 /// Reads lines that are keys.
-fn items_of_keys(alloc: Global, input: &[u8]) -> Result<Vec<(&[u8], usize)>, AllocError>
-    ensures { IfOk result (λ items. Reads Lines input.now (pairs_of items.items)) }
+fn items_of_keys(
+    alloc: Global,
+    end: LineEnd,
+    text: &[u8],
+) -> Result<Vec<(&[u8], usize)>, AllocError>
+    ensures { IfOk result (λ items.
+        ReadsLines Lines 1 (ended_lines end text.now) (pairs_of items.items)) }
 {
     let mut items = Vec::new(alloc);
-    let mut rest = input;
+    let mut rest = text;
     let mut number: usize = 0;
     while !rest.is_empty() {
-        let line = take_line(&mut rest);
+        let line = take_ended(end, &mut rest);
         number += 1;
         items.push((line, number))?;
     }
@@ -158,7 +230,7 @@ fn items_of_keys(alloc: Global, input: &[u8]) -> Result<Vec<(&[u8], usize)>, All
 /// returns the error.
 ///
 /// ```
-/// let items = read_items(rt.alloc(), Format::Tsv, b"ad\t22\nadef\t33\n")?;
+/// let items = read_items(rt.alloc(), Format::Tsv, LineEnd::CrLf, b"ad\t22\nadef\t33\n")?;
 /// assert_eq!(rt; items.map(|items| items[1]), Some((b"adef".as_slice(), 33)));
 /// ```
 ///
@@ -166,15 +238,18 @@ fn items_of_keys(alloc: Global, input: &[u8]) -> Result<Vec<(&[u8], usize)>, All
 pub fn read_items(
     alloc: Global,
     format: Format,
+    end: LineEnd,
     input: &[u8],
 ) -> Result<Option<Vec<(&[u8], usize)>>, AllocError>
     ensures reads { IfOk result (λ items. IfSome items (λ items.
-        Reads format input.now (pairs_of items.items))) }
-    ensures none { IfOk result (λ items. IfNone items (HasNoItems format input.now)) }
+        Reads format end input.now (pairs_of items.items))) }
+    ensures none { IfOk result (λ items. IfNone items (HasNoItems format end input.now)) }
 {
+    let text = without_mark(input);
     match format {
-        Format::Tsv => items_of_tsv(alloc, input),
-        Format::Lines => Ok(Some(items_of_keys(alloc, input)?)),
+        Format::Tsv => items_of_tsv(alloc, end, text),
+        Format::TsvRaw => items_of_raw(alloc, end, text),
+        Format::Lines => Ok(Some(items_of_keys(alloc, end, text)?)),
         Format::Csv => Ok(None),
     }
 }

@@ -20,13 +20,14 @@ mod reading;
 mod records;
 mod strings;
 mod table;
+mod values;
 
 pub use blocks::whole_lines;
-pub use escapes::{hex_digit, write_escaped};
-pub use fault::{BadLine, ReadError};
+pub use escapes::{hex_digit, unescape, without_mark, write_escaped};
+pub use fault::{BadLine, BadValue, ReadError, ValueFault};
 pub use items::{read_items, take_plain};
 pub use lines::{read_lines, take_line, write_pair};
 pub use numbers::{parse_number, write_number};
-pub use reading::{Format, read_pairs};
+pub use reading::{Format, LineEnd, read_pairs};
 pub use strings::write_quoted;
 pub use table::Table;

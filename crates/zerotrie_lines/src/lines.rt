@@ -4,14 +4,16 @@ ghost use Rattle.std.specs.Prelude.{◌≡◌, ◌≢◌, ◌++◌, ◌∷◌, �
 ghost use Rattle.std.specs.List.{before_first, after_first};
 ghost use Rattle.zerotrie_lines.specs.Tables.{Pair};
 ghost use Rattle.zerotrie_lines.specs.Escapes.{Spells};
-ghost use Rattle.zerotrie_lines.specs.Lines.{is_feed, lines_of, HasTab, IsPairLine, tsv_line};
-ghost use Rattle.zerotrie_lines.specs.Reads.{IsLineFault, HasReturn, IsValueFault};
+ghost use Rattle.zerotrie_lines.specs.Lines.{is_feed, lines_of, without_return, ended, HasTab, IsKeyText, IsPairLine, tsv_line};
+ghost use Rattle.zerotrie_lines.specs.Reads.{IsLineFault};
 
 use crate::copies::push_bytes;
 use crate::escapes::{unescape, write_escaped};
 use crate::fault::BadLine;
 use crate::numbers::parse_number;
+use crate::reading::LineEnd;
 use crate::table::Table;
+use crate::values::bad_value;
 use itoa::Buffer;
 use memchr::memchr;
 use std::alloc::{AllocError, Global};
@@ -46,6 +48,30 @@ pub fn read_lines(alloc: Global, input: &[u8]) -> Result<Vec<&[u8]>, AllocError>
     Ok(lines)
 }
 
+/// Returns a line without the carriage return that may be at its end.
+#[inline(always)]
+fn without_return(line: &[u8]) -> &[u8]
+    ensures { result.now ≡ without_return line.now }
+{
+    let Some((last, front)) = line.split_last() else {
+        return line;
+    };
+    if *last == b'\r' { front } else { line }
+}
+
+/// Takes the first line off, and returns it without what ends it.
+#[inline(always)]
+pub(crate) fn take_ended<'a>(end: LineEnd, rest: &mut &'a [u8]) -> &'a [u8]
+    ensures line { result.now ≡ ended end (before_first is_feed rest.old.now) }
+    ensures rest { rest.new.now ≡ after_first is_feed rest.old.now }
+{
+    let line = take_line(rest);
+    match end {
+        LineEnd::CrLf => without_return(line),
+        LineEnd::Lf => line,
+    }
+}
+
 /// Adds the pair of a key, which may have escapes, and returns whether it is well-formed. `key` is
 /// a buffer for the decoded bytes.
 fn add_spelled(
@@ -64,7 +90,6 @@ fn add_spelled(
             Ok(true)
         }
         Some(_) => {
-            key.clear();
             if !unescape(text, key)? {
                 return Ok(false);
             }
@@ -74,32 +99,29 @@ fn add_spelled(
     }
 }
 
-/// Returns whether a text is a number with a carriage return after it.
-fn has_return(text: &[u8]) -> bool
-    ensures yes { IsTrue result → HasReturn text.now }
-    ensures no { result ≡ false → HasReturn text.now → ⊥ }
+/// Adds the pair of a key, which is raw or may have escapes, and returns whether it is well-formed.
+fn add_key(
+    raw: bool,
+    text: &[u8],
+    value: usize,
+    key: &mut Vec<u8>,
+    table: &mut Table,
+) -> Result<bool, AllocError>
+    ensures yes { IfOk result (λ yes. yes ≡ true
+        → (k : List ℕ) × IsKeyText raw text.now k × (table.new ≡ table.old ++ (k, value) ∷ [])) }
+    ensures no { IfOk result (λ yes. yes ≡ false → (k : List ℕ) → IsKeyText raw text.now k → ⊥) }
 {
-    let Some((b'\r', front)) = text.split_last() else {
-        return false;
-    };
-    parse_number(front).is_some()
-}
-
-/// Returns why a value is no number: a carriage return after one, or anything else.
-fn bad_number(digits: &[u8]) -> BadLine
-    ensures { IsValueFault digits.now result }
-{
-    if has_return(digits) {
-        BadLine::CarriageReturn
-    } else {
-        BadLine::Number
+    if raw {
+        table.push(text, value)?;
+        return Ok(true);
     }
+    add_spelled(text, value, key, table)
 }
 
 /// Returns why a line without a tab is no pair.
-fn without_tab(line: &[u8]) -> BadLine
+fn without_tab(raw: bool, line: &[u8]) -> BadLine
     requires { HasTab line.now → ⊥ }
-    ensures { IsLineFault line.now result }
+    ensures { IsLineFault raw line.now result }
 {
     if line.is_empty() {
         BadLine::Empty
@@ -109,23 +131,25 @@ fn without_tab(line: &[u8]) -> BadLine
 }
 
 /// Adds the pair that a line is, or returns why it is none. `key` is a buffer for a decoded key.
-pub fn read_pair(
+pub(crate) fn read_pair(
+    alloc: Global,
+    raw: bool,
     line: &[u8],
     key: &mut Vec<u8>,
     table: &mut Table,
 ) -> Result<Option<BadLine>, AllocError>
     ensures pair { IfOk result (λ bad. IfNone bad
-        ((e : Pair) × IsPairLine line.now e × (table.new ≡ table.old ++ e ∷ []))) }
-    ensures none { IfOk result (λ bad. IfSome bad (IsLineFault line.now)) }
+        ((e : Pair) × IsPairLine raw line.now e × (table.new ≡ table.old ++ e ∷ []))) }
+    ensures none { IfOk result (λ bad. IfSome bad (IsLineFault raw line.now)) }
 {
     let Some(place) = memchr(b'\t', line) else {
-        return Ok(Some(without_tab(line)));
+        return Ok(Some(without_tab(raw, line)));
     };
     let digits = &line[place + 1..];
     let Some(value) = parse_number(digits) else {
-        return Ok(Some(bad_number(digits)));
+        return Ok(Some(BadLine::Value(bad_value(alloc, digits)?)));
     };
-    if add_spelled(&line[..place], value, key, table)? {
+    if add_key(raw, &line[..place], value, key, table)? {
         Ok(None)
     } else {
         Ok(Some(BadLine::Escape))

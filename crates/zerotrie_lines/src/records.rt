@@ -1,43 +1,74 @@
 //! Records of comma-separated fields, and the pairs that they are.
 
-ghost use Rattle.std.specs.Prelude.{◌≡◌, ◌++◌, ◌∷◌, [], IfOk, IfErr, IfSome, IfNone};
+ghost use Rattle.std.specs.Prelude.{◌≡◌, ◌≢◌, length, ◌++◌, ◌∷◌, [], IfOk, IfErr, IfSome, IfNone};
 ghost use Rattle.csv.specs.Records.{fields_of};
 ghost use Rattle.zerotrie_lines.specs.Tables.{Pair};
-ghost use Rattle.zerotrie_lines.specs.Records.{IsPairRecord};
+ghost use Rattle.zerotrie_lines.specs.Records.{IsPairRecord, config_of};
 ghost use Rattle.zerotrie_lines.specs.Reads.{IsRecordFault, Reads, Explains};
 ghost use Rattle.zerotrie_lines.specs.declared.reading.Format.TheVariants.{Csv};
 
-use crate::fault::{BadLine, ReadError};
+use crate::fault::{BadLine, ReadError, at_line};
 use crate::numbers::parse_number;
+use crate::reading::LineEnd;
 use crate::table::Table;
-use csv::{ByteRecord, ReaderBuilder};
+use crate::values::bad_value;
+use csv::{ByteRecord, ReaderBuilder, Terminator};
 use std::alloc::{AllocError, Global};
 
-/// Adds the pair that a record is, or answers why it is none.
-fn read_record(row: &ByteRecord, table: &mut Table) -> Result<Option<BadLine>, AllocError>
+/// Returns the fields of a record of two.
+fn two_fields(row: &ByteRecord) -> Option<(&[u8], &[u8])>
+    ensures some { IfSome result (λ f. fields_of row.now ≡ f.0.now ∷ f.1.now ∷ []) }
+    ensures none { IfNone result (length (fields_of row.now) ≢ 2) }
+{
+    if row.len() != 2 {
+        return None;
+    }
+    let Some(key) = row.get(0) else {
+        return None;
+    };
+    let Some(digits) = row.get(1) else {
+        return None;
+    };
+    Some((key, digits))
+}
+
+/// Adds the pair that a record is, or returns why it is none.
+fn read_record(
+    alloc: Global,
+    row: &ByteRecord,
+    table: &mut Table,
+) -> Result<Option<BadLine>, AllocError>
     ensures pair { IfOk result (λ bad. IfNone bad
         ((e : Pair) × IsPairRecord (fields_of row.now) e × (table.new ≡ table.old ++ e ∷ []))) }
     ensures none { IfOk result (λ bad. IfSome bad (IsRecordFault (fields_of row.now))) }
 {
-    let (Some(key), Some(digits)) = (row.get(0), row.get(1)) else {
+    let Some((key, digits)) = two_fields(row) else {
         return Ok(Some(BadLine::Fields));
     };
-    if row.len() != 2 {
-        return Ok(Some(BadLine::Fields));
-    }
     let Some(value) = parse_number(digits) else {
-        return Ok(Some(BadLine::Number));
+        return Ok(Some(BadLine::Value(bad_value(alloc, digits)?)));
     };
     table.push(key, value)?;
     Ok(None)
 }
 
-/// The pairs that the records of an input are. No record is a header.
-pub fn read_records(alloc: Global, input: &[u8]) -> Result<Table, ReadError>
-    ensures ok { IfOk result (λ table. Reads Csv input.now table) }
-    ensures err { IfErr result (λ e. Explains Csv input.now e) }
+/// What ends a record.
+fn terminator_of(end: LineEnd) -> Terminator
+    ensures { result ≡ (config_of end).terminator }
+{
+    match end {
+        LineEnd::CrLf => Terminator::CRLF,
+        LineEnd::Lf => Terminator::Any(b'\n'),
+    }
+}
+
+/// Returns the pairs that the records of an input are. No record is a header.
+pub(crate) fn read_records(alloc: Global, end: LineEnd, input: &[u8]) -> Result<Table, ReadError>
+    ensures ok { IfOk result (λ table. Reads Csv end input.now table) }
+    ensures err { IfErr result (λ e. Explains Csv end input.now e) }
 {
     let mut reader = ReaderBuilder::new()
+        .terminator(terminator_of(end))
         .has_headers(false)
         .flexible(true)
         .from_reader(alloc, input);
@@ -50,8 +81,8 @@ pub fn read_records(alloc: Global, input: &[u8]) -> Result<Table, ReadError>
         if !found {
             return Ok(table);
         }
-        if let Some(bad) = read_record(&row, &mut table)? {
-            return Err(ReadError::Line(index + 1, bad));
+        if let Some(bad) = read_record(alloc, &row, &mut table)? {
+            return Err(at_line(index + 1, bad));
         }
     }
     Err(ReadError::OutOfMemory)

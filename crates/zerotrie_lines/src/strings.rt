@@ -6,7 +6,7 @@ ghost use Rattle.json.specs.Print.{escape_byte, quoted};
 use crate::escapes::hex_digit;
 use std::alloc::AllocError;
 
-/// Adds a byte of a text as it stands in a JSON string.
+/// Adds a byte of a text as it is in a JSON string.
 #[tactic(auto, unfolding(json::specs::Print::escape_byte))]
 fn write_text_byte(output: &mut Vec<u8>, byte: u8) -> Result<(), AllocError>
     ensures { OnOk result (output.new.items ≡ output.old.items ++ escape_byte byte) }

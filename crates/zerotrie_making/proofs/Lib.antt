@@ -1,3 +1,7 @@
 mod ShownLemmas
 mod MadeLemmas
 mod ListedLemmas
+mod KeptLemmas
+mod WholeLemmas
+mod UnreadLemmas
+mod RefusedLemmas

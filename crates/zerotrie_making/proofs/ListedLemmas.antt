@@ -13,8 +13,9 @@ use Rattle.zerotrie_core.specs.Kinds.{kind_of}
 use Rattle.zerotrie_queries.specs.Printed.{pair_lines}
 use Rattle.zerotrie_queries.specs.declared.print.Style.TheVariants as style
 use Rattle.zerotrie_core.specs.declared.TrieKind.{TrieKind}
-use Rattle.zerotrie_making.specs.Plans.{file_of}
+use Rattle.zerotrie_making.specs.Plans.{IsFormOf}
 use Rattle.zerotrie_making.specs.Sources.{IsPairs}
+use Rattle.zerotrie_making.specs.Kept.{kept}
 use Rattle.zerotrie_making.specs.Made.{IsFileOf}
 use Rattle.zerotrie_making.specs.Laws.{ListedIsMadeAgain}
 use Rattle.zerotrie_making.specs.declared.making.Plan.{Plan}
@@ -39,7 +40,7 @@ mutual
 
 -- the file of pairs that a trie lists
 of_listed : (kind : TrieKind) (bytes file : List ℕ) (m : Map) (plan : Plan) (means : Means (kind_of kind) bytes m)
-    → plan.kind ≡ Some kind → IsFileOf plan means.pairs file → (again : List ℕ) × (file ≡ file_of plan.bare (kind_of kind) again) × Means (kind_of kind) again m
+    → plan.kind ≡ Some kind → IsFileOf plan means.pairs file → (again : List ℕ) × IsFormOf plan.form (kind_of kind) again file × Means (kind_of kind) again m
 of_listed kind bytes file m plan means named made =
     let f = rw named at made.is in
     let b = rw named at made.build in
@@ -56,9 +57,9 @@ same_lines [] = refl
 same_lines (e ∷ pairs) = ap (λ t. tsv_line e ++ t) (same_lines pairs)
 
 pub made_again : LinesReadBack → OneReading → ListedIsMadeAgain
-made_again back one kind bytes file m plan means tsv named kept made =
+made_again back one kind bytes file m plan means end tsv named cased all made =
     let lines : pair_lines style.Tsv (beginning (kind_of kind) [] means.pairs) ≡ tsv_lines means.pairs = ap (pair_lines style.Tsv) (all_begin (kind_of kind) means.pairs) ∙ same_lines means.pairs in
-    let read : IsPairs (Text Tsv) (tsv_lines means.pairs) made.0 = subst (λ t. IsPairs (Text Tsv) t made.0) lines (subst (λ s. IsPairs s (pair_lines style.Tsv (beginning (kind_of kind) [] means.pairs)) made.0) tsv made.1) in
-    let same = one (tsv_lines means.pairs) means.pairs made.0 (back means.pairs (values_below means.lists)) read in
-    let plain : lowered plan.lower_case made.0 ≡ made.0 = rw kept refl in
+    let read : IsPairs (Text Tsv end) (tsv_lines means.pairs) made.0 = subst (λ t. IsPairs (Text Tsv end) t made.0) lines (subst (λ s. IsPairs s (pair_lines style.Tsv (beginning (kind_of kind) [] means.pairs)) made.0) tsv made.1) in
+    let same = one Tsv end (tsv_lines means.pairs) means.pairs made.0 (back end means.pairs (values_below means.lists)) read in
+    let plain : kept plan.duplicates (lowered plan.lower_case made.0) ≡ made.0 = rw (cased, all) refl in
     of_listed kind bytes file m plan means named (subst (λ pairs. IsFileOf plan pairs file) (plain ∙ same) made.2)

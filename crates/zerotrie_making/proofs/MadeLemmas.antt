@@ -4,8 +4,9 @@ use Rattle.zerotrie_core.specs.Maps.{Pairs}
 use Rattle.zerotrie_lines.specs.Tables.{lowered}
 use Rattle.zerotrie_lines.specs.Reads.{Reads}
 use Rattle.zerotrie_lines.specs.declared.reading.Format.{Format}
+use Rattle.zerotrie_lines.specs.declared.reading.LineEnd.{LineEnd}
 use Rattle.zerotrie_making.specs.Sources.{IsPairs, NoPairs}
-use Rattle.zerotrie_making.specs.Made.{OfInput, Explains, ExplainsOf}
+use Rattle.zerotrie_making.specs.Made.{OfInput, Explains, ExplainsKept}
 use Rattle.zerotrie_core.specs.declared.ZeroTrieBuildError.{ZeroTrieBuildError}
 use Rattle.zerotrie_making.specs.declared.making.Plan.{Plan}
 use Rattle.zerotrie_making.specs.declared.making.Source.{Source}
@@ -19,22 +20,22 @@ pub of_table : (plan : Plan) (input : List ℕ) (table : Pairs) (Fact : Pairs �
 of_table plan input table Fact h fact = (h.0, h.1, subst Fact h.2 fact)
 
 pub explains_of : (plan : Plan) (input : List ℕ) (table : Pairs) (e : MakeError) → (pairs : Pairs) × IsPairs plan.source input pairs × (table ≡ lowered plan.lower_case pairs)
-    → ExplainsOf plan table e → Explains plan input e
+    → ExplainsKept plan table e → Explains plan input e
 explains_of plan input table (Line number bad) h fact = absurd fact
 explains_of plan input table (NotJson line column) h fact = absurd fact
 explains_of plan input table NotPairs h fact = absurd fact
 explains_of plan input table (NotPair bad) h fact = absurd fact
-explains_of plan input table (Keys s) h fact = of_table plan input table (λ pairs. ExplainsOf plan pairs (Keys s)) h fact
-explains_of plan input table (Refused e) h fact = of_table plan input table (λ pairs. ExplainsOf plan pairs (Refused e)) h fact
+explains_of plan input table (Keys s) h fact = of_table plan input table (λ pairs. ExplainsKept plan pairs (Keys s)) h fact
+explains_of plan input table (Refused e) h fact = of_table plan input table (λ pairs. ExplainsKept plan pairs (Refused e)) h fact
 explains_of plan input table OutOfMemory h fact = tt
 
 -- an input that is no pairs shows no keys
 no_keys : (source : Source) (input : List ℕ) (s : Shown) → NoPairs source input (Keys s) → ⊥
-no_keys (Text format) input s h = h
+no_keys (Text format end) input s h = h
 no_keys Json input s h = h
 
 no_refusal : (source : Source) (input : List ℕ) (e : ZeroTrieBuildError) → NoPairs source input (Refused e) → ⊥
-no_refusal (Text format) input e h = h
+no_refusal (Text format end) input e h = h
 no_refusal Json input e h = h
 
 -- an input that is no pairs makes no file
@@ -48,6 +49,6 @@ no_pairs plan input (Refused e) h = absurd (no_refusal plan.source input e h)
 no_pairs plan input OutOfMemory h = tt
 
 -- pairs of a text whose keys are as they are
-pub as_they_are : (source : Source) (format : Format) (lower_case : Bool) (input : List ℕ) (pairs : Pairs) → source ≡ Text format → false ≡ lower_case
-    → Reads format input pairs → (given : Pairs) × IsPairs source input given × (pairs ≡ lowered lower_case given)
-as_they_are source format lower_case input pairs text kept reads = (pairs, rw text reads, rw (sym kept) refl)
+pub as_they_are : (source : Source) (format : Format) (end : LineEnd) (lower_case : Bool) (input : List ℕ) (pairs : Pairs) → source ≡ Text format end → false ≡ lower_case
+    → Reads format end input pairs → (given : Pairs) × IsPairs source input given × (pairs ≡ lowered lower_case given)
+as_they_are source format end lower_case input pairs text kept reads = (pairs, rw text reads, rw (sym kept) refl)

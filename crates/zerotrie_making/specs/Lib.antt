@@ -1,4 +1,6 @@
 pub mod Plans
+pub mod Json
+pub mod Kept
 pub mod Sources
 pub mod Unread
 pub mod Made

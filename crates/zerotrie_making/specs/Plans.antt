@@ -1,5 +1,5 @@
 -- What a plan asks for.
-use Rattle.std.specs.Prelude.{Bool, true, false, if◌then◌else◌, ℕ, List, Option, Some, None}
+use Rattle.std.specs.Prelude.{◌≡◌, Bool, true, false, ℕ, List, Option, Some, None}
 use Rattle.zerotrie_core.specs.Kind.{Kind}
 use Rattle.zerotrie_core.specs.Maps.{Pairs}
 use Rattle.zerotrie_core.specs.Routes.{Route, ascending, any_order}
@@ -7,6 +7,9 @@ use Rattle.zerotrie_any.specs.Auto.{auto_kind}
 use Rattle.zerotrie_any.specs.Tagged.{tagged}
 use Rattle.zerotrie_core.specs.Kinds.{kind_of}
 use Rattle.zerotrie_core.specs.declared.TrieKind.{TrieKind}
+use Rattle.zerotrie_sealed.specs.Sealed.{IsSealed}
+use Rattle.zerotrie_making.specs.declared.making.FileForm.{FileForm}
+use Rattle.zerotrie_making.specs.declared.making.FileForm.TheVariants as form
 
 -- the route of a build, whose keys are to ascend or may have any order
 abbrev pub route_of : Bool → Route
@@ -18,6 +21,8 @@ abbrev pub kind_for : Option TrieKind → Pairs → Kind
 kind_for None pairs = auto_kind pairs
 kind_for (Some kind) pairs = kind_of kind
 
--- the file of a trie with these bytes, bare or after the number of the kind
-abbrev pub file_of : Bool → Kind → List ℕ → List ℕ
-file_of bare kind bytes = if bare then bytes else tagged kind bytes
+-- the file of a trie with these bytes: sealed, behind the number of the kind, or bare
+abbrev pub IsFormOf : FileForm → Kind → List ℕ → List ℕ → Type 0
+IsFormOf form.Sealed kind bytes file = IsSealed kind bytes file
+IsFormOf form.Tagged kind bytes file = file ≡ tagged kind bytes
+IsFormOf form.Bare kind bytes file = file ≡ bytes

@@ -1,11 +1,15 @@
 //! Makes the bytes of a trie file from the bytes of a file of pairs.
 #![tactic(auto)]
 
-mod json;
+mod duplicates;
+mod json_pairs;
+mod json_places;
+pub mod laws;
 mod making;
 mod reading;
 mod refused;
 mod tries;
 
-pub use making::{Plan, Source, listed_is_made_again, make};
+pub use duplicates::Duplicates;
+pub use making::{FileForm, Plan, Source, make};
 pub use refused::{MakeError, NoPair, NumberedKey, Shown};

@@ -1,30 +1,43 @@
 //! Makes the file of a trie from the bytes of an input.
 
-ghost use Rattle.std.specs.Prelude.{◌≡◌, IfOk, IfErr};
+ghost use Rattle.std.specs.Prelude.{◌≡◌, length, IfOk, IfErr, IfSome};
+ghost use Rattle.zerotrie_any.specs.Tagged.{tagged};
 ghost use Rattle.zerotrie_core.specs.Kinds.{kind_of};
 ghost use Rattle.zerotrie_core.specs.Items.{pairs_of};
 ghost use Rattle.zerotrie_core.specs.Routes.{IsRefusal};
-ghost use Rattle.zerotrie_making.specs.Plans.{route_of, file_of};
-ghost use Rattle.zerotrie_making.specs.Laws.{ListedIsMadeAgain};
-ghost use Rattle.zerotrie_making.specs.Made.{IsFile, IsFileOf, IsRefusedAs, Explains, ExplainsOf};
+ghost use Rattle.zerotrie_making.specs.Plans.{route_of, IsFormOf};
+ghost use Rattle.zerotrie_making.specs.Made.{IsFile, IsFileOf, IsFileOfKept, IsRefusedAs, Explains, ExplainsOf, ExplainsKept};
+ghost use Rattle.zerotrie_making.specs.Kept.{number_in, number_of};
 
+use crate::duplicates::{Duplicates, Kept, firsts, lasts};
 use crate::reading::{items_in, read_input};
 use crate::refused::{MakeError, show};
 use crate::tries::{bytes_of, kind_for, why_refused};
 use std::alloc::{AllocError, Global};
 use zerotrie_core::{TrieKind, ZeroTrieBuildError};
-use zerotrie_lines::Format;
-use zerotrie_lines::laws::{lines_read_back, one_reading};
+use zerotrie_lines::{Format, LineEnd};
+use zerotrie_sealed::seal;
 
 /// How an input is pairs.
 #[derive(Clone, Copy, PartialEq, Eq, Debug)]
 pub enum Source {
-    /// Lines or records, one a pair.
-    Text(Format),
+    /// Lines or records, one a pair, with what ends them.
+    Text(Format, LineEnd),
     /// A JSON value: an object from keys to numbers, or a list of pairs. A pair is a list of two, a
-    /// key and a number, and a key is a text or a list of bytes. The pairs of an object are in the
-    /// order of their keys; if it has a name twice, the last number counts.
+    /// key and a number, and a key is a text or a list of bytes. The pairs are in the order of the
+    /// text; a name that comes twice is a key that two pairs have.
     Json,
+}
+
+/// What a file has beside the bytes of its trie.
+#[derive(Clone, Copy, PartialEq, Eq, Debug)]
+pub enum FileForm {
+    /// A header in front, with the kind, the length and a checksum.
+    Sealed,
+    /// The number of the kind in front.
+    Tagged,
+    /// Nothing.
+    Bare,
 }
 
 /// How a trie file is made.
@@ -39,53 +52,106 @@ pub struct Plan {
     pub sorted: bool,
     /// Whether the ASCII letters of the keys become lower case first.
     pub lower_case: bool,
-    /// Whether the file is the bytes of the trie alone. Else it begins with the number of the kind.
-    pub bare: bool,
+    /// What is done with pairs that have one key.
+    pub duplicates: Duplicates,
+    /// What the file has beside the bytes of the trie.
+    pub form: FileForm,
 }
 
-/// Returns the file of a trie with these bytes. Unless it is bare, it begins with the number of the
-/// kind.
-pub(crate) fn file_of(bare: bool, kind: TrieKind, bytes: Vec<u8>) -> Result<Vec<u8>, AllocError>
-    ensures { IfOk result (λ file. file.items ≡ file_of bare (kind_of kind) bytes.items) }
+/// Returns these bytes with the number of the kind in front.
+fn tag(kind: TrieKind, bytes: Vec<u8>) -> Result<Vec<u8>, AllocError>
+    ensures { IfOk result (λ file. file.items ≡ tagged (kind_of kind) bytes.items) }
 {
     let mut file = bytes;
-    if !bare {
-        // a doubled capacity would be a second copy of the trie
-        file.reserve_exact(1)?;
-        file.insert(0, kind.tag())?;
-    }
+    // a doubled capacity would be a second copy of the trie
+    file.reserve_exact(1)?;
+    file.insert(0, kind.tag())?;
     Ok(file)
 }
 
-/// Explains an error of a build: with the keys that show it, if any do.
+/// Returns the file of a trie with these bytes, in this form.
+pub(crate) fn file_of(
+    alloc: Global,
+    form: FileForm,
+    kind: TrieKind,
+    bytes: Vec<u8>,
+) -> Result<Vec<u8>, AllocError>
+    ensures { IfOk result (λ file. IsFormOf form (kind_of kind) bytes.items file.items) }
+{
+    match form {
+        FileForm::Sealed => seal(alloc, kind, bytes.as_slice()),
+        FileForm::Tagged => tag(kind, bytes),
+        FileForm::Bare => Ok(bytes),
+    }
+}
+
+/// Explains an error of a build: with the keys that show it, if any do. Without numbers each pair has
+/// that of its place.
 fn explain(
     alloc: Global,
     kind: TrieKind,
     sorted: bool,
+    numbers: Option<&[usize]>,
     items: &[(&[u8], usize)],
     error: ZeroTrieBuildError,
 ) -> Result<MakeError, AllocError>
-    requires { IsRefusal (route_of sorted) (kind_of kind) (pairs_of items.now) error }
-    ensures { IfOk result (IsRefusedAs (route_of sorted) (kind_of kind) (pairs_of items.now)) }
+    requires refusal { IsRefusal (route_of sorted) (kind_of kind) (pairs_of items.now) error }
+    requires numbers { IfSome numbers (λ numbers. length numbers.now ≡ length items.now) }
+    ensures { IfOk result (IsRefusedAs (route_of sorted) (kind_of kind) (number_of numbers.entry)
+        (pairs_of items.now)) }
 {
     if error == ZeroTrieBuildError::OutOfMemory {
         return Ok(MakeError::OutOfMemory);
     }
     match why_refused(alloc, kind, sorted, items)? {
-        Some(refusal) => Ok(MakeError::Keys(show(alloc, items, refusal)?)),
+        Some(refusal) => Ok(MakeError::Keys(show(alloc, numbers, items, refusal)?)),
         None => Ok(MakeError::Refused(error)),
     }
 }
 
 /// Makes the file of the trie of the pairs.
-fn make_of(alloc: Global, plan: Plan, items: &[(&[u8], usize)]) -> Result<Vec<u8>, MakeError>
+fn make_of(
+    alloc: Global,
+    plan: Plan,
+    numbers: Option<&[usize]>,
+    items: &[(&[u8], usize)],
+) -> Result<Vec<u8>, MakeError>
+    requires { IfSome numbers (λ numbers. length numbers.now ≡ length items.now) }
     ensures ok { IfOk result (λ file. IsFileOf plan (pairs_of items.now) file.items) }
-    ensures err { IfErr result (λ e. ExplainsOf plan (pairs_of items.now) e) }
+    ensures err { IfErr result (λ e. ExplainsOf plan (number_of numbers.entry) (pairs_of items.now) e) }
 {
     let kind = kind_for(plan.kind, items);
     match bytes_of(alloc, kind, plan.sorted, items) {
-        Ok(bytes) => Ok(file_of(plan.bare, kind, bytes)?),
-        Err(error) => Err(explain(alloc, kind, plan.sorted, items, error)?),
+        Ok(bytes) => Ok(file_of(alloc, plan.form, kind, bytes)?),
+        Err(error) => Err(explain(alloc, kind, plan.sorted, numbers, items, error)?),
+    }
+}
+
+/// Makes the file of the trie of pairs that are kept.
+fn make_kept(alloc: Global, plan: Plan, kept: Kept<'_>) -> Result<Vec<u8>, MakeError>
+    requires { length kept.numbers.items ≡ length kept.items.items }
+    ensures ok { IfOk result (λ file.
+        IsFileOf plan (pairs_of kept.entry.items.items) file.items) }
+    ensures err { IfErr result (λ e. ExplainsOf plan (number_in kept.entry.numbers.items)
+        (pairs_of kept.entry.items.items) e) }
+{
+    make_of(
+        alloc,
+        plan,
+        Some(kept.numbers.as_slice()),
+        kept.items.as_slice(),
+    )
+}
+
+/// Makes the file of the trie of those of the pairs that are kept.
+fn make_from(alloc: Global, plan: Plan, items: &[(&[u8], usize)]) -> Result<Vec<u8>, MakeError>
+    ensures ok { IfOk result (λ file. IsFileOfKept plan (pairs_of items.now) file.items) }
+    ensures err { IfErr result (λ e. ExplainsKept plan (pairs_of items.now) e) }
+{
+    match plan.duplicates {
+        Duplicates::Refuse => make_of(alloc, plan, None, items),
+        Duplicates::First => make_kept(alloc, plan, firsts(alloc, items)?),
+        Duplicates::Last => make_kept(alloc, plan, lasts(alloc, items)?),
     }
 }
 
@@ -93,11 +159,12 @@ fn make_of(alloc: Global, plan: Plan, items: &[(&[u8], usize)]) -> Result<Vec<u8
 ///
 /// ```
 /// let plan = Plan {
-///     source: Source::Text(Format::Tsv),
+///     source: Source::Text(Format::Tsv, LineEnd::CrLf),
 ///     kind: None,
 ///     sorted: false,
 ///     lower_case: false,
-///     bare: false,
+///     duplicates: Duplicates::Refuse,
+///     form: FileForm::Tagged,
 /// };
 /// let input = Vec::from_slice(rt.alloc(), b"adef\t33\nad\t22\n")?;
 /// let file = make(rt.alloc(), plan, input).map_err(|_| "refused")?;
@@ -112,19 +179,10 @@ pub fn make(alloc: Global, plan: Plan, input: Vec<u8>) -> Result<Vec<u8>, MakeEr
     ensures err { IfErr result (λ e. Explains plan input.items e) }
 {
     if let Some(items) = items_in(alloc, plan.source, plan.lower_case, input.as_slice())? {
-        return make_of(alloc, plan, items.as_slice());
+        return make_from(alloc, plan, items.as_slice());
     }
     let table = read_input(alloc, plan.source, plan.lower_case, input.as_slice())?;
     drop(input);
     let items = table.items(alloc)?;
-    make_of(alloc, plan, items.as_slice())
-}
-
-/// A law: the lines in which a trie is listed, made into a file of the same kind, mean the same
-/// map. It is an empty function: a call of it brings its clause into the caller's proof.
-pub fn listed_is_made_again()
-    ensures { ListedIsMadeAgain }
-{
-    lines_read_back();
-    one_reading();
+    make_from(alloc, plan, items.as_slice())
 }

@@ -4,7 +4,7 @@ ghost use Rattle.std.specs.Prelude.{◌≡◌, IfOk, IfErr, IfSome};
 ghost use Rattle.zerotrie_lines.specs.Tables.{Pairs, pairs_of, lowered};
 ghost use Rattle.zerotrie_making.specs.Sources.{IsPairs, NoPairs};
 
-use crate::json::read_json;
+use crate::json_pairs::read_json;
 use crate::making::Source;
 use crate::refused::MakeError;
 use std::alloc::{AllocError, Global};
@@ -22,7 +22,7 @@ pub(crate) fn items_in(
         × IsPairs source input.now pairs × (pairs_of items.items ≡ lowered lower_case pairs))) }
 {
     match source {
-        Source::Text(format) if !lower_case => read_items(alloc, format, input),
+        Source::Text(format, end) if !lower_case => read_items(alloc, format, end, input),
         _ => Ok(None),
     }
 }
@@ -40,7 +40,7 @@ pub(crate) fn read_input(
     ensures err { IfErr result (λ e. NoPairs source input.now e) }
 {
     match source {
-        Source::Text(format) => Ok(read_pairs(alloc, format, lower_case, input)?),
+        Source::Text(format, end) => Ok(read_pairs(alloc, format, end, lower_case, input)?),
         Source::Json => {
             let mut table = read_json(alloc, input)?;
             if lower_case {

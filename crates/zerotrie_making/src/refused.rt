@@ -1,8 +1,9 @@
 //! Why no trie file is made.
 
-ghost use Rattle.std.specs.Prelude.{◌≡◌, ◌<◌, length, IfOk};
+ghost use Rattle.std.specs.Prelude.{◌≡◌, ◌<◌, ◌^◌, length, IfOk, IfSome};
 ghost use Rattle.zerotrie_core.specs.Items.{pairs_of};
-ghost use Rattle.zerotrie_making.specs.Made.{IsKeyAt, Tells, IsOfReading};
+ghost use Rattle.zerotrie_making.specs.Made.{IsKeyAt, Shows, IsOfReading};
+ghost use Rattle.zerotrie_making.specs.Kept.{number_of};
 ghost use Rattle.zerotrie_making.specs.declared.refused.MakeError.TheVariants.{OutOfMemory};
 
 use std::alloc::{AllocError, Global};
@@ -10,8 +11,8 @@ use zerotrie_build::Refusal;
 use zerotrie_core::ZeroTrieBuildError;
 use zerotrie_lines::{BadLine, ReadError};
 
-/// A key, and the number of its pair, from 1 on: that of its line or record. The pairs of a JSON
-/// object are numbered in the order of their keys.
+/// A key, and the number of its pair, from 1 on: that of its line, its record, or its member or item
+/// of a JSON value.
 #[derive(PartialEq, Eq, Debug, Drop)]
 pub struct NumberedKey {
     pub number: usize,
@@ -40,11 +41,25 @@ pub enum NoPair {
 }
 
 /// Why no trie file is made.
+///
+/// ```
+/// let plan = Plan {
+///     source: Source::Json,
+///     kind: None,
+///     sorted: false,
+///     lower_case: false,
+///     duplicates: Duplicates::Refuse,
+///     bare: false,
+/// };
+/// let input = Vec::from_slice(rt.alloc(), b"[\n  [\"ad\", 22}\n]\n")?;
+/// assert_eq!(rt; make(rt.alloc(), plan, input), Err(MakeError::NotJson(2, 12)));
+/// ```
 #[derive(PartialEq, Eq, Debug, Drop)]
 pub enum MakeError {
     /// The line, or record of comma-separated fields, with this number is no pair, and why.
     Line(usize, BadLine),
-    /// The input is no JSON value. It was read up to this line and column.
+    /// The input is no JSON value. At this line and column, both from 1 on, a token begins that can't
+    /// be there, or the text ends too early. Columns are characters.
     NotJson(usize, usize),
     /// The input is a JSON value, and neither an object nor a list.
     NotPairs,
@@ -77,18 +92,32 @@ impl From<ReadError> for MakeError {
     }
 }
 
+/// Returns the number of the pair at this index: one that is given, or else one more.
+fn number_of(numbers: Option<&[usize]>, index: usize) -> usize
+    requires within { index < 2 ^ 60 }
+    requires numbers { IfSome numbers (λ numbers. index < length numbers.now) }
+    ensures { result ≡ number_of numbers.entry index }
+{
+    match numbers {
+        Some(numbers) => numbers[index],
+        None => index + 1,
+    }
+}
+
 /// Returns the key of an item, with the number of its pair.
 fn numbered(
     alloc: Global,
+    numbers: Option<&[usize]>,
     items: &[(&[u8], usize)],
     index: usize,
 ) -> Result<NumberedKey, AllocError>
-    requires { index < length items.now }
-    ensures { IfOk result (IsKeyAt (pairs_of items.now) index) }
+    requires within { index < length items.now }
+    requires numbers { IfSome numbers (λ numbers. length numbers.now ≡ length items.now) }
+    ensures { IfOk result (IsKeyAt (number_of numbers.entry) (pairs_of items.now) index) }
 {
     let (key, _) = items[index];
     Ok(NumberedKey {
-        number: index + 1,
+        number: number_of(numbers, index),
         key: Vec::from_slice(alloc, key)?,
     })
 }
@@ -96,16 +125,18 @@ fn numbered(
 /// Returns the keys that show a refusal, with the numbers of their pairs.
 pub(crate) fn show(
     alloc: Global,
+    numbers: Option<&[usize]>,
     items: &[(&[u8], usize)],
     refusal: Refusal,
 ) -> Result<Shown, AllocError>
     requires first { refusal.first < length items.now }
     requires second { refusal.second < length items.now }
-    ensures { IfOk result (Tells (pairs_of items.now) refusal) }
+    requires numbers { IfSome numbers (λ numbers. length numbers.now ≡ length items.now) }
+    ensures { IfOk result (Shows (number_of numbers.entry) (pairs_of items.now) refusal) }
 {
     Ok(Shown {
-        first: numbered(alloc, items, refusal.first)?,
-        second: numbered(alloc, items, refusal.second)?,
+        first: numbered(alloc, numbers, items, refusal.first)?,
+        second: numbered(alloc, numbers, items, refusal.second)?,
         error: refusal.error,
     })
 }

@@ -1,57 +1,55 @@
 -- What is printed of texts that are answered part by part.
 use Rattle.std.proofs.Common.{◌≡◌, ℕ, ◌+◌, ◌<◌, List, [], ◌∷◌, ◌++◌, map, take, drop, length, get_or, Option, Bool, true, refl, sym, ◌∙◌, ap, subst, arith, append_assoc, append-nil}
-use Rattle.std.specs.Prelude.{◌&&◌, is_some}
+use Rattle.std.specs.Prelude.{◌&&◌, nat_lt, is_some}
 use Rattle.std.specs.Borrow.{Bor}
 use Rattle.std.specs.Io.KnownBytes.{Appends}
-use Rattle.std.proofs.lemmas.List.{map-append, take_more, take-append-drop, get_or-map, length-map}
+use Rattle.std.proofs.lemmas.List.{take_more, take-append-drop, get_or-map, length-map}
 use Rattle.std.proofs.KnownBytes.{Appends-nil, Appends-trans}
 use Rattle.zerotrie_core.specs.Kind.{Kind}
 use Rattle.zerotrie_core.specs.Maps.{Map, look}
-use Rattle.zerotrie_core.specs.Texts.{Means}
-use Rattle.zerotrie_core.specs.Prefixes.{IsLongestPrefix}
+use Rattle.zerotrie_core.specs.Prefixes.{common_prefixes}
+use Rattle.zerotrie_core.specs.Borders.{at_borders}
 use Rattle.zerotrie_core.specs.Kinds.{kind_of}
 use Rattle.zerotrie_core.specs.declared.TrieKind.{TrieKind}
 use Rattle.zerotrie_queries.specs.declared.lookups.Asked.{Asked}
-use Rattle.zerotrie_queries.specs.declared.lookups.Asked.TheVariants.{Value, Longest}
-use Rattle.zerotrie_queries.specs.Printed.{value_lines, found_line, found_lines, are_found}
-use Rattle.zerotrie_queries.specs.Answers.{AreLongest, LongestLines, Belongs, AreAnswered, AreAnsweredInPart}
+use Rattle.zerotrie_queries.specs.declared.lookups.Asked.TheVariants.{Value, Pair, Longest, LongestAt, Prefixes}
+use Rattle.zerotrie_queries.specs.Printed.{value_line, value_lines, key_line, found_line, fronts_text, are_found}
+use Rattle.zerotrie_queries.specs.Answers.{IsAnswer, IsAdded, Belongs, AreAnswered, AreAnsweredInPart}
 use Rattle.zerotrie_files.specs.Parts.{AppendsPart}
-use Rattle.zerotrie_queries.proofs.FoundLemmas.{answers_of, answers_are, nows, no_key, and_true, value_lines-append, are_found-append}
+use Rattle.zerotrie_queries.proofs.FoundLemmas.{answers_of, answers_are, nows, no_key, and_true, and_assoc}
 use Rattle.zerotrie_queries.proofs.PartLemmas.{part_all, part_front, part_behind}
-use Rattle.zerotrie_queries.proofs.LongestLemmas.{each_found}
+use Rattle.zerotrie_queries.proofs.LongestLemmas.{found_in}
 
-longest-append : (kind : Kind) (m : Map) (a b : List (List ℕ)) (r s : List (Option (ℕ × ℕ))) → AreLongest kind m a r → AreLongest kind m b s → AreLongest kind m (a ++ b) (r ++ s)
-longest-append kind m [] b [] s h k = k
-longest-append kind m [] b (x ∷ r) s h k = absurd h
-longest-append kind m (text ∷ a) b [] s h k = absurd h
-longest-append kind m (text ∷ a) b (x ∷ r) s h k = (h.0, longest-append kind m a b r s h.1 k)
+-- one text
+one_asked : (of : Asked) (kind : Kind) (m : Map) (text printed : List ℕ) (found : Bool) → IsAnswer of kind m text printed found → Belongs of kind m (text ∷ []) printed found
+one_asked of kind m text printed found h = (printed, [], found, true, h, (refl, refl), sym (append-nil printed), sym (and_true found))
 
-found_lines-append : (kind : Kind) (m : Map) (a b : List (List ℕ)) (r s : List (Option (ℕ × ℕ))) → AreLongest kind m a r → found_lines (a ++ b) (r ++ s) ≡ found_lines a r ++ found_lines b s
-found_lines-append kind m [] b [] s h = refl
-found_lines-append kind m [] b (x ∷ r) s h = absurd h
-found_lines-append kind m (text ∷ a) b [] s h = absurd h
-found_lines-append kind m (text ∷ a) b (x ∷ r) s h = ap (λ l. found_line text x ++ l) (found_lines-append kind m a b r s h.1) ∙ sym (append_assoc (found_line text x) (found_lines a r) (found_lines b s))
-
-nothing_asked : (of : Asked) (kind : Kind) (m : Map) → Belongs of kind m [] [] true
-nothing_asked Value kind m = (refl, refl)
-nothing_asked Longest kind m = record { found = []; longest = tt; is = refl; tells = refl }
-
+-- texts, and then more of them
 more_asked : (of : Asked) (kind : Kind) (m : Map) (a b : List (List ℕ)) (p q : List ℕ) (all found : Bool) → Belongs of kind m a p all → Belongs of kind m b q found → Belongs of kind m (a ++ b) (p ++ q) (all && found)
-more_asked Value kind m a b p q all found h k =
-    let f = look kind m in (
-      ap (λ l. l ++ q) h.0 ∙ ap (λ l. value_lines (map f a) ++ l) k.0 ∙ sym (ap value_lines (map-append f a b) ∙ value_lines-append (map f a) (map f b)),
-      ap (λ t. t && found) h.1 ∙ ap (λ t. are_found (map f a) && t) k.1 ∙ sym (ap are_found (map-append f a b) ∙ are_found-append (map f a) (map f b)),
-    )
-more_asked Longest kind m a b p q all found h k = record {
-  found = h.found ++ k.found;
-  longest = longest-append kind m a b h.found k.found h.longest k.longest;
-  is = ap (λ l. l ++ q) h.is ∙ ap (λ l. found_lines a h.found ++ l) k.is ∙ sym (found_lines-append kind m a b h.found k.found h.longest);
-  tells = ap (λ t. t && found) h.tells ∙ ap (λ t. are_found h.found && t) k.tells ∙ sym (are_found-append h.found k.found);
-}
+more_asked of kind m [] b p q all found h k =
+    subst (λ x. Belongs of kind m b (x ++ q) (all && found)) (sym h.0) (subst (λ t. Belongs of kind m b q (t && found)) (sym h.1) k)
+more_asked of kind m (text ∷ a) b p q all found h k = (
+  h.0,
+  h.1 ++ q,
+  h.2,
+  h.3 && found,
+  h.4,
+  more_asked of kind m a b h.1 q h.3 found h.5 k,
+  ap (λ l. l ++ q) h.6 ∙ append_assoc h.0 h.1 q,
+  ap (λ t. t && found) h.7 ∙ and_assoc h.2 h.3 found,
+)
+
+-- values of keys
+values_asked : (kind : Kind) (m : Map) (keys : List (List ℕ)) → Belongs Value kind m keys (value_lines (map (look kind m) keys)) (are_found (map (look kind m) keys))
+values_asked kind m [] = (refl, refl)
+values_asked kind m (key ∷ keys) =
+    let rest = map (look kind m) keys in
+    let value = look kind m key in
+    (value_line value, value_lines rest, is_some value, are_found rest, (refl, refl), values_asked kind m keys, refl, refl)
 
 -- no texts
 pub none_answered : (of : Asked) (kind : TrieKind) (bytes : List ℕ) (a : Option (List ℕ)) → AreAnswered of kind bytes [] a a true
-none_answered of kind bytes a m means = ([], nothing_asked of (kind_of kind) m, Appends-nil a)
+none_answered of kind bytes a m means = ([], (refl, refl), Appends-nil a)
 
 -- texts, and then more of them
 pub more_answered : (of : Asked) (kind : TrieKind) (bytes : List ℕ) (texts more : List (List ℕ)) (a b c : Option (List ℕ)) (all found : Bool) → AreAnswered of kind bytes texts a b all
@@ -66,20 +64,35 @@ next_text texts i within =
     let long = length-map texts (λ t. t.now) in
     take_more (nows texts) i [] (omega arith) ∙ ap (λ t. take i (nows texts) ++ t ∷ []) (get_or-map (λ t. t.now) texts i no_key [] within)
 
--- one text, whose longest key was found
-pub one_found : (kind : TrieKind) (bytes text line : List ℕ) (r : Option (ℕ × ℕ)) (b c : Option (List ℕ)) → ((m : Map) → Means (kind_of kind) bytes m → IsLongestPrefix (kind_of kind) m text r)
-    → line ≡ found_line text r → Appends b c line → AreAnswered Longest kind bytes (text ∷ []) b c (is_some r)
-one_found kind bytes text line r b c longest is appends m means = (
-  found_line text r,
-  record { found = r ∷ []; longest = (longest m means, tt); is = sym (append-nil (found_line text r)); tells = sym (and_true (is_some r)) },
-  subst (Appends b c) is appends,
-)
+-- one text, whose answer was added to an empty buffer
+pub one_answered : (of : Asked) (kind : TrieKind) (bytes text old line : List ℕ) (found : Bool) (b c : Option (List ℕ)) → old ≡ [] → IsAdded of kind bytes text old line found → Appends b c line
+    → AreAnswered of kind bytes (text ∷ []) b c found
+one_answered of kind bytes text old line found b c none added appends m means =
+    let x = added m means in
+    let is : line ≡ x.0 = x.2 ∙ ap (λ l. l ++ x.0) none in
+    (x.0, one_asked of (kind_of kind) m text x.0 found x.1, subst (Appends b c) is appends)
 
--- any texts have an answer
+-- any text has an answer
+abbrev HasAnswer : Asked → Kind → Map → List ℕ → Type 0
+HasAnswer of kind m text = (printed : List ℕ) × (found : Bool) × IsAnswer of kind m text printed found
+
+one_has : (of : Asked) (kind : Kind) (m : Map) (text : List ℕ) → HasAnswer of kind m text
+one_has Value kind m text = (value_line (look kind m text), is_some (look kind m text), (refl, refl))
+one_has Pair kind m text = (key_line text (look kind m text), is_some (look kind m text), (refl, refl))
+one_has Longest kind m text =
+    let r = found_in (look kind m) text (length text) in (found_line text r.0, is_some r.0, (r.0, r.1, refl, refl))
+one_has (LongestAt d) kind m text =
+    let r = found_in (at_borders (d ∷ []) text (look kind m)) text (length text) in (found_line text r.0, is_some r.0, (r.0, r.1, refl, refl))
+one_has Prefixes kind m text =
+    let keys = common_prefixes kind m text in (fronts_text text keys, nat_lt 0 (length keys), (refl, refl))
+
+-- so it is with each of some texts
 answered : (of : Asked) (kind : Kind) (m : Map) (texts : List (List ℕ)) → (printed : List ℕ) × (all : Bool) × Belongs of kind m texts printed all
-answered Value kind m texts = (value_lines (map (look kind m) texts), are_found (map (look kind m) texts), (refl, refl))
-answered Longest kind m texts =
-    let each = each_found kind m texts in (found_lines texts each.0, are_found each.0, record { found = each.0; longest = each.1; is = refl; tells = refl })
+answered of kind m [] = ([], true, (refl, refl))
+answered of kind m (text ∷ texts) =
+    let one = one_has of kind m text in
+    let rest = answered of kind m texts in
+    (one.0 ++ rest.0, one.1 && rest.1, (one.0, rest.0, one.1, rest.1, one.2, rest.2, refl, refl))
 
 -- all of them
 pub begun_all : (of : Asked) (kind : TrieKind) (bytes : List ℕ) (texts : List (List ℕ)) (a b : Option (List ℕ)) (all : Bool) → AreAnswered of kind bytes texts a b all → AreAnsweredInPart of kind bytes texts a b
@@ -110,24 +123,30 @@ pub begun_done : (of : Asked) (kind : TrieKind) (bytes : List ℕ) (texts : List
 begun_done of kind bytes texts n a b all h =
     subst (λ ts. AreAnsweredInPart of kind bytes ts a b) (take-append-drop n texts) (begun_front of kind bytes (take n texts) (drop n texts) a b (begun_all of kind bytes (take n texts) a b all h))
 
--- all of the first texts, and a beginning of the line of the next
-pub begun_line : (kind : TrieKind) (bytes : List ℕ) (texts : List (List ℕ)) (n : ℕ) (text line : List ℕ) (r : Option (ℕ × ℕ)) (a b c : Option (List ℕ)) (all : Bool) → take (n + 1) texts ≡ take n texts ++ text ∷ []
-    → ((m : Map) → Means (kind_of kind) bytes m → IsLongestPrefix (kind_of kind) m text r) → line ≡ found_line text r → AppendsPart b c line → AreAnswered Longest kind bytes (take n texts) a b all
-    → AreAnsweredInPart Longest kind bytes texts a c
-begun_line kind bytes texts n text line r a b c all more longest is part h =
-    let one : AreAnsweredInPart Longest kind bytes (text ∷ []) b c =
-    λ m means. (line, is_some r, record { found = r ∷ []; longest = (longest m means, tt); is = is ∙ sym (append-nil (found_line text r)); tells = sym (and_true (is_some r)) }, part) in
-    let first : AreAnsweredInPart Longest kind bytes (take (n + 1) texts) a c =
-    subst (λ ts. AreAnsweredInPart Longest kind bytes ts a c) (sym more) (more_begun Longest kind bytes (take n texts) (text ∷ []) a b c all h one) in
-    subst (λ ts. AreAnsweredInPart Longest kind bytes ts a c) (take-append-drop (n + 1) texts) (begun_front Longest kind bytes (take (n + 1) texts) (drop (n + 1) texts) a c first)
+-- all of the first texts, and a beginning of the answer to the next
+pub begun_next : (of : Asked) (kind : TrieKind) (bytes : List ℕ) (texts : List (List ℕ)) (n : ℕ) (text old line : List ℕ) (found : Bool) (a b c : Option (List ℕ)) (all : Bool)
+    → take (n + 1) texts ≡ take n texts ++ text ∷ [] → old ≡ [] → IsAdded of kind bytes text old line found → AppendsPart b c line → AreAnswered of kind bytes (take n texts) a b all
+    → AreAnsweredInPart of kind bytes texts a c
+begun_next of kind bytes texts n text old line found a b c all more none added part h =
+    let one : AreAnsweredInPart of kind bytes (text ∷ []) b c =
+    λ m means.
+    let x = added m means in
+    let is : line ≡ x.0 = x.2 ∙ ap (λ l. l ++ x.0) none in
+    (x.0, found, one_asked of (kind_of kind) m text x.0 found x.1, subst (AppendsPart b c) is part) in
+    let first : AreAnsweredInPart of kind bytes (take (n + 1) texts) a c =
+    subst (λ ts. AreAnsweredInPart of kind bytes ts a c) (sym more) (more_begun of kind bytes (take n texts) (text ∷ []) a b c all h one) in
+    subst (λ ts. AreAnsweredInPart of kind bytes ts a c) (take-append-drop (n + 1) texts) (begun_front of kind bytes (take (n + 1) texts) (drop (n + 1) texts) a c first)
+
+-- the values of all keys
+pub values_are : (kind : TrieKind) (m : Map) (keys : List (Bor (List ℕ))) (all : Bool) → all ≡ are_found (answers_of (look (kind_of kind) m) keys)
+    → Belongs Value (kind_of kind) m (nows keys) (value_lines (answers_of (look (kind_of kind) m) keys)) all
+values_are kind m keys all is =
+    let f = look (kind_of kind) m in
+    subst (λ found. Belongs Value (kind_of kind) m (nows keys) (value_lines found) all) (sym (answers_are f keys))
+    (subst (λ t. Belongs Value (kind_of kind) m (nows keys) (value_lines (map f (nows keys))) t) (sym (is ∙ ap are_found (answers_are f keys))) (values_asked (kind_of kind) m (nows keys)))
 
 -- a beginning of the values of all keys
 pub values_begun : (kind : TrieKind) (m : Map) (keys : List (Bor (List ℕ))) (a b : Option (List ℕ)) → AppendsPart a b (value_lines (answers_of (look (kind_of kind) m) keys))
     → (printed : List ℕ) × (all : Bool) × Belongs Value (kind_of kind) m (nows keys) printed all × AppendsPart a b printed
 values_begun kind m keys a b p =
-    let f = look (kind_of kind) m in (
-      value_lines (map f (nows keys)),
-      are_found (map f (nows keys)),
-      (refl, refl),
-      subst (AppendsPart a b) (ap value_lines (answers_are f keys)) p,
-    )
+    let found = answers_of (look (kind_of kind) m) keys in (value_lines found, are_found found, values_are kind m keys (are_found found) refl, p)

@@ -1,5 +1,5 @@
 -- What is read of source code.
-use Rattle.std.proofs.Common.{rules, ◌≡◌, ℕ, ◌+◌, ◌*◌, ◌/◌, ◌%◌, ◌<◌, Bool, true, false, List, [], ◌∷◌, ◌++◌, refl, ◌∙◌, ap, append_assoc, arith}
+use Rattle.std.proofs.Common.{rules, ◌≡◌, ℕ, ◌+◌, ◌*◌, ◌/◌, ◌%◌, ◌<◌, Bool, true, false, List, [], ◌∷◌, ◌++◌, length, refl, ◌∙◌, ap, append_assoc, arith}
 use Rattle.std.specs.Prelude.{All, ◌==◌, ◌&&◌, codes, if◌then◌else◌}
 use Rattle.std.proofs.lemmas.Bool.Decides.{nat_tests}
 use Rattle.std.proofs.lemmas.List.Elements.{All-head, All-tail}
@@ -11,6 +11,7 @@ use Rattle.zerotrie_queries.specs.declared.code.Language.TheVariants as lang
 use Rattle.zerotrie_queries.specs.code.Names.{is_letter, is_in_word, are_in_word, is_name}
 use Rattle.zerotrie_queries.specs.code.Texts.{rust_kind, c_kind, rattle_type, c_get, front, end}
 use Rattle.zerotrie_queries.specs.code.Items.{before_item, item_number, items, is_hex, digit_value, seen_after, numbers_after}
+use Rattle.zerotrie_queries.specs.code.Laws.{items_before_end, items_in_braces}
 use Rattle.zerotrie_queries.specs.code.Items.Seen.{outside, inside, zero_seen, digit_seen}
 
 -- a digit that is written has its value
@@ -139,3 +140,65 @@ end_read lang.C kind name is =
     let get = c_get name in
     named name size get is ∙ named name less get is ∙ name_read name call is ∙ name_read name bytes is ∙ name_read name len is ∙ name_read name last is
 end_read lang.Rattle kind name is = rattle_type_read kind (codes "::from_bytes(BYTES).get(key)\n}\n")
+
+-- a digit is neither the end of a list nor a comma
+no_end : (n : ℕ) → n < 16 → (hex_digit n == 125) ≡ false
+no_end n below = grind (arith, nat_tests)
+
+no_comma : (n : ℕ) → n < 16 → (hex_digit n == 44) ≡ false
+no_comma n below = grind (arith, nat_tests)
+
+digit_counted : (n : ℕ) (rest : List ℕ) → n < 16 → items_before_end (hex_digit n ∷ rest) ≡ items_before_end rest
+digit_counted n rest below =
+    ap (λ b. if b then 1 else (if hex_digit n == 44 then 1 + items_before_end rest else items_before_end rest)) (no_end n below)
+    ∙ ap (λ b. if b then 1 + items_before_end rest else items_before_end rest) (no_comma n below)
+
+before_counted : (first : Bool) (rest : List ℕ) → items_before_end ((if first then codes "\n    " else codes " ") ++ rest) ≡ items_before_end rest
+before_counted true rest = refl
+before_counted false rest = refl
+
+number_counted : (b : ℕ) (rest : List ℕ) → b < 256 → items_before_end (item_number b ++ rest) ≡ 1 + items_before_end rest
+number_counted b rest below = digit_counted (b / 16) (hex_digit (b % 16) ∷ 44 ∷ rest) (omega arith) ∙ digit_counted (b % 16) (44 ∷ rest) (omega arith)
+
+-- each byte is an item
+pub items_counted : (i : ℕ) (bytes tail : List ℕ) → All (λ b. b < 256) bytes → items_before_end (items i bytes ++ tail) ≡ length bytes + items_before_end tail
+items_counted i [] tail all = omega arith
+items_counted i (b ∷ bytes) tail all =
+    let first : b < 256 = search (rules, All-head) in
+    let rest = items_counted (i + 1) bytes tail (All-tail (λ b. b < 256) b bytes all) in
+    ap items_before_end (append_assoc (before_item i) (item_number b ++ items (i + 1) bytes) tail)
+    ∙ before_counted (i % 16 == 0) (item_number b ++ (items (i + 1) bytes ++ tail))
+    ∙ number_counted b (items (i + 1) bytes ++ tail) first
+    ∙ omega (arith, rest)
+
+-- no brace stands in a name
+no_brace : (c : ℕ) → is_in_word c ≡ true → (c == 123) ≡ false
+no_brace c is = grind (arith, nat_tests)
+
+word_passed : (word rest : List ℕ) → are_in_word word ≡ true → items_in_braces (word ++ rest) ≡ items_in_braces rest
+word_passed [] rest all = refl
+word_passed (c ∷ word) rest all =
+    ap (λ b. if b then items_before_end (word ++ rest) else items_in_braces (word ++ rest)) (no_brace c (first_holds (is_in_word c) (are_in_word word) all))
+    ∙ word_passed word rest (second_holds (is_in_word c) (are_in_word word) all)
+
+name_is_word : (name : List ℕ) → is_name name ≡ true → are_in_word name ≡ true
+name_is_word [] is = absurd (cc)
+name_is_word (c ∷ word) is =
+    ap (λ b. b && are_in_word word) (letter_in_word c (first_holds (is_letter c) (are_in_word word) is)) ∙ second_holds (is_letter c) (are_in_word word) is
+
+name_passed : (name text rest : List ℕ) → is_name name ≡ true → items_in_braces ((name ++ text) ++ rest) ≡ items_in_braces (text ++ rest)
+name_passed name text rest is = ap items_in_braces (append_assoc name text rest) ∙ word_passed name (text ++ rest) (name_is_word name is)
+
+c_kind_passed : (kind : TrieKind) (text rest : List ℕ) → items_in_braces ((c_kind kind ++ text) ++ rest) ≡ items_in_braces (text ++ rest)
+c_kind_passed Simple text rest = refl
+c_kind_passed Ignore text rest = refl
+c_kind_passed Hash text rest = refl
+c_kind_passed Ext text rest = refl
+
+-- the first brace is the one in front of the bytes
+pub front_passed : (kind : TrieKind) (name rest : List ℕ) → is_name name ≡ true → items_in_braces (front lang.C kind name ++ rest) ≡ items_before_end rest
+front_passed kind name rest is =
+    let last = codes "_bytes[] = {" in
+    let bytes = codes ";\n\n/* Its bytes, and a zero. */\nstatic const uint8_t " ++ (name ++ last) in
+    let kinds = codes "_kind = " ++ (c_kind kind ++ bytes) in
+    name_passed name kinds rest is ∙ c_kind_passed kind bytes rest ∙ name_passed name last rest is

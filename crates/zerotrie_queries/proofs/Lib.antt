@@ -1,3 +1,4 @@
+mod ChoiceLemmas
 mod WriteLemmas
 mod FoundLemmas
 pub mod AnswerLemmas
@@ -7,3 +8,5 @@ mod CountLemmas
 mod TextLemmas
 pub mod PartLemmas
 mod LongestLemmas
+mod FrontLemmas
+mod LimitLemmas

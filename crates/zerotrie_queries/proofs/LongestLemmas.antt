@@ -1,10 +1,7 @@
--- Each text has an answer: the longest of its fronts that is a key, or none.
-use Rattle.std.proofs.Common.{◌≡◌, ℕ, ◌<◌, ◌≤◌, zero, suc, inl, inr, List, [], ◌∷◌, length, take, Option, Some, None, ◌∙◌, ap, refl, arith}
+-- Each text has a longest front that is a key, or none.
+use Rattle.std.proofs.Common.{◌≡◌, ℕ, zero, suc, inl, inr, List, take, Option, Some, None, ◌∙◌, ap, refl, arith}
 use Rattle.std.proofs.lemmas.Bool.Decides.{eqb_tells}
-use Rattle.zerotrie_core.specs.Kind.{Kind}
-use Rattle.zerotrie_core.specs.Maps.{Map, look}
 use Rattle.zerotrie_core.specs.Prefixes.{IsLongest}
-use Rattle.zerotrie_queries.specs.Answers.{AreLongest}
 
 abbrev Found : (List ℕ → Option ℕ) → List ℕ → ℕ → Type 0
 Found at text most = (r : Option (ℕ × ℕ)) × IsLongest at text most r
@@ -36,13 +33,6 @@ found_next at text i None is (Some r) old = (
   ),
 )
 
-found_in : (at : List ℕ → Option ℕ) (text : List ℕ) (most : ℕ) → Found at text most
+pub found_in : (at : List ℕ → Option ℕ) (text : List ℕ) (most : ℕ) → Found at text most
 found_in at text zero = found_first at text (at (take 0 text)) refl
 found_in at text (suc i) = let old = found_in at text i in found_next at text i (at (take (suc i) text)) refl old.0 old.1
-
--- so it is with each of some texts
-pub each_found : (kind : Kind) (m : Map) (texts : List (List ℕ)) → (found : List (Option (ℕ × ℕ))) × AreLongest kind m texts found
-each_found kind m [] = ([], tt)
-each_found kind m (text ∷ texts) =
-    let r = found_in (look kind m) text (length text) in
-    let rest = each_found kind m texts in (r.0 ∷ rest.0, (r.1, rest.1))

@@ -1,28 +1,33 @@
--- Pairs as one JSON value.
-use Rattle.std.specs.Prelude.{ℕ, List, [], ◌∷◌, ◌++◌, Bool, true, false, decimal, if◌then◌else◌}
+-- Pairs as JSON.
+use Rattle.std.specs.Prelude.{◌≡◌, ℕ, List, [], ◌∷◌, ◌++◌, Bool, true, false, decimal, map, if◌then◌else◌}
+use Rattle.std.specs.Str.{is_utf8}
 use Rattle.json.specs.Print.{quoted}
+use Rattle.serde_json.specs.Data.{Data, string, object}
 use Rattle.serde_json.specs.Written.{compact_text, comma_if}
 use Rattle.zerotrie_core.specs.Maps.{Pairs}
-use Rattle.zerotrie_any.specs.Json.{json_of, pair_list}
+use Rattle.zerotrie_any.specs.Json.{whole, members, list_of, are_text}
 
--- the value of the pairs as a text with no space, and a line feed
-abbrev pub json_line : Pairs → List ℕ
-json_line pairs = compact_text (json_of pairs) ++ 10 ∷ []
+-- the object from the keys of pairs to their values as a text with no space, and a line feed
+abbrev pub object_line : Pairs → List ℕ
+object_line pairs = compact_text (object (members pairs)) ++ 10 ∷ []
 
--- a pair as a member of an object, or else as a list of two
-abbrev pub item_text : Bool → List ℕ × ℕ → List ℕ
-item_text true e = quoted e.0 ++ 58 ∷ decimal e.1
-item_text false e = compact_text (pair_list e)
+-- the first of the keys that is not UTF-8
+abbrev pub IsFirstNoText : Pairs → List ℕ → Type 0
+IsFirstNoText pairs key = (front back : Pairs) × (value : ℕ) × (pairs ≡ front ++ (key, value) ∷ back) × (are_text front ≡ true) × (is_utf8 key ≡ false)
+
+-- a key as a value: a string if it is UTF-8, and else a list of its bytes
+abbrev pub key_data : List ℕ → Data
+key_data key = if is_utf8 key then string key else list_of (map whole key)
+
+-- a pair as a list of its key and its value, as a text with no space
+abbrev pub pair_json : List ℕ × ℕ → List ℕ
+pair_json e = compact_text (list_of (key_data e.0 ∷ whole e.1 ∷ []))
+
+-- a pair as a member of an object
+abbrev pub member_text : List ℕ × ℕ → List ℕ
+member_text e = quoted e.0 ++ 58 ∷ decimal e.1
 
 -- pairs with a comma before each, but for the first if nothing stands before it
-abbrev pub item_texts : Bool → Bool → Pairs → List ℕ
-item_texts in_object later [] = []
-item_texts in_object later (e ∷ pairs) = (comma_if later ++ item_text in_object e) ++ item_texts in_object true pairs
-
--- the bracket before the pairs
-abbrev pub opening : Bool → List ℕ
-opening in_object = if in_object then 123 ∷ [] else 91 ∷ []
-
--- the bracket after them, and a line feed
-abbrev pub closing : Bool → List ℕ
-closing in_object = if in_object then 125 ∷ 10 ∷ [] else 93 ∷ 10 ∷ []
+abbrev pub member_texts : Bool → Pairs → List ℕ
+member_texts later [] = []
+member_texts later (e ∷ pairs) = (comma_if later ++ member_text e) ++ member_texts true pairs

@@ -1,6 +1,9 @@
+pub mod Texts
 pub mod Files
 pub mod Json
 pub mod Printed
+pub mod Chosen
+pub mod Listed
 pub mod Answers
 pub mod code
 pub mod views

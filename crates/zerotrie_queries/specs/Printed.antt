@@ -1,17 +1,23 @@
 -- The lines that are printed, and the status that is answered.
-use Rattle.std.specs.Prelude.{ℕ, List, [], ◌∷◌, ◌++◌, ◌&&◌, Bool, true, codes, decimal, take, Option, Some, None, is_some}
+use Rattle.std.specs.Prelude.{ℕ, List, [], ◌∷◌, ◌++◌, ◌==◌, ◌&&◌, nat_le, not, Bool, true, codes, decimal, take, length, Option, Some, None, is_some, if◌then◌else◌}
+use Rattle.std.specs.List.{list_all}
 use Rattle.zerotrie_core.specs.Maps.{Pairs}
+use Rattle.zerotrie_lines.specs.Escapes.{escaped}
 use Rattle.zerotrie_lines.specs.Lines.{tsv_line}
-use Rattle.zerotrie_queries.specs.Json.{json_line}
+use Rattle.zerotrie_queries.specs.Json.{object_line, pair_json}
 use Rattle.zerotrie_queries.specs.declared.print.Style.{Style}
-use Rattle.zerotrie_queries.specs.declared.print.Style.TheVariants.{Tsv, Keys, Values}
+use Rattle.zerotrie_queries.specs.declared.print.Style.TheVariants.{Tsv, TsvRaw, Csv, JsonLines, Keys, Values}
 use Rattle.zerotrie_queries.specs.declared.print.Form.{Form}
-use Rattle.zerotrie_queries.specs.declared.print.Form.TheVariants.{Lines, Json}
+use Rattle.zerotrie_queries.specs.declared.print.Form.TheVariants.{Lines, Json, Count}
+
+-- the line of a number
+abbrev pub number_line : ℕ → List ℕ
+number_line number = decimal number ++ 10 ∷ []
 
 -- the line of an answer
 abbrev pub value_line : Option ℕ → List ℕ
 value_line None = codes "none\n"
-value_line (Some value) = decimal value ++ 10 ∷ []
+value_line (Some value) = number_line value
 
 abbrev pub value_lines : List (Option ℕ) → List ℕ
 value_lines [] = []
@@ -22,22 +28,51 @@ abbrev pub are_found : {A : Type 0} → List (Option A) → Bool
 are_found [] = true
 are_found (answer ∷ answers) = is_some answer && are_found answers
 
--- the line of the longest key that a text begins with, by its length, and of its value
+-- the line of a key and its answer
+abbrev pub key_line : List ℕ → Option ℕ → List ℕ
+key_line key None = escaped key ++ codes "\tnone\n"
+key_line key (Some value) = tsv_line (key, value)
+
+-- the line of a key that a text begins with, by its length, and of its value
+abbrev pub front_line : List ℕ → ℕ × ℕ → List ℕ
+front_line text r = tsv_line (take r.0 text, r.1)
+
+-- the line of the longest key that a text begins with
 abbrev pub found_line : List ℕ → Option (ℕ × ℕ) → List ℕ
 found_line text None = codes "none\n"
-found_line text (Some r) = tsv_line (take r.0 text, r.1)
+found_line text (Some r) = front_line text r
 
--- the lines of texts, with what was found for each
-abbrev pub found_lines : List (List ℕ) → List (Option (ℕ × ℕ)) → List ℕ
-found_lines [] found = []
-found_lines (text ∷ texts) [] = []
-found_lines (text ∷ texts) (r ∷ found) = found_line text r ++ found_lines texts found
+-- the lines of keys that a text begins with
+abbrev pub front_lines : List ℕ → List (ℕ × ℕ) → List ℕ
+front_lines text [] = []
+front_lines text (r ∷ found) = front_line text r ++ front_lines text found
+
+-- how many keys a text begins with, and the line of each
+abbrev pub fronts_text : List ℕ → List (ℕ × ℕ) → List ℕ
+fronts_text text [] = codes "none\n"
+fronts_text text (r ∷ found) = decimal (length (r ∷ found)) ++ (codes " found\n" ++ front_lines text (r ∷ found))
+
+-- a byte that a field of CSV has without quotes: printable ASCII but a quotation mark and a comma
+abbrev pub is_csv_plain : ℕ → Bool
+is_csv_plain b = (nat_le 32 b && nat_le b 126) && (not (b == 34) && not (b == 44))
+
+-- bytes with each quotation mark twice
+abbrev pub doubled : List ℕ → List ℕ
+doubled [] = []
+doubled (b ∷ bytes) = if b == 34 then 34 ∷ 34 ∷ doubled bytes else b ∷ doubled bytes
+
+-- a field of CSV, in quotes if it has other bytes
+abbrev pub csv_field : List ℕ → List ℕ
+csv_field key = if list_all is_csv_plain key then key else 34 ∷ (doubled key ++ 34 ∷ [])
 
 -- the line of a pair
 abbrev pub pair_line : Style → List ℕ × ℕ → List ℕ
 pair_line Tsv e = tsv_line e
+pair_line TsvRaw e = e.0 ++ (9 ∷ number_line e.1)
+pair_line Csv e = csv_field e.0 ++ (44 ∷ number_line e.1)
+pair_line JsonLines e = pair_json e ++ 10 ∷ []
 pair_line Keys e = e.0 ++ 10 ∷ []
-pair_line Values e = decimal e.1 ++ 10 ∷ []
+pair_line Values e = number_line e.1
 
 abbrev pub pair_lines : Style → Pairs → List ℕ
 pair_lines style [] = []
@@ -46,4 +81,5 @@ pair_lines style (e ∷ pairs) = pair_line style e ++ pair_lines style pairs
 -- pairs as they are printed
 abbrev pub listed : Form → Pairs → List ℕ
 listed (Lines style) pairs = pair_lines style pairs
-listed Json pairs = json_line pairs
+listed Json pairs = object_line pairs
+listed Count pairs = number_line (length pairs)

@@ -2,4 +2,6 @@
 pub mod Counts
 pub mod Reports
 pub mod Lines
+pub mod Json
+pub mod Forms
 pub mod counting

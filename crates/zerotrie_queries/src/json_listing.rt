@@ -1,109 +1,59 @@
-//! The pairs of a trie as one JSON value, printed as they come.
+//! The pairs of a trie as one JSON object, printed as they come.
 
-ghost use Rattle.std.specs.Prelude.{◌≡◌, ◌++◌, map, false, OnOk, OnErr, IfOk};
-ghost use Rattle.std.specs.Str.{is_utf8};
+ghost use Rattle.std.specs.Prelude.{◌≡◌, ◌++◌, ◌∷◌, [], false, true, OnOk, OnErr, IfOk, IfSome, IfNone, None};
 ghost use Rattle.std.specs.Io.KnownBytes.{Appends};
-ghost use Rattle.serde_json.specs.Written.{compact_text, comma_if};
-ghost use Rattle.zerotrie_any.specs.Json.{are_text, list_of, whole, pair_list};
-ghost use Rattle.zerotrie_queries.specs.Answers.{AreListed, AreListedInPart};
-ghost use Rattle.zerotrie_queries.specs.Json.{item_text, item_texts, opening, closing};
+ghost use Rattle.zerotrie_any.specs.Json.{are_text};
+ghost use Rattle.zerotrie_queries.specs.Json.{object_line, member_texts, IsFirstNoText};
 ghost use Rattle.zerotrie_files.specs.Faults.{IsNoted};
 ghost use Rattle.zerotrie_files.specs.Parts.{AppendsPart};
-ghost use Rattle.zerotrie_queries.specs.declared.print.Form.TheVariants.{Json};
 
-use crate::trie::Trie;
+use crate::first_pairs::FirstPairs;
+use crate::json_text::{add_comma, add_member};
+use crate::source::PairSource;
+use crate::utf8::is_text;
 use std::alloc::{AllocError, Global};
 use std::io;
 use std::io::Write;
-use zerotrie_core::ZeroTrieStream;
 use zerotrie_files::Noted;
-use zerotrie_lines::{write_number, write_quoted};
 
-/// Returns whether a key is UTF-8.
-fn is_text(key: &[u8]) -> bool
-    ensures { result ≡ is_utf8 key.now }
+/// Returns a copy of bytes.
+fn copied(alloc: Global, bytes: &[u8]) -> Result<Vec<u8>, AllocError>
+    ensures { IfOk result (λ copy. copy.items ≡ bytes.now) }
 {
-    str::from_utf8(key).is_ok()
+    let mut copy = Vec::new(alloc);
+    copy.extend_from_slice(bytes)?;
+    Ok(copy)
 }
 
-/// Returns whether the remaining keys of a stream are all UTF-8.
-fn are_text(pairs: &mut ZeroTrieStream<'_>) -> Result<bool, AllocError>
-    ensures { IfOk result (λ yes. yes ≡ are_text pairs.old.left.pairs) }
+/// Returns the first of the keys to come that is not UTF-8, if there is one.
+fn first_no_text<P: PairSource>(
+    alloc: Global,
+    pairs: &mut FirstPairs<P>,
+) -> Result<Option<Vec<u8>>, AllocError>
+    ensures some { IfOk result (λ key.
+        IfSome key (λ k. IsFirstNoText pairs.old.pairs k.items)) }
+    ensures none { IfOk result (λ key. key ≡ None → are_text pairs.old.pairs ≡ true) }
 {
     loop {
         if !pairs.advance()? {
-            return Ok(true);
+            return Ok(None);
         }
         if !is_text(pairs.key()) {
-            return Ok(false);
+            return Ok(Some(copied(alloc, pairs.key())?));
         }
     }
 }
 
-/// Adds a comma unless the pair is the first.
-fn add_comma(text: &mut Vec<u8>, later: bool) -> Result<(), AllocError>
-    ensures { OnOk result (text.new.items ≡ text.old.items ++ comma_if later) }
-{
-    if later {
-        text.push(b',')?;
-    }
-    Ok(())
-}
-
-/// Adds bytes as a list of numbers.
-fn add_bytes(text: &mut Vec<u8>, bytes: &[u8]) -> Result<(), AllocError>
-    ensures { OnOk result (text.new.items
-        ≡ text.old.items ++ compact_text (list_of (map whole bytes.now))) }
-{
-    text.push(b'[')?;
-    let mut later = false;
-    for byte in bytes {
-        add_comma(text, later)?;
-        write_number(text, *byte as usize)?;
-        later = true;
-    }
-    text.push(b']')?;
-    Ok(())
-}
-
-/// Adds a pair as a list of two, the bytes of its key and its value.
-fn add_pair_list(text: &mut Vec<u8>, key: &[u8], value: usize) -> Result<(), AllocError>
-    ensures { OnOk result (text.new.items
-        ≡ text.old.items ++ compact_text (pair_list (key.now, value))) }
-{
-    text.push(b'[')?;
-    add_bytes(text, key)?;
-    text.push(b',')?;
-    write_number(text, value)?;
-    text.push(b']')?;
-    Ok(())
-}
-
-/// Adds a pair as a member of an object, or else as a list of two.
-fn add_item(text: &mut Vec<u8>, in_object: bool, key: &[u8], value: usize) -> Result<(), AllocError>
-    ensures { OnOk result (text.new.items
-        ≡ text.old.items ++ item_text in_object (key.now, value)) }
-{
-    if in_object {
-        write_quoted(text, key)?;
-        text.push(b':')?;
-        write_number(text, value)
-    } else {
-        add_pair_list(text, key, value)
-    }
-}
-
-/// Writes the remaining pairs of a stream, with commas between.
-fn write_items<W: Write>(
+/// Writes the pairs to come as members, with commas between.
+fn write_members<P: PairSource, W: Write>(
     alloc: Global,
-    pairs: &mut ZeroTrieStream<'_>,
-    in_object: bool,
+    pairs: &mut FirstPairs<P>,
     output: &mut Noted<W>,
 ) -> io::Result<()>
     ensures all { OnOk result (Appends (W.contents output.old.inner) (W.contents output.new.inner)
-        (item_texts in_object false pairs.old.left.pairs)) }
+        (member_texts false pairs.old.pairs)) }
     ensures part { OnErr result (AppendsPart (W.contents output.old.inner) (W.contents output.new.inner)
-        (item_texts in_object false pairs.old.left.pairs)) }
+        (member_texts false pairs.old.pairs)) }
     ensures noted { IsNoted result output.old.failed output.new.failed }
 {
     let mut text = Vec::new(alloc);
@@ -114,66 +64,52 @@ fn write_items<W: Write>(
         }
         text.clear();
         add_comma(&mut text, later)?;
-        add_item(&mut text, in_object, pairs.key(), pairs.value())?;
+        add_member(&mut text, pairs.key(), pairs.value())?;
         output.write_bytes(text.as_slice())?;
         later = true;
     }
 }
 
-/// The bracket before the pairs.
-fn opening(in_object: bool) -> &'static str
-    ensures { result.now ≡ opening in_object }
-{
-    if in_object { "{" } else { "[" }
-}
-
-/// The bracket after them, and a line feed.
-fn closing(in_object: bool) -> &'static str
-    ensures { result.now ≡ closing in_object }
-{
-    if in_object { "}\n" } else { "]\n" }
-}
-
-/// Writes the remaining pairs of a stream, in brackets.
-fn write_value<W: Write>(
+/// Writes the pairs to come as an object, and a line feed.
+fn write_object<P: PairSource, W: Write>(
     alloc: Global,
-    pairs: &mut ZeroTrieStream<'_>,
-    in_object: bool,
+    pairs: &mut FirstPairs<P>,
     output: &mut Noted<W>,
 ) -> io::Result<()>
     ensures all { OnOk result (Appends (W.contents output.old.inner) (W.contents output.new.inner)
-        ((opening in_object ++ item_texts in_object false pairs.old.left.pairs)
-        ++ closing in_object)) }
+        (object_line pairs.old.pairs)) }
     ensures part { OnErr result (AppendsPart (W.contents output.old.inner) (W.contents output.new.inner)
-        ((opening in_object ++ item_texts in_object false pairs.old.left.pairs)
-        ++ closing in_object)) }
+        (object_line pairs.old.pairs)) }
     ensures noted { IsNoted result output.old.failed output.new.failed }
 {
-    output.write_bytes(opening(in_object).as_bytes())?;
-    write_items(alloc, pairs, in_object, output)?;
-    output.write_bytes(closing(in_object).as_bytes())
+    output.write_bytes(b"{")?;
+    write_members(alloc, pairs, output)?;
+    output.write_bytes(b"}\n")
 }
 
-/// Writes the pairs whose keys begin with a prefix as one JSON value and a line feed: an object
-/// from key to value if all of these keys are UTF-8, and else a list of lists of two, the bytes of
-/// a key and its value.
+/// Writes pairs as one JSON object, and a line feed. If a key that is seen before is not UTF-8, it
+/// writes nothing, and returns the first such key.
 ///
-/// It iterates twice, first to see whether all keys are UTF-8. It allocates nothing for a pair
-/// alone. If it fails, a beginning of the value was written.
-pub fn write_json<W: Write>(
+/// `seen` has the same pairs as `pairs`, for a first look at the keys. It allocates nothing for a
+/// pair alone. If it fails, a beginning of the object was written.
+pub(crate) fn write_json<P: PairSource, W: Write>(
     alloc: Global,
-    trie: &Trie<'_>,
-    prefix: &[u8],
+    seen: &mut FirstPairs<P>,
+    pairs: &mut FirstPairs<P>,
     output: &mut Noted<W>,
-) -> io::Result<()>
-    ensures all { OnOk result (AreListed Json prefix.now trie.now.kind trie.now.bytes.now
-        (W.contents output.old.inner) (W.contents output.new.inner)) }
-    ensures part { OnErr result (AreListedInPart Json prefix.now trie.now.kind trie.now.bytes.now
-        (W.contents output.old.inner) (W.contents output.new.inner)) }
+) -> io::Result<Option<Vec<u8>>>
+    ensures all { IfOk result (λ key. IfNone key ((are_text seen.old.pairs ≡ true)
+        × Appends (W.contents output.old.inner) (W.contents output.new.inner)
+        (object_line pairs.old.pairs))) }
+    ensures none { IfOk result (λ key. IfSome key (λ k. IsFirstNoText seen.old.pairs k.items
+        × (output.new ≡ output.old))) }
+    ensures part { OnErr result (AppendsPart (W.contents output.old.inner)
+        (W.contents output.new.inner) (object_line pairs.old.pairs)) }
     ensures noted { IsNoted result output.old.failed output.new.failed }
 {
-    let mut seen = trie.stream_prefix(alloc, prefix)?;
-    let in_object = are_text(&mut seen)?;
-    let mut pairs = trie.stream_prefix(alloc, prefix)?;
-    write_value(alloc, &mut pairs, in_object, output)
+    if let Some(key) = first_no_text(alloc, seen)? {
+        return Ok(Some(key));
+    }
+    write_object(alloc, pairs, output)?;
+    Ok(None)
 }

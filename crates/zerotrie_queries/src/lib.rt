@@ -8,19 +8,24 @@
 
 pub mod code;
 mod file;
+mod first_pairs;
 mod json_listing;
+mod json_text;
 mod listing;
 mod lookups;
 mod print;
 mod reports;
+mod source;
 mod trie;
+mod utf8;
 mod views;
 
 pub use code::{Language, is_name, write_trie_code};
-pub use file::OpenError;
-pub use listing::write_list;
+pub use file::{OpenError, looks_like_text};
+pub use listing::{ListError, write_list};
 pub use lookups::{Asked, write_answers};
 pub use print::{Form, Style};
-pub use reports::{Branches, Report, write_trie_report};
+pub use reports::{Branches, Report, ReportForm, write_trie_report};
+pub use source::Choice;
 pub use trie::Trie;
 pub use views::{View, write_trie_view};

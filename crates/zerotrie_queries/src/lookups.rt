@@ -1,21 +1,23 @@
-//! Look-ups of keys and of the prefixes of texts.
+//! Look-ups of keys and of the keys that texts begin with.
 
-ghost use Rattle.std.specs.Prelude.{◌≡◌, ◌++◌, map, IfOk, OnErr};
-ghost use Rattle.zerotrie_core.specs.Maps.{Map};
+ghost use Rattle.std.specs.Prelude.{◌≡◌, ◌++◌, map, length, IfOk, OnErr};
+ghost use Rattle.zerotrie_core.specs.Maps.{Map, Pairs};
+ghost use Rattle.zerotrie_core.specs.Prefixes.{Leaves, fronts_left};
 ghost use Rattle.zerotrie_core.specs.Texts.{Means};
 ghost use Rattle.zerotrie_core.specs.Kinds.{kind_of};
 ghost use Rattle.zerotrie_files.specs.Faults.{IsNoted};
-ghost use Rattle.zerotrie_queries.specs.Printed.{value_lines, are_found};
-ghost use Rattle.zerotrie_queries.specs.Answers.{answers, AreAnswered, AreAnsweredInPart};
-ghost use Rattle.zerotrie_queries.specs.declared.lookups.Asked.TheVariants.{Value, Longest};
+ghost use Rattle.zerotrie_queries.specs.Printed.{value_lines, are_found, front_lines};
+ghost use Rattle.zerotrie_queries.specs.Answers.{answers, IsAdded, AreAnswered, AreAnsweredInPart};
+ghost use Rattle.zerotrie_queries.specs.declared.lookups.Asked.TheVariants.{Value, Prefixes};
 
-use crate::print::{add_found, add_value};
+use crate::print::{add_found, add_front, add_key_value, add_value};
 use crate::trie::Trie;
 use std::alloc::{AllocError, Global};
 use std::io;
 use std::io::Write;
-use zerotrie_core::{LookUps, ZeroTrieWithOptions, by_kind};
+use zerotrie_core::{CommonPrefixes, LookUps, ZeroTrieWithOptions, by_kind};
 use zerotrie_files::Noted;
+use zerotrie_lines::write_number;
 
 /// The number of keys whose lines are written at once.
 const BLOCK: usize = 4096;
@@ -25,8 +27,16 @@ const BLOCK: usize = 4096;
 pub enum Asked {
     /// The text is a key: its value.
     Value,
+    /// The text is a key: the key and its value.
+    Pair,
     /// The longest key that the text begins with, and its value.
     Longest,
+    /// The longest key that the text begins with and that ends at a border of the text, and its
+    /// value. A border is the end of the text, or a place with this byte next. The empty key always
+    /// counts.
+    LongestAt(u8),
+    /// All keys that the text begins with, the shortest first, each with its value.
+    Prefixes,
 }
 
 /// Adds a line for each key, its value or `none`, and returns whether all are there.
@@ -87,37 +97,117 @@ fn write_values<W: Write>(
     Ok(all)
 }
 
-/// Writes a line for each text, the longest key that it begins with and its value or `none`, and
-/// returns whether each begins with a key.
-fn write_longest<W: Write>(
+/// Adds the lines of the keys to come that a text begins with, and returns how many there are.
+fn add_fronts(
+    lines: &mut Vec<u8>,
+    text: &[u8],
+    fronts: &mut CommonPrefixes<'_, '_>,
+) -> Result<usize, AllocError>
+    requires { (fronts.old.text ≡ text.now) }
+    ensures { IfOk result (λ count. (pairs : Pairs) → Leaves fronts.old pairs
+        → (lines.new.items ≡ lines.old.items ++ front_lines text.now (fronts_left fronts.old pairs))
+        × (count ≡ length (fronts_left fronts.old pairs))) }
+{
+    let mut count: usize = 0;
+    while let Some((len, value)) = fronts.next() {
+        add_front(lines, text, len, value)?;
+        count += 1;
+    }
+    Ok(count)
+}
+
+/// Adds a line that says how many keys a text begins with and the line of each, or `none`. Returns
+/// whether there is one.
+fn add_prefixes(
+    alloc: Global,
+    text: &mut Vec<u8>,
+    trie: &Trie<'_>,
+    asked: &[u8],
+) -> Result<bool, AllocError>
+    ensures { IfOk result (λ found. IsAdded Prefixes trie.now.kind trie.now.bytes.now asked.now
+        text.old.items text.new.items found) }
+{
+    let mut lines = Vec::new(alloc);
+    let mut fronts = trie.common_prefixes(asked);
+    let count = add_fronts(&mut lines, asked, &mut fronts)?;
+    if count == 0 {
+        text.extend_from_slice(b"none\n")?;
+        return Ok(false);
+    }
+    write_number(text, count)?;
+    text.extend_from_slice(b" found\n")?;
+    text.extend_from_slice(lines.as_slice())?;
+    Ok(true)
+}
+
+/// Adds what was asked of a text, and returns whether it was found.
+fn add_answer(
+    alloc: Global,
+    line: &mut Vec<u8>,
+    trie: &Trie<'_>,
+    asked: Asked,
+    text: &[u8],
+) -> Result<bool, AllocError>
+    ensures { IfOk result (λ found. IsAdded asked trie.now.kind trie.now.bytes.now text.now
+        line.old.items line.new.items found) }
+{
+    match asked {
+        Asked::Value => {
+            let value = trie.get(text);
+            add_value(line, value)?;
+            Ok(value.is_some())
+        }
+        Asked::Pair => {
+            let value = trie.get(text);
+            add_key_value(line, text, value)?;
+            Ok(value.is_some())
+        }
+        Asked::Longest => {
+            let found = trie.longest(text);
+            add_found(line, text, found)?;
+            Ok(found.is_some())
+        }
+        Asked::LongestAt(delimiter) => {
+            let found = trie.longest_at(text, delimiter);
+            add_found(line, text, found)?;
+            Ok(found.is_some())
+        }
+        Asked::Prefixes => add_prefixes(alloc, line, trie, text),
+    }
+}
+
+/// Writes the answer to each text, one after another, and returns whether all was found.
+fn write_each<W: Write>(
     alloc: Global,
     trie: &Trie<'_>,
+    asked: Asked,
     texts: &[&[u8]],
     output: &mut Noted<W>,
 ) -> io::Result<bool>
-    ensures answered { IfOk result (AreAnswered Longest trie.now.kind trie.now.bytes.now
+    ensures answered { IfOk result (AreAnswered asked trie.now.kind trie.now.bytes.now
         (map (λ t. t.now) texts.now) (W.contents output.old.inner) (W.contents output.new.inner)) }
-    ensures part { OnErr result (AreAnsweredInPart Longest trie.now.kind trie.now.bytes.now
+    ensures part { OnErr result (AreAnsweredInPart asked trie.now.kind trie.now.bytes.now
         (map (λ t. t.now) texts.now) (W.contents output.old.inner) (W.contents output.new.inner)) }
     ensures noted { IsNoted result output.old.failed output.new.failed }
 {
     let mut line = Vec::new(alloc);
     let mut all = true;
     for text in texts {
-        let found = trie.longest(text);
-        all &= found.is_some();
         line.clear();
-        add_found(&mut line, text, found)?;
+        all &= add_answer(alloc, &mut line, trie, asked, text)?;
         output.write_bytes(line.as_slice())?;
     }
     Ok(all)
 }
 
-/// Writes a line for each text, with what was looked up or `none`, and returns whether all was
-/// found. It writes many values at once.
+/// Writes the answer to each text: what was looked up, or `none`. Returns whether all was found.
+///
+/// An answer is one line, but for `Asked::Prefixes`: then it is `none`, or a line with the number
+/// of keys, as `2 found`, and a line of each. A key is written with escapes, a tab and its value;
+/// after the tab stands `none` if `Asked::Pair` looked for an absent key.
 ///
 /// The answers are those of the trie's map. If the bytes are malformed, it still returns, and the
-/// answers are unspecified. If it fails, a beginning of the lines was written.
+/// answers are unspecified. If it fails, a beginning of the answers was written.
 pub fn write_answers<W: Write>(
     alloc: Global,
     trie: &Trie<'_>,
@@ -133,6 +223,6 @@ pub fn write_answers<W: Write>(
 {
     match asked {
         Asked::Value => write_values(alloc, trie, texts, output),
-        Asked::Longest => write_longest(alloc, trie, texts, output),
+        _ => write_each(alloc, trie, asked, texts, output),
     }
 }

@@ -1,37 +1,61 @@
 //! Reports of a trie: its nodes by their sort, and its branches by their size.
 
-ghost use Rattle.std.specs.Prelude.{◌≡◌, OnOk, OnErr};
+ghost use Rattle.std.specs.Prelude.{◌≡◌, ◌++◌, OnOk, OnErr};
 ghost use Rattle.std.specs.Io.KnownBytes.{Appends};
 ghost use Rattle.zerotrie_files.specs.Faults.{IsNoted};
 ghost use Rattle.zerotrie_files.specs.Parts.{AppendsPart};
 ghost use Rattle.zerotrie_queries.specs.reports.Reports.{report_of};
-ghost use Rattle.zerotrie_queries.specs.reports.Lines.{report_lines};
+ghost use Rattle.zerotrie_queries.specs.reports.Forms.{reported};
 
 mod branches;
 mod counting;
 mod lines;
+mod object;
 
-use crate::reports::lines::write_report;
+use crate::reports::lines::add_report;
+use crate::reports::object::add_report_object;
 use crate::trie::Trie;
 pub use branches::Branches;
 pub use counting::Report;
-use std::alloc::Global;
+use std::alloc::{AllocError, Global};
 use std::io;
 use std::io::Write;
 use zerotrie_files::Noted;
+
+/// How a report is printed.
+#[derive(Clone, Copy, PartialEq, Eq, Debug)]
+pub enum ReportForm {
+    /// Lines of a name, a tab and a number.
+    Lines,
+    /// One JSON object, and a line feed.
+    Json,
+}
+
+/// Adds a report.
+fn add_in_form(text: &mut Vec<u8>, form: ReportForm, report: &Report) -> Result<(), AllocError>
+    ensures { OnOk result (text.new.items ≡ text.old.items ++ reported form report.now) }
+{
+    match form {
+        ReportForm::Lines => add_report(text, report),
+        ReportForm::Json => add_report_object(text, report),
+    }
+}
 
 /// Writes the report of a trie. If it fails, a beginning of it was written.
 pub fn write_trie_report<W: Write>(
     alloc: Global,
     trie: &Trie<'_>,
+    form: ReportForm,
     output: &mut Noted<W>,
 ) -> io::Result<()>
     ensures all { OnOk result (Appends (W.contents output.old.inner) (W.contents output.new.inner)
-        (report_lines (report_of trie.now.kind trie.now.bytes.now))) }
+        (reported form (report_of trie.now.kind trie.now.bytes.now))) }
     ensures part { OnErr result (AppendsPart (W.contents output.old.inner) (W.contents output.new.inner)
-        (report_lines (report_of trie.now.kind trie.now.bytes.now))) }
+        (reported form (report_of trie.now.kind trie.now.bytes.now))) }
     ensures noted { IsNoted result output.old.failed output.new.failed }
 {
     let report = Report::of(alloc, trie)?;
-    write_report(alloc, &report, output)
+    let mut text = Vec::new(alloc);
+    add_in_form(&mut text, form, &report)?;
+    output.write_bytes(text.as_slice())
 }

@@ -1,10 +1,11 @@
 //! A trie whose kind is known only when the program runs.
 
-ghost use Rattle.std.specs.Prelude.{◌≡◌, ◌↔◌, ◌≤◌, length, IsTrue, IfOk, IfErr, IfSome, None};
-ghost use Rattle.zerotrie_core.specs.Maps.{Map, Pairs, beginning};
+ghost use Rattle.std.specs.Prelude.{◌≡◌, ◌↔◌, ◌≤◌, ◌∷◌, [], length, IsTrue, IfOk, IfErr, IfSome, None};
+ghost use Rattle.zerotrie_core.specs.Maps.{Map, Pairs, look, beginning};
 ghost use Rattle.zerotrie_core.specs.Texts.{Lists, Means};
 ghost use Rattle.zerotrie_core.specs.Listings.{to_come};
-ghost use Rattle.zerotrie_core.specs.Prefixes.{IsLongestPrefix};
+ghost use Rattle.zerotrie_core.specs.Prefixes.{IsLongestPrefix, at_front};
+ghost use Rattle.zerotrie_core.specs.Borders.{IsLongestPrefixAt};
 ghost use Rattle.zerotrie_core.specs.walk.Visits.{nodes_of};
 ghost use Rattle.zerotrie_core.specs.walk.Texts.{text_visits};
 ghost use Rattle.zerotrie_core.specs.WellFormed.{IsWellFormed};
@@ -15,7 +16,8 @@ ghost use Rattle.zerotrie_core.specs.Kinds.{kind_of, IsTag};
 use std::alloc::{AllocError, Global};
 use zerotrie_any::TagError;
 use zerotrie_core::{
-    Fault, Nodes, TrieKind, ZeroTrieStream, by_kind, first_fault, is_well_formed, longest_prefix,
+    CommonPrefixes, Fault, Nodes, TrieKind, ZeroTrieStream, by_kind, first_fault, get,
+    is_well_formed, longest_prefix, longest_prefix_at,
 };
 
 /// The borrowed bytes of a trie, and its kind.
@@ -26,6 +28,14 @@ pub struct Trie<'a> {
 }
 
 impl<'a> Trie<'a> {
+    /// Returns the value of a key. `None` if the trie has no such key.
+    pub fn get(&self, key: &[u8]) -> Option<usize>
+        ensures { (m : Map) → Means (kind_of self.now.kind) self.now.bytes.now m
+            → result ≡ look (kind_of self.now.kind) m key.now }
+    {
+        by_kind!(self.kind, get::<_>(self.bytes, key))
+    }
+
     /// Returns the trie in tagged bytes, which begin with the number of its kind. It does not
     /// validate the bytes after the number.
     ///
@@ -76,6 +86,27 @@ impl<'a> Trie<'a> {
         by_kind!(self.kind, longest_prefix::<_>(self.bytes, text))
     }
 
+    /// Returns the longest key that the text begins with and that ends at a border of the text: at
+    /// its end, or with the delimiter next. The empty key always counts. `None` if there is none.
+    pub fn longest_at(&self, text: &[u8], delimiter: u8) -> Option<(usize, usize)>
+        ensures longest { (m : Map) → Means (kind_of self.now.kind) self.now.bytes.now m
+            → IsLongestPrefixAt (kind_of self.now.kind) m (delimiter ∷ []) text.now result }
+        ensures within { IfSome result (λ r. r.0 ≤ length text.now) }
+    {
+        by_kind!(
+            self.kind,
+            longest_prefix_at::<_>(self.bytes, text, &[delimiter])
+        )
+    }
+
+    /// Iterates over the keys that the text begins with, the shortest first: the length of each and
+    /// its value.
+    pub fn common_prefixes<'t>(&self, text: &'t [u8]) -> CommonPrefixes<'a, 't>
+        ensures { result ≡ at_front (kind_of self.now.kind) self.now.bytes.now text.now }
+    {
+        by_kind!(self.kind, CommonPrefixes::new::<_>(self.bytes, text))
+    }
+
     /// Iterates over the pairs whose keys begin with a prefix, as the kind compares bytes. Each key
     /// is borrowed from one buffer. The empty prefix is for all pairs.
     ///
@@ -86,9 +117,10 @@ impl<'a> Trie<'a> {
         alloc: Global,
         prefix: &[u8],
     ) -> Result<ZeroTrieStream<'a>, AllocError>
-        ensures { IfOk result (λ s. (pairs : Pairs)
+        ensures lists { IfOk result (λ s. (pairs : Pairs)
             → Lists (kind_of self.now.kind) self.now.bytes.now pairs
             → s.left ≡ to_come (beginning (kind_of self.now.kind) prefix.now pairs)) }
+        ensures most { IfOk result (λ s. length s.left.pairs ≤ length self.now.bytes.now) }
     {
         by_kind!(
             self.kind,

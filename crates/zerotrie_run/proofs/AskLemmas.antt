@@ -1,34 +1,33 @@
 -- A question that was answered, and the flush after it.
-use Rattle.std.proofs.Common.{◌≡◌, ◌⊎◌, ℕ, List, [], Option, None, Some, Bool, true, false, IsTrue, refl, sym, ◌∙◌, subst, inl, inr, append-nil}
+use Rattle.std.proofs.Common.{◌≡◌, ◌⊎◌, ℕ, List, Option, Bool, true, false, IsTrue, refl, subst, inl, inr}
 use Rattle.std.specs.Io.KnownBytes.{Keeps}
-use Rattle.std.proofs.KnownBytes.{Appends-kept}
+use Rattle.std.proofs.KnownBytes.{Appends-kept, Keeps-trans}
 use Rattle.zerotrie_core.specs.declared.TrieKind.{TrieKind}
 use Rattle.zerotrie_queries.specs.code.Code.{code}
 use Rattle.zerotrie_queries.specs.views.Views.{shown}
 use Rattle.zerotrie_queries.specs.reports.Reports.{report_of}
-use Rattle.zerotrie_queries.specs.reports.Lines.{report_lines}
-use Rattle.zerotrie_core.specs.Maps.{beginning}
-use Rattle.zerotrie_core.specs.Kinds.{kind_of}
+use Rattle.zerotrie_queries.specs.reports.Forms.{reported}
 use Rattle.zerotrie_queries.specs.Printed.{listed}
 use Rattle.zerotrie_queries.specs.Answers.{AreAnswered}
 use Rattle.zerotrie_queries.specs.declared.lookups.Asked.{Asked}
-use Rattle.zerotrie_queries.specs.declared.lookups.Asked.TheVariants as asked
+use Rattle.zerotrie_queries.specs.Chosen.{chosen}
+use Rattle.zerotrie_queries.specs.Listed.{limited}
 use Rattle.zerotrie_queries.proofs.PartLemmas.{part_all}
 use Rattle.zerotrie_queries.proofs.AnswerLemmas.{begun_all}
 use Rattle.zerotrie_files.specs.Disks.{Story}
 use Rattle.zerotrie_files.specs.Faults.{Watched}
-use Rattle.zerotrie_queries.specs.declared.file.OpenError.TheVariants.{BadTag, NotWellFormed, OutOfMemory}
-use Rattle.zerotrie_run.specs.Runs.{Answers, AnswersInPart, AreKeys, KeysAnswered, KeysAnsweredInPart, IsRead, IsUnanswered, EndsAsk, ask_refusal, are_lines, of_lines}
+use Rattle.zerotrie_queries.specs.declared.file.OpenError.TheVariants.{BadTag, Damaged, NotWellFormed, OutOfMemory}
+use Rattle.zerotrie_run.specs.Runs.{Answers, AnswersInPart, AreKeys, KeysAnswered, KeysAnsweredInPart, IsNoAnswer, IsRead, IsUnanswered, Opens, EndsAsk, ask_refusal, are_lines, of_lines}
 use Rattle.zerotrie_run.specs.Told.{HasReason}
 use Rattle.zerotrie_run.specs.declared.asking.AskError.{AskError}
-use Rattle.zerotrie_run.specs.declared.asking.AskError.TheVariants.{TwoInputs, Unread, NoTrie, Unanswered}
+use Rattle.zerotrie_run.specs.declared.asking.AskError.TheVariants.{TwoInputs, Unread, NoTrie, NotText, Unanswered}
 use Rattle.zerotrie_run.specs.declared.command.TrieFile.{TrieFile}
 use Rattle.zerotrie_run.specs.declared.command.Place.{Place}
 use Rattle.zerotrie_run.specs.declared.command.Place.TheVariants.{Stream}
 use Rattle.zerotrie_run.specs.declared.command.Keys.{Keys}
 use Rattle.zerotrie_run.specs.declared.command.Keys.TheVariants.{Words, Lines}
 use Rattle.zerotrie_run.specs.declared.command.Question.{Question}
-use Rattle.zerotrie_run.specs.declared.command.Question.TheVariants.{Get, Longest, List as Listing, Code, Report, View}
+use Rattle.zerotrie_run.specs.declared.command.Question.TheVariants.{LookUp, List as Listing, Code, Report, Verify, View}
 
 -- a flush leaves what was answered
 pub kept_texts : (of : Asked) (kind : TrieKind) (bytes : List ℕ) (texts : List (List ℕ)) (a b c : Option (List ℕ)) (all : Bool) → AreAnswered of kind bytes texts a b all → Keeps b c
@@ -38,11 +37,11 @@ kept_texts of kind bytes texts a b c all h k m means = let x = h m means in (x.0
 -- it leaves the answer to any question
 pub kept_answer : (q : Question) (input : Option (List ℕ)) (kind : TrieKind) (bytes : List ℕ) (a b c : Option (List ℕ)) (all : Bool) → Answers q input kind bytes a b all → Keeps b c
     → Answers q input kind bytes a c all
-kept_answer (Get keys) input kind bytes a b c all h k = (h.0, h.1, kept_texts asked.Value kind bytes h.0 a b c all h.2 k)
-kept_answer (Longest texts) input kind bytes a b c all h k = (h.0, h.1, kept_texts asked.Longest kind bytes h.0 a b c all h.2 k)
-kept_answer (Listing form prefix) input kind bytes a b c all h k = (h.0, λ pairs lists. Appends-kept a b c (listed form (beginning (kind_of kind) prefix.now pairs)) (h.1 pairs lists) k)
+kept_answer (LookUp of keys) input kind bytes a b c all h k = (h.0, h.1, kept_texts of kind bytes h.0 a b c all h.2 k)
+kept_answer (Listing form choice limit) input kind bytes a b c all h k = (h.0, λ pairs lists. let x = h.1 pairs lists in (x.0, Appends-kept a b c (listed form (limited limit (chosen kind choice pairs))) x.1 k))
 kept_answer (Code language name) input kind bytes a b c all h k = (h.0, Appends-kept a b c (code language kind name.now bytes) h.1 k)
-kept_answer Report input kind bytes a b c all h k = (h.0, Appends-kept a b c (report_lines (report_of kind bytes)) h.1 k)
+kept_answer Verify input kind bytes a b c all h k = (h.0, Keeps-trans a b c h.1 k)
+kept_answer (Report form) input kind bytes a b c all h k = (h.0, Appends-kept a b c (reported form (report_of kind bytes)) h.1 k)
 kept_answer (View view) input kind bytes a b c all h k = (h.0, Appends-kept a b c (shown view kind bytes) h.1 k)
 
 -- words are the same keys whatever standard input has
@@ -53,11 +52,11 @@ other_keys Lines i j ks apart h = absurd (apart refl)
 -- an answer whose keys are no lines is one whatever standard input has
 pub other_input : (q : Question) (i j : Option (List ℕ)) (kind : TrieKind) (bytes : List ℕ) (a b : Option (List ℕ)) (all : Bool) → (of_lines q ≡ true → ⊥) → Answers q i kind bytes a b all
     → Answers q j kind bytes a b all
-other_input (Get keys) i j kind bytes a b all apart h = (h.0, other_keys keys i j h.0 apart h.1, h.2)
-other_input (Longest texts) i j kind bytes a b all apart h = (h.0, other_keys texts i j h.0 apart h.1, h.2)
-other_input (Listing form prefix) i j kind bytes a b all apart h = h
+other_input (LookUp of keys) i j kind bytes a b all apart h = (h.0, other_keys keys i j h.0 apart h.1, h.2)
+other_input (Listing form choice limit) i j kind bytes a b all apart h = h
 other_input (Code language name) i j kind bytes a b all apart h = h
-other_input Report i j kind bytes a b all apart h = h
+other_input Verify i j kind bytes a b all apart h = h
+other_input (Report form) i j kind bytes a b all apart h = h
 other_input (View view) i j kind bytes a b all apart h = h
 
 -- the input that is left after a file was read answers as all of it
@@ -73,20 +72,20 @@ keys_in_part of keys input kind bytes a b all h = (h.0, h.1, begun_all of kind b
 
 -- an answer is a beginning of itself
 pub answer_in_part : (q : Question) (input : Option (List ℕ)) (kind : TrieKind) (bytes : List ℕ) (a b : Option (List ℕ)) (all : Bool) → Answers q input kind bytes a b all → AnswersInPart q input kind bytes a b
-answer_in_part (Get keys) input kind bytes a b all h = keys_in_part asked.Value keys input kind bytes a b all h
-answer_in_part (Longest texts) input kind bytes a b all h = keys_in_part asked.Longest texts input kind bytes a b all h
-answer_in_part (Listing form prefix) input kind bytes a b all h = λ pairs lists. part_all a b (listed form (beginning (kind_of kind) prefix.now pairs)) (h.1 pairs lists)
+answer_in_part (LookUp of keys) input kind bytes a b all h = keys_in_part of keys input kind bytes a b all h
+answer_in_part (Listing form choice limit) input kind bytes a b all h = λ pairs lists. part_all a b (listed form (limited limit (chosen kind choice pairs))) (h.1 pairs lists).1
 answer_in_part (Code language name) input kind bytes a b all h = part_all a b (code language kind name.now bytes) h.1
-answer_in_part Report input kind bytes a b all h = part_all a b (report_lines (report_of kind bytes)) h.1
+answer_in_part Verify input kind bytes a b all h = h.1
+answer_in_part (Report form) input kind bytes a b all h = part_all a b (reported form (report_of kind bytes)) h.1
 answer_in_part (View view) input kind bytes a b all h = part_all a b (shown view kind bytes) h.1
 
 -- a beginning of an answer whose keys are no lines is one whatever standard input has
 other_part : (q : Question) (i j : Option (List ℕ)) (kind : TrieKind) (bytes : List ℕ) (a b : Option (List ℕ)) → (of_lines q ≡ true → ⊥) → AnswersInPart q i kind bytes a b → AnswersInPart q j kind bytes a b
-other_part (Get keys) i j kind bytes a b apart h = (h.0, other_keys keys i j h.0 apart h.1, h.2)
-other_part (Longest texts) i j kind bytes a b apart h = (h.0, other_keys texts i j h.0 apart h.1, h.2)
-other_part (Listing form prefix) i j kind bytes a b apart h = h
+other_part (LookUp of keys) i j kind bytes a b apart h = (h.0, other_keys keys i j h.0 apart h.1, h.2)
+other_part (Listing form choice limit) i j kind bytes a b apart h = h
 other_part (Code language name) i j kind bytes a b apart h = h
-other_part Report i j kind bytes a b apart h = h
+other_part Verify i j kind bytes a b apart h = h
+other_part (Report form) i j kind bytes a b apart h = h
 other_part (View view) i j kind bytes a b apart h = h
 
 pub same_part : {R : Type 0} (place : Place) (remaining : R → Option (List ℕ)) (old new : Watched R) (q : Question) (kind : TrieKind) (bytes : List ℕ) (a b : Option (List ℕ))
@@ -104,23 +103,29 @@ pub ends_unanswered : (file : TrieFile) (q : Question) (i j : Option (List ℕ))
     → EndsAsk file q i files old new (ask_refusal e)
 ends_unanswered file q i j files held old new TwoInputs read same h = absurd h
 ends_unanswered file q i j files held old new (Unread e) read same h = absurd h
-ends_unanswered file q i j files held old new (NoTrie (BadTag why)) read same h = ((held, read, BadTag why, h.0), h.1)
-ends_unanswered file q i j files held old new (NoTrie (NotWellFormed k f)) read same h = ((held, read, NotWellFormed k f, h.0), h.1)
-ends_unanswered file q i j files held old new (NoTrie OutOfMemory) read same h = inl h.1
-ends_unanswered file q i j files held old new (Unanswered e) read same h = inr (record {
-  held = held;
-  read = read;
-  kind = h.0;
-  bytes = h.1;
-  opens = h.2;
-  begun = same h.0 h.1 h.3;
-})
+ends_unanswered file q i j files held old new (NoTrie (BadTag why) t) read same h = ((held, read, BadTag why, h.0), h.2)
+ends_unanswered file q i j files held old new (NoTrie (Damaged why) t) read same h = ((held, read, Damaged why, h.0), h.2)
+ends_unanswered file q i j files held old new (NoTrie (NotWellFormed k f) t) read same h = ((held, read, NotWellFormed k f, h.0), h.2)
+ends_unanswered file q i j files held old new (NoTrie OutOfMemory t) read same h = inl h.2
+ends_unanswered file q i j files held old new (Unanswered e) read same h = inr (record { held = held; read = read; kind = h.0; bytes = h.1; opens = h.2; begun = same h.0 h.1 h.3 })
+ends_unanswered file q i j files held old new (NotText key) read same h = (key.items, record { held = held; read = read; kind = h.0; bytes = h.1; opens = h.2; shows = h.3 }, h.4)
 
 -- why it has none is so of what was read
 pub reason_unanswered : (file : TrieFile) (q : Question) (i j : Option (List ℕ)) (files : Option Story) (held : List ℕ) (old new : Option (List ℕ)) (e : AskError) → IsRead file.place i files held
     → IsUnanswered file q j held old new e
-    → HasReason file i files e
+    → HasReason file q i files e
 reason_unanswered file q i j files held old new TwoInputs read h = tt
 reason_unanswered file q i j files held old new (Unread e) read h = tt
-reason_unanswered file q i j files held old new (NoTrie why) read h = (held, read, h.0)
+reason_unanswered file q i j files held old new (NoTrie why t) read h = (held, read, h.0, h.1)
 reason_unanswered file q i j files held old new (Unanswered e) read h = tt
+reason_unanswered file q i j files held old new (NotText key) read h = record { held = held; read = read; kind = h.0; bytes = h.1; opens = h.2; shows = h.3 }
+
+-- what is opened and has no answer is unanswered
+pub unanswered_of : (file : TrieFile) (q : Question) (input : Option (List ℕ)) (held : List ℕ) (old new : Option (List ℕ)) (kind : TrieKind) (bytes : List ℕ) (e : AskError) → Opens file held kind bytes
+    → IsNoAnswer q input kind bytes old new e
+    → IsUnanswered file q input held old new e
+unanswered_of file q input held old new kind bytes TwoInputs opens h = h
+unanswered_of file q input held old new kind bytes (Unread e) opens h = h
+unanswered_of file q input held old new kind bytes (NoTrie why t) opens h = absurd h
+unanswered_of file q input held old new kind bytes (NotText key) opens h = (kind, bytes, opens, h.0, h.1)
+unanswered_of file q input held old new kind bytes (Unanswered e) opens h = (kind, bytes, opens, h)

@@ -5,3 +5,5 @@ mod MessageLemmas
 mod ToldLemmas
 mod NoteLemmas
 mod RefusedLemmas
+mod FileLemmas
+mod SpareLemmas

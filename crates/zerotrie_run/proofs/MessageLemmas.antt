@@ -1,6 +1,7 @@
 -- What stands in a text, while more is added to it.
-use Rattle.std.proofs.Common.{◌≡◌, ℕ, ◌≤◌, List, [], ◌∷◌, ◌++◌, length, take, Option, Bool, false, Result, Ok, Err, OnOk, codes, decimal, refl, sym, ◌∙◌, ap, append_assoc, append-nil, subst, arith}
+use Rattle.std.proofs.Common.{◌≡◌, ℕ, ◌≤◌, List, [], ◌∷◌, ◌++◌, length, take, Option, Bool, false, Result, Ok, Err, OnOk, IfOk, Vec, codes, decimal, sym, ◌∙◌, ap, append_assoc, append-nil, subst}
 use Rattle.std.proofs.lemmas.List.{take_all}
+use Rattle.std.specs.Global.{Global}
 use Rattle.std.specs.Io.KnownBytes.{Appends}
 use Rattle.std.proofs.KnownBytes.{Appends-trans}
 use Rattle.zerotrie_making.specs.declared.refused.Shown.{Shown}
@@ -9,7 +10,11 @@ use Rattle.zerotrie_making.specs.declared.refused.NoPair.TheVariants.{Member, It
 use Rattle.zerotrie_making.specs.declared.refused.MakeError.{MakeError}
 use Rattle.zerotrie_making.specs.declared.refused.MakeError.TheVariants.{Line, NotJson, NotPairs, NotPair, Keys, Refused, OutOfMemory}
 use Rattle.zerotrie_run.specs.Told.{told_step}
-use Rattle.zerotrie_run.specs.Messages.{BeginsWithNoDigit, Extends, Names, NamesPairs, Says, SaysKeys, TellsMade, TellsNoPair, told_key}
+use Rattle.zerotrie_run.specs.declared.asking.AskError.{AskError}
+use Rattle.zerotrie_run.specs.declared.asking.AskError.TheVariants as ask
+use Rattle.zerotrie_lines.specs.declared.fault.BadLine.{BadLine}
+use Rattle.zerotrie_lines.specs.declared.fault.BadLine.TheVariants as fault
+use Rattle.zerotrie_run.specs.Messages.{BeginsWithNoDigit, Extends, IsLine, Names, NamesPairs, Says, SaysKeys, TellsMade, TellsAsk, TellsNoPair, told_key, SaysField}
 
 pub extends_both : (a b c : List ℕ) → Extends a b → Extends b c → Extends a c
 extends_both a b c p q = (p.0 ++ q.0, q.1 ∙ ap (λ t. t ++ q.0) p.1 ∙ append_assoc a p.0 q.0)
@@ -56,9 +61,17 @@ no_pair_on : (bad : NoPair) (a b : List ℕ) → TellsNoPair bad a → Extends a
 no_pair_on (Member key) a b h e = says_on a b (told_key key.items) h e
 no_pair_on (Item number) a b h e = names_on a b number h e
 
+-- a field stays told
+pub field_on : (bad : BadLine) (a b : List ℕ) → SaysField bad a → Extends a b → SaysField bad b
+field_on fault.Empty a b h e = tt
+field_on fault.NoTab a b h e = tt
+field_on fault.Escape a b h e = tt
+field_on (fault.Value v) a b h e = says_on a b (told_key v.front.items) h e
+field_on fault.Fields a b h e = tt
+
 -- why no file is made stays told
 pub made_on : (why : MakeError) (a b : List ℕ) → TellsMade why a → Extends a b → TellsMade why b
-made_on (Line number bad) a b h e = names_on a b number h e
+made_on (Line number bad) a b h e = (names_on a b number h.0 e, field_on bad a b h.1 e)
 made_on (NotJson line column) a b h e = (names_on a b line h.0 e, names_on a b column h.1 e)
 made_on NotPairs a b h e = tt
 made_on (NotPair bad) a b h e = no_pair_on bad a b h e
@@ -93,3 +106,9 @@ join_three r m w a b d one two three = ap (λ x. x ++ (m ++ w)) one ∙ ap (λ x
 pub keys_after : {E : Type 0} (r : Result (Unit {0}) E) (s : Shown) (text : List ℕ) → OnOk r (Says text (told_key s.first.key.items)) → OnOk r (Says text (told_key s.second.key.items)) → OnOk r (SaysKeys s text)
 keys_after (Ok u) s text one two = (λ _. one, λ _ _. two)
 keys_after (Err e) s text one two = tt
+
+-- a line that says the key tells that it is not text
+pub tells_not_text : {T E : Type 0} (items : T → List ℕ) (r : Result T E) (key : Vec ℕ Global) (now : List ℕ) (error : AskError) → error ≡ ask.NotText key → now ≡ key.items
+    → IfOk r (λ t. IsLine (items t)) → IfOk r (λ t. Says (items t) (told_key now)) → IfOk r (λ t. TellsAsk error (items t))
+tells_not_text items (Ok t) key now error is same line says = subst (λ e. TellsAsk e (items t)) (sym is) (line, subst (λ n. Says (items t) (told_key n)) same says)
+tells_not_text items (Err e) key now error is same line says = tt

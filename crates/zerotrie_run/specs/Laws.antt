@@ -1,62 +1,65 @@
 -- A trie file is made, and then opened.
-use Rattle.std.specs.Prelude.{◌≡◌, ◌⊎◌, ℕ, List, Option, Some, None, Bool, true, false}
+use Rattle.std.specs.Prelude.{◌≡◌, ◌⊎◌, ◌≤◌, ℕ, List, Option, Some, None}
 use Rattle.zerotrie_core.specs.Kind.{Kind}
 use Rattle.zerotrie_core.specs.Maps.{Pairs, map_of}
 use Rattle.zerotrie_core.specs.Texts.{Means}
 use Rattle.zerotrie_core.specs.Kinds.{kind_of}
 use Rattle.zerotrie_core.specs.declared.TrieKind.{TrieKind}
 use Rattle.zerotrie_files.specs.Disks.{Story}
-use Rattle.zerotrie_making.specs.Plans.{kind_for, file_of}
+use Rattle.zerotrie_making.specs.Plans.{kind_for, IsFormOf}
+use Rattle.zerotrie_making.specs.Kept.{kept}
 use Rattle.zerotrie_making.specs.Made.{IsFile, OfInput}
+use Rattle.zerotrie_making.specs.declared.making.FileForm.{FileForm}
+use Rattle.zerotrie_making.specs.declared.making.FileForm.TheVariants as form
 use Rattle.zerotrie_run.specs.Runs.{World, IsRead, Opens, HasNoTrie, IsMade, RunsAsk, RunsBuild}
 use Rattle.zerotrie_run.specs.Statuses.{number_of}
 use Rattle.zerotrie_run.specs.declared.status.Status.{Status}
-use Rattle.zerotrie_run.specs.declared.status.Status.TheVariants.{Refused, BadUsage, BadInput}
+use Rattle.zerotrie_run.specs.declared.status.Status.TheVariants.{Refused, Taken, BadUsage, BadInput}
 use Rattle.zerotrie_run.specs.declared.command.Question.{Question}
 use Rattle.zerotrie_run.specs.declared.command.Place.TheVariants.{Stream}
 use Rattle.zerotrie_run.specs.declared.command.TrieFile.{TrieFile}
 use Rattle.zerotrie_run.specs.declared.command.Build.{Build}
 
--- a file is named as it was made: its kind is named if it is bare bytes of that kind, and none is if the number of the kind
--- stands in front
-abbrev pub IsNamedAsMade : Bool → Kind → Option TrieKind → Type 0
-IsNamedAsMade true kind named = (k : TrieKind) × (named ≡ Some k) × (kind_of k ≡ kind)
-IsNamedAsMade false kind named = named ≡ None
+-- a file is named as it was made: its kind is named if it is bare bytes of that kind, and none is if the file says it
+abbrev pub IsNamedAsMade : FileForm → Kind → Option TrieKind → Type 0
+IsNamedAsMade form.Sealed kind named = named ≡ None
+IsNamedAsMade form.Tagged kind named = named ≡ None
+IsNamedAsMade form.Bare kind named = (k : TrieKind) × (named ≡ Some k) × (kind_of k ≡ kind)
 
 -- A file is not refused, and what is opened of it are the bytes that were made, which mean the map of the pairs.
-pub record OpensAsMade (file : TrieFile) (input : Option (List ℕ)) (files : Option Story) (bare : Bool) (kind : Kind) (pairs : Pairs) (made : List ℕ) : Type 0 where
+pub record OpensAsMade (file : TrieFile) (input : Option (List ℕ)) (files : Option Story) (of : FileForm) (kind : Kind) (pairs : Pairs) (made : List ℕ) : Type 0 where
   pub taken : HasNoTrie file input files → ⊥
   pub opened : (held : List ℕ) (k : TrieKind) (bytes : List ℕ) → IsRead file.place input files held → Opens file held k bytes
-      → (kind_of k ≡ kind) × (made ≡ file_of bare kind bytes) × Means kind bytes (map_of pairs)
+      → (kind_of k ≡ kind) × IsFormOf of kind bytes made × Means kind bytes (map_of pairs)
 
 -- what is opened of the file that a build made is the trie of the pairs that the build read, if the file is named as it was made; so
 -- each question to it is answered by them
 abbrev pub MadeOpens : Type 0
 MadeOpens = (build : Build) (input : Option (List ℕ)) (before after : World) (held files : Story) → before.files ≡ Some held → after.files ≡ Some files
     → (made : IsMade build input before after) (file : TrieFile) (stdin : Option (List ℕ)) → (build.to ≡ Stream → ⊥) → file.place ≡ build.to
-    → OfInput build.plan made.all (λ pairs. IsNamedAsMade build.plan.bare (kind_for build.plan.kind pairs) file.kind
-    → OpensAsMade file stdin after.files build.plan.bare (kind_for build.plan.kind pairs) pairs made.file)
+    → OfInput build.plan made.all (λ given. let pairs = kept build.plan.duplicates given in IsNamedAsMade build.plan.form (kind_for build.plan.kind pairs) file.bare
+    → OpensAsMade file stdin after.files build.plan.form (kind_for build.plan.kind pairs) pairs made.file)
 
 -- the file that is read has a trie, which is opened
 abbrev pub HasTrie : TrieFile → List ℕ → Story → Type 0
 HasTrie file input files = (held : List ℕ) × IsRead file.place (Some input) (Some files) held × (kind : TrieKind) × (bytes : List ℕ) × Opens file held kind bytes
 
--- A question to a file that is tested is refused as bad input only if the file has no trie; and if it has none, that is how it ends,
+-- A question to a file that is not taken without a test is refused as bad input only if the file has no trie; and if it has none, that is how it ends,
 -- unless the usage is bad or something failed.
 pub record IsRefusedExactly (file : TrieFile) (input : List ℕ) (files : Story) (status : Status) : Type 0 where
   pub only : status ≡ BadInput → HasTrie file input files → ⊥
-  pub always : (HasTrie file input files → ⊥) → (status ≡ BadInput) ⊎ (status ≡ BadUsage) ⊎ (number_of status ≡ 3)
+  pub always : (HasTrie file input files → ⊥) → (status ≡ BadInput) ⊎ (status ≡ BadUsage) ⊎ (3 ≤ number_of status)
 
 -- so each question ends, over files and an input that are known
 abbrev pub RefusedExactly : Type 0
-RefusedExactly = (file : TrieFile) (question : Question) (input : List ℕ) (files : Story) (old new : Option (List ℕ)) (status : Status) → file.trust ≡ false
+RefusedExactly = (file : TrieFile) (question : Question) (input : List ℕ) (files : Story) (old new : Option (List ℕ)) (status : Status)
     → RunsAsk file question (Some input) (Some files) old new status → IsRefusedExactly file input files status
 
 -- the input that is read makes a file
 abbrev pub MakesFile : Build → List ℕ → Story → Type 0
 MakesFile build input files = (all : List ℕ) × IsRead build.from (Some input) (Some files) all × (file : List ℕ) × IsFile build.plan all file
 
--- a build whose input makes no file is refused, unless something failed
+-- a build whose input makes no file is refused, if its file is not there and to be left as it is, unless something failed
 abbrev pub UnmadeIsRefused : Type 0
 UnmadeIsRefused = (build : Build) (input : List ℕ) (files : Story) (before after : World) (status : Status) → before.files ≡ Some files
-    → RunsBuild build (Some input) before after status → (MakesFile build input files → ⊥) → (status ≡ Refused) ⊎ (status ≡ BadInput) ⊎ (number_of status ≡ 3)
+    → RunsBuild build (Some input) before after status → (MakesFile build input files → ⊥) → (status ≡ Refused) ⊎ (status ≡ Taken) ⊎ (status ≡ BadInput) ⊎ (3 ≤ number_of status)

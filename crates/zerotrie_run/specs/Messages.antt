@@ -1,8 +1,10 @@
 -- What messages on standard error say.
-use Rattle.std.specs.Prelude.{◌≡◌, ◌≢◌, ◌⊎◌, ◌<◌, ℕ, List, [], ◌∷◌, ◌++◌, take, codes, decimal}
+use Rattle.std.specs.Prelude.{◌≡◌, ◌≢◌, ◌⊎◌, ◌<◌, ℕ, List, [], ◌∷◌, ◌++◌, Bool, true, take, codes, decimal}
 use Rattle.zerotrie_core.specs.declared.ZeroTrieBuildError.TheVariants as cause
 use Rattle.zerotrie_core.specs.Faults.{rule_text}
 use Rattle.zerotrie_lines.specs.Escapes.{escaped}
+use Rattle.zerotrie_lines.specs.declared.fault.BadLine.{BadLine}
+use Rattle.zerotrie_lines.specs.declared.fault.BadLine.TheVariants as bad
 use Rattle.zerotrie_queries.specs.declared.file.OpenError.{OpenError}
 use Rattle.zerotrie_queries.specs.declared.file.OpenError.TheVariants as unopened
 use Rattle.zerotrie_making.specs.declared.refused.NoPair.{NoPair}
@@ -54,9 +56,17 @@ abbrev pub TellsNoPair : NoPair → List ℕ → Type 0
 TellsNoPair (Member key) text = Says text (told_key key.items)
 TellsNoPair (Item number) text = Names text number
 
+-- a field that is no value stands in a text: what it begins with
+abbrev pub SaysField : BadLine → List ℕ → Type 0
+SaysField bad.Empty text = Unit {0}
+SaysField bad.NoTab text = Unit {0}
+SaysField bad.Escape text = Unit {0}
+SaysField (bad.Value v) text = Says text (told_key v.front.items)
+SaysField bad.Fields text = Unit {0}
+
 -- a message tells why no file is made, with the number of the line or pair, the place in the text, or the numbers and keys of the pairs
 abbrev pub TellsMade : MakeError → List ℕ → Type 0
-TellsMade (made.Line number bad) text = Names text number
+TellsMade (made.Line number bad) text = Names text number × SaysField bad text
 TellsMade (made.NotJson line column) text = Names text line × Names text column
 TellsMade made.NotPairs text = Unit {0}
 TellsMade (made.NotPair bad) text = TellsNoPair bad text
@@ -64,24 +74,28 @@ TellsMade (made.Keys s) text = NamesPairs s text × SaysKeys s text
 TellsMade (made.Refused e) text = Unit {0}
 TellsMade made.OutOfMemory text = Unit {0}
 
--- a message tells why a file has no trie, with the rule and the place of the first fault
-abbrev pub TellsNoTrie : OpenError → List ℕ → Type 0
-TellsNoTrie (unopened.BadTag why) text = Unit {0}
-TellsNoTrie (unopened.NotWellFormed kind first) text = Says text (rule_text first.cause) × Names text first.place
-TellsNoTrie unopened.OutOfMemory text = Unit {0}
+-- a message tells why a file has no trie, by whether it looks like text: that it does, or the rule and the place of the first fault
+abbrev pub TellsNoTrie : OpenError → Bool → List ℕ → Type 0
+TellsNoTrie (unopened.BadTag why) is_text text = is_text ≡ true → Says text (codes "it looks like text: build it first")
+TellsNoTrie (unopened.Damaged why) is_text text = Unit {0}
+TellsNoTrie (unopened.NotWellFormed kind first) is_text text = Says text (rule_text first.cause) × Names text first.place
+TellsNoTrie unopened.OutOfMemory is_text text = Unit {0}
 
 -- a message tells why a question has no answer
 abbrev pub TellsAsk : AskError → List ℕ → Type 0
 TellsAsk ask.TwoInputs text = IsLine text
 TellsAsk (ask.Unread e) text = IsLine text
-TellsAsk (ask.NoTrie why) text = IsLine text × TellsNoTrie why text
+TellsAsk (ask.NoTrie why is_text) text = IsLine text × TellsNoTrie why is_text text
 TellsAsk (ask.Unanswered e) text = IsLine text
+TellsAsk (ask.NotText key) text = IsLine text × Says text (told_key key.items)
 
 -- a message tells why no file was made or written
 abbrev pub TellsBuild : BuildError → List ℕ → Type 0
 TellsBuild (build.Unread e) text = IsLine text
 TellsBuild (build.NotMade e) text = IsLine text × TellsMade e text
 TellsBuild (build.Unwritten e) text = IsLine text
+TellsBuild build.Taken text = IsLine text
+TellsBuild (build.Unfound e) text = IsLine text
 
 -- what is told of a step of a build: its place, what was done there, and to how many bytes
 abbrev pub step_line : List ℕ → List ℕ → ℕ → List ℕ

@@ -1,24 +1,27 @@
 -- What each command prints, what it leaves in files, and how it ends.
 use Rattle.std.specs.Prelude.{◌≡◌, ◌≢◌, ◌⊎◌, ℕ, List, [], Option, Some, None, IfSome, Result, Ok, Err, Bool, true, false, is_none, map, codes}
-use Rattle.std.specs.Io.KnownBytes.{Appends}
+use Rattle.std.specs.Io.KnownBytes.{Appends, Keeps}
 use Rattle.std.specs.Io.Buffered.{writer_buffer}
 use Rattle.std.specs.declared.io.buffered.BufWriter.{BufWriter}
 use Rattle.zerotrie_core.specs.WellFormed.{IsWellFormed}
 use Rattle.zerotrie_lines.specs.Lines.{lines_of}
 use Rattle.zerotrie_any.specs.Tagged.{tagged}
 use Rattle.zerotrie_core.specs.Kinds.{kind_of}
-use Rattle.zerotrie_queries.specs.Files.{Holds, HasNoKind, Explains}
+use Rattle.zerotrie_core.specs.Faults.{IsFirstFault}
+use Rattle.zerotrie_queries.specs.Files.{Holds, IsOpened, HasNoKind, IsDamaged, IsUnknown, Explains}
+use Rattle.zerotrie_queries.specs.Texts.{looks_like_text}
 use Rattle.zerotrie_core.specs.declared.TrieKind.{TrieKind}
 use Rattle.zerotrie_queries.specs.declared.file.OpenError.{OpenError}
 use Rattle.zerotrie_queries.specs.declared.file.OpenError.TheVariants as unopened
 use Rattle.zerotrie_files.specs.Parts.{AppendsPart}
-use Rattle.zerotrie_queries.specs.Answers.{AreAnswered, AreAnsweredInPart, AreListed, AreListedInPart}
+use Rattle.zerotrie_queries.specs.Answers.{AreAnswered, AreAnsweredInPart}
+use Rattle.zerotrie_queries.specs.Chosen.{chosen}
+use Rattle.zerotrie_queries.specs.Listed.{AreListed, AreListedInPart, AreNoText}
 use Rattle.zerotrie_queries.specs.declared.lookups.Asked.{Asked}
-use Rattle.zerotrie_queries.specs.declared.lookups.Asked.TheVariants as asked
 use Rattle.zerotrie_queries.specs.code.Code.{code}
 use Rattle.zerotrie_queries.specs.views.Views.{shown}
 use Rattle.zerotrie_queries.specs.reports.Reports.{report_of}
-use Rattle.zerotrie_queries.specs.reports.Lines.{report_lines}
+use Rattle.zerotrie_queries.specs.reports.Forms.{reported}
 use Rattle.zerotrie_files.specs.Disks.{Story, Known}
 use Rattle.zerotrie_files.specs.Stores.{WasReplaced, WasKept}
 use Rattle.zerotrie_making.specs.Made.{IsFile}
@@ -26,13 +29,15 @@ use Rattle.zerotrie_making.specs.Made as made
 use Rattle.zerotrie_making.specs.declared.refused.MakeError.{MakeError}
 use Rattle.zerotrie_run.specs.Statuses.{made_refusal}
 use Rattle.zerotrie_run.specs.declared.status.Status.{Status}
-use Rattle.zerotrie_run.specs.declared.status.Status.TheVariants.{Done, Absent, Refused, BadUsage, BadInput, Unread, Unwritten, OutOfMemory}
+use Rattle.zerotrie_run.specs.declared.status.Status.TheVariants.{Done, Absent, Refused, Taken, BadUsage, BadInput, Unread, Unwritten, OutOfMemory, Closed}
 use Rattle.zerotrie_run.specs.declared.command.Place.{Place}
 use Rattle.zerotrie_run.specs.declared.command.Place.TheVariants.{File, Stream}
 use Rattle.zerotrie_run.specs.declared.command.Keys.{Keys}
 use Rattle.zerotrie_run.specs.declared.command.Keys.TheVariants.{Words, Lines}
 use Rattle.zerotrie_run.specs.declared.command.Question.{Question}
-use Rattle.zerotrie_run.specs.declared.command.Question.TheVariants.{Get, Longest, List as Listing, Code, Report, View}
+use Rattle.zerotrie_run.specs.declared.command.Question.TheVariants.{LookUp, List as Listing, Code, Report, Verify, View}
+use Rattle.zerotrie_run.specs.declared.command.Check.{Check}
+use Rattle.zerotrie_run.specs.declared.command.Check.TheVariants as check
 use Rattle.zerotrie_run.specs.declared.command.TrieFile.{TrieFile}
 use Rattle.zerotrie_run.specs.declared.command.Build.{Build}
 use Rattle.zerotrie_run.specs.declared.asking.AskError.{AskError}
@@ -93,22 +98,43 @@ are_lines Lines = true
 
 -- whether the keys of a question are
 abbrev pub of_lines : Question → Bool
-of_lines (Get keys) = are_lines keys
-of_lines (Longest texts) = are_lines texts
-of_lines (Listing form prefix) = false
+of_lines (LookUp asked keys) = are_lines keys
+of_lines (Listing form choice limit) = false
 of_lines (Code language name) = false
-of_lines Report = false
+of_lines (Report form) = false
+of_lines Verify = false
 of_lines (View view) = false
 
--- the bytes of this kind that a file has; they mean a map, unless they are taken for a trie without a test
-abbrev pub Opens : TrieFile → List ℕ → TrieKind → List ℕ → Type 0
-Opens file all kind bytes = Holds file.kind all kind bytes × (file.trust ≡ false → IsWellFormed (kind_of kind) bytes)
+-- a file has these bytes of this kind, and what a test of it shows: that they were sealed or mean a map, or in full that they mean one
+abbrev pub OpensBy : Check → Option TrieKind → List ℕ → TrieKind → List ℕ → Type 0
+OpensBy check.Skip named all kind bytes = Holds named all kind bytes
+OpensBy check.Usual named all kind bytes = IsOpened named all kind bytes
+OpensBy check.Full named all kind bytes = Holds named all kind bytes × IsWellFormed (kind_of kind) bytes
 
--- why what a file holds is not opened: its kind is not known, or it is tested, and its bytes are no trie
+-- the bytes of this kind that a file has
+abbrev pub Opens : TrieFile → List ℕ → TrieKind → List ℕ → Type 0
+Opens file all kind bytes = OpensBy file.check file.bare all kind bytes
+
+-- a file has bytes of this kind that mean no map of it
+abbrev pub IsUnsound : Option TrieKind → List ℕ → TrieKind → List ℕ → Type 0
+IsUnsound named all kind bytes = Holds named all kind bytes × (IsWellFormed (kind_of kind) bytes → ⊥)
+
+-- why a file has no trie in full: its kind is not known, it is damaged, or its bytes mean no map, and this is their first fault, if
+-- memory for its search was there
+abbrev pub ExplainsInFull : Option TrieKind → List ℕ → OpenError → Type 0
+ExplainsInFull named all (unopened.BadTag why) = HasNoKind named all why
+ExplainsInFull named all (unopened.Damaged why) = IsDamaged named all why
+ExplainsInFull named all (unopened.NotWellFormed kind fault) = (bytes : List ℕ) × IsUnsound named all kind bytes × IsFirstFault (kind_of kind) bytes fault
+ExplainsInFull named all unopened.OutOfMemory = (kind : TrieKind) × (bytes : List ℕ) × IsUnsound named all kind bytes
+
+-- why what a file holds is not opened, by how it is tested
+abbrev pub IsUnopenedBy : Check → Option TrieKind → List ℕ → OpenError → Type 0
+IsUnopenedBy check.Skip named all why = IsUnknown named all why
+IsUnopenedBy check.Usual named all why = Explains named all why
+IsUnopenedBy check.Full named all why = ExplainsInFull named all why
+
 abbrev pub IsUnopened : TrieFile → List ℕ → OpenError → Type 0
-IsUnopened file all (unopened.BadTag why) = HasNoKind file.kind all why
-IsUnopened file all (unopened.NotWellFormed kind fault) = (file.trust ≡ false) × Explains file.kind all (unopened.NotWellFormed kind fault)
-IsUnopened file all unopened.OutOfMemory = (file.trust ≡ false) × Explains file.kind all unopened.OutOfMemory
+IsUnopened file all why = IsUnopenedBy file.check file.bare all why
 
 -- what was printed, and whether all was found, belong to the keys and to the map that the bytes mean, if they mean one
 abbrev pub KeysAnswered : Asked → Keys → (input : Option (List ℕ)) → TrieKind → List ℕ → (old new : Option (List ℕ)) → Bool → Type 0
@@ -116,11 +142,11 @@ KeysAnswered of keys input kind bytes old new all = (ks : List (List ℕ)) × Ar
 
 -- what was printed, and whether all was found, belong to the question and to bytes of this kind
 abbrev pub Answers : Question → (input : Option (List ℕ)) → TrieKind → List ℕ → (old new : Option (List ℕ)) → Bool → Type 0
-Answers (Get keys) input kind bytes old new all = KeysAnswered asked.Value keys input kind bytes old new all
-Answers (Longest texts) input kind bytes old new all = KeysAnswered asked.Longest texts input kind bytes old new all
-Answers (Listing form prefix) input kind bytes old new all = (all ≡ true) × AreListed form prefix.now kind bytes old new
+Answers (LookUp asked keys) input kind bytes old new all = KeysAnswered asked keys input kind bytes old new all
+Answers (Listing form choice limit) input kind bytes old new all = (all ≡ true) × AreListed form (chosen kind choice) limit kind bytes old new
 Answers (Code language name) input kind bytes old new all = (all ≡ true) × Appends old new (code language kind name.now bytes)
-Answers Report input kind bytes old new all = (all ≡ true) × Appends old new (report_lines (report_of kind bytes))
+Answers Verify input kind bytes old new all = (all ≡ true) × Keeps old new
+Answers (Report form) input kind bytes old new all = (all ≡ true) × Appends old new (reported form (report_of kind bytes))
 Answers (View view) input kind bytes old new all = (all ≡ true) × Appends old new (shown view kind bytes)
 
 -- a beginning of what belongs to the keys and to the map that the bytes mean, if they mean one, was printed
@@ -129,12 +155,30 @@ KeysAnsweredInPart of keys input kind bytes old new = (ks : List (List ℕ)) × 
 
 -- a beginning of what belongs to the question and to bytes of this kind was printed
 abbrev pub AnswersInPart : Question → (input : Option (List ℕ)) → TrieKind → List ℕ → (old new : Option (List ℕ)) → Type 0
-AnswersInPart (Get keys) input kind bytes old new = KeysAnsweredInPart asked.Value keys input kind bytes old new
-AnswersInPart (Longest texts) input kind bytes old new = KeysAnsweredInPart asked.Longest texts input kind bytes old new
-AnswersInPart (Listing form prefix) input kind bytes old new = AreListedInPart form prefix.now kind bytes old new
+AnswersInPart (LookUp asked keys) input kind bytes old new = KeysAnsweredInPart asked keys input kind bytes old new
+AnswersInPart (Listing form choice limit) input kind bytes old new = AreListedInPart form (chosen kind choice) limit kind bytes old new
 AnswersInPart (Code language name) input kind bytes old new = AppendsPart old new (code language kind name.now bytes)
-AnswersInPart Report input kind bytes old new = AppendsPart old new (report_lines (report_of kind bytes))
+AnswersInPart Verify input kind bytes old new = Keeps old new
+AnswersInPart (Report form) input kind bytes old new = AppendsPart old new (reported form (report_of kind bytes))
 AnswersInPart (View view) input kind bytes old new = AppendsPart old new (shown view kind bytes)
+
+-- the pairs that are asked for can't be printed so: this is the first of their keys that is not UTF-8
+abbrev pub IsUnprintable : Question → TrieKind → List ℕ → List ℕ → Type 0
+IsUnprintable (LookUp asked keys) kind bytes key = ⊥
+IsUnprintable (Listing form choice limit) kind bytes key = AreNoText form (chosen kind choice) limit kind bytes key
+IsUnprintable (Code language name) kind bytes key = ⊥
+IsUnprintable Verify kind bytes key = ⊥
+IsUnprintable (Report form) kind bytes key = ⊥
+IsUnprintable (View view) kind bytes key = ⊥
+
+-- why there is no answer, or not all of it: the pairs can't be printed so, and nothing was; or something failed, and a beginning of
+-- the answer was printed
+abbrev pub IsNoAnswer : Question → (input : Option (List ℕ)) → TrieKind → List ℕ → (old new : Option (List ℕ)) → AskError → Type 0
+IsNoAnswer question input kind bytes old new ask.TwoInputs = ⊥
+IsNoAnswer question input kind bytes old new (ask.Unread e) = ⊥
+IsNoAnswer question input kind bytes old new (ask.NoTrie why is_text) = ⊥
+IsNoAnswer question input kind bytes old new (ask.Unanswered e) = AnswersInPart question input kind bytes old new
+IsNoAnswer question input kind bytes old new (ask.NotText key) = IsUnprintable question kind bytes key.items × (new ≡ old)
 
 -- The trie of a file was asked: what was read, its bytes and their kind, and the answer.
 pub record IsAsked (file : TrieFile) (question : Question) (input : Option (List ℕ)) (files : Option Story) (old new : Option (List ℕ)) (all : Bool) : Type 0 where
@@ -158,11 +202,21 @@ pub record IsAskedInPart (file : TrieFile) (question : Question) (input : Option
 abbrev pub HasNoTrie : TrieFile → Option (List ℕ) → Option Story → Type 0
 HasNoTrie file input files = (held : List ℕ) × IsRead file.place input files held × (why : OpenError) × IsUnopened file held why
 
--- what a file holds has no answer: it has no trie, and nothing was printed; or it has one, and a beginning of the answer was printed
+-- The trie of a file was asked for pairs that can't be printed so, and nothing was.
+pub record IsUnprinted (file : TrieFile) (question : Question) (input : Option (List ℕ)) (files : Option Story) (key : List ℕ) : Type 0 where
+  pub held : List ℕ
+  pub read : IsRead file.place input files held
+  pub kind : TrieKind
+  pub bytes : List ℕ
+  pub opens : Opens file held kind bytes
+  pub shows : IsUnprintable question kind bytes key
+
+-- what a file holds has no answer: it has no trie, and nothing was printed; or it has one, and there is no answer, or not all of it
 abbrev pub IsUnanswered : TrieFile → Question → (input : Option (List ℕ)) → List ℕ → (old new : Option (List ℕ)) → AskError → Type 0
 IsUnanswered file question input held old new ask.TwoInputs = ⊥
 IsUnanswered file question input held old new (ask.Unread e) = ⊥
-IsUnanswered file question input held old new (ask.NoTrie why) = IsUnopened file held why × (new ≡ old)
+IsUnanswered file question input held old new (ask.NoTrie why is_text) = IsUnopened file held why × (is_text ≡ looks_like_text held) × (new ≡ old)
+IsUnanswered file question input held old new (ask.NotText key) = (kind : TrieKind) × (bytes : List ℕ) × Opens file held kind bytes × IsUnprintable question kind bytes key.items × (new ≡ old)
 IsUnanswered file question input held old new (ask.Unanswered e) = (kind : TrieKind) × (bytes : List ℕ) × Opens file held kind bytes × AnswersInPart question input kind bytes old new
 
 -- a question to the trie of a file failed: nothing was printed, or the file has a trie and a beginning of the answer was
@@ -170,16 +224,18 @@ abbrev pub FailsAsk : TrieFile → Question → Option (List ℕ) → Option Sto
 FailsAsk file question input files old new = (new ≡ old) ⊎ IsAskedInPart file question input files old new
 
 -- How a question to the trie of a file ends. The answer was printed, and all was found or not; the file and the keys are
--- both standard input; the file has no trie; or something failed.
+-- both standard input; the file has no trie; its pairs can't be printed so; or something failed.
 abbrev pub RunsAsk : TrieFile → Question → Option (List ℕ) → Option Story → (old new : Option (List ℕ)) → Status → Type 0
 RunsAsk file question input files old new Done = IsAsked file question input files old new true
 RunsAsk file question input files old new Absent = IsAsked file question input files old new false
-RunsAsk file question input files old new Refused = ⊥
+RunsAsk file question input files old new Refused = (key : List ℕ) × IsUnprinted file question input files key × (new ≡ old)
+RunsAsk file question input files old new Taken = ⊥
 RunsAsk file question input files old new BadUsage = (file.place ≡ Stream) × (of_lines question ≡ true) × (new ≡ old)
 RunsAsk file question input files old new BadInput = HasNoTrie file input files × (new ≡ old)
 RunsAsk file question input files old new Unread = FailsAsk file question input files old new
 RunsAsk file question input files old new Unwritten = FailsAsk file question input files old new
 RunsAsk file question input files old new OutOfMemory = FailsAsk file question input files old new
+RunsAsk file question input files old new Closed = FailsAsk file question input files old new
 
 -- the same, if only that something failed is known
 abbrev pub EndsAsk : TrieFile → Question → Option (List ℕ) → Option Story → (old new : Option (List ℕ)) → Option Status → Type 0
@@ -190,9 +246,11 @@ EndsAsk file question input files old new (Some status) = RunsAsk file question 
 abbrev pub ask_refusal : AskError → Option Status
 ask_refusal ask.TwoInputs = Some BadUsage
 ask_refusal (ask.Unread e) = None
-ask_refusal (ask.NoTrie (unopened.BadTag why)) = Some BadInput
-ask_refusal (ask.NoTrie (unopened.NotWellFormed kind fault)) = Some BadInput
-ask_refusal (ask.NoTrie unopened.OutOfMemory) = None
+ask_refusal (ask.NoTrie (unopened.BadTag why) is_text) = Some BadInput
+ask_refusal (ask.NoTrie (unopened.Damaged why) is_text) = Some BadInput
+ask_refusal (ask.NoTrie (unopened.NotWellFormed kind fault) is_text) = Some BadInput
+ask_refusal (ask.NoTrie unopened.OutOfMemory is_text) = None
+ask_refusal (ask.NotText key) = Some Refused
 ask_refusal (ask.Unanswered e) = None
 
 -- the same of a question that may have been answered
@@ -204,6 +262,24 @@ asked_refusal (Err e) = ask_refusal e
 abbrev pub ask_fails : Result Bool AskError → Bool
 ask_fails (Ok all) = false
 ask_fails (Err e) = is_none (ask_refusal e)
+
+-- there is a file at a place
+abbrev pub IsThere : Place → Option Story → Type 0
+IsThere (File path) files = IfSome files (λ known. known.now path.now ≢ None)
+IsThere Stream files = ⊥
+
+-- there is none
+abbrev pub IsFree : Place → Option Story → Type 0
+IsFree (File path) files = IfSome files (λ known. known.now path.now ≡ None)
+IsFree Stream files = Unit {0}
+
+-- the file to make is there already and is to be left as it is, and nothing was touched
+abbrev pub IsSpared : Build → World → World → Type 0
+IsSpared build before after = (build.no_clobber ≡ true) × IsThere build.to before.files × Untouched before after
+
+-- there was no file before if it was to be left as it is
+abbrev pub IsFresh : Build → Option Story → Type 0
+IsFresh build files = build.no_clobber ≡ true → IsFree build.to files
 
 -- The file of a trie was made: what was read, and the file that was written.
 pub record IsMade (build : Build) (input : Option (List ℕ)) (before after : World) : Type 0 where
@@ -238,14 +314,16 @@ FailsBuild build input before after = Untouched before after ⊎ IsUnwritten bui
 
 -- How a build ends. The file was made; its keys are refused, or its input is no pairs; or something failed.
 abbrev pub RunsBuild : Build → Option (List ℕ) → World → World → Status → Type 0
-RunsBuild build input before after Done = IsMade build input before after
+RunsBuild build input before after Done = IsMade build input before after × IsFresh build before.files
 RunsBuild build input before after Absent = ⊥
 RunsBuild build input before after Refused = IsRefused build input before after Refused
+RunsBuild build input before after Taken = IsSpared build before after
 RunsBuild build input before after BadUsage = ⊥
 RunsBuild build input before after BadInput = IsRefused build input before after BadInput
 RunsBuild build input before after Unread = FailsBuild build input before after
 RunsBuild build input before after Unwritten = FailsBuild build input before after
 RunsBuild build input before after OutOfMemory = FailsBuild build input before after
+RunsBuild build input before after Closed = FailsBuild build input before after
 
 -- the same, if only that something failed is known
 abbrev pub EndsBuild : Build → Option (List ℕ) → World → World → Option Status → Type 0
@@ -257,6 +335,16 @@ abbrev pub build_refusal : BuildError → Option Status
 build_refusal (build.Unread e) = None
 build_refusal (build.NotMade e) = made_refusal e
 build_refusal (build.Unwritten e) = None
+build_refusal build.Taken = Some Taken
+build_refusal (build.Unfound e) = None
+
+-- why a build is not begun: its file is there already and is to be left as it is, or that can't be found out
+abbrev pub IsNotBegun : Build → Option Story → BuildError → Type 0
+IsNotBegun b files (build.Unread e) = ⊥
+IsNotBegun b files (build.NotMade e) = ⊥
+IsNotBegun b files (build.Unwritten e) = ⊥
+IsNotBegun b files build.Taken = (b.no_clobber ≡ true) × IsThere b.to files
+IsNotBegun b files (build.Unfound e) = Unit {0}
 
 -- whether a build failed: a file was neither made nor refused
 abbrev pub build_fails : {A : Type 0} → Result A BuildError → Bool
@@ -270,7 +358,7 @@ HasNumberToo (Some named) held = (kind : TrieKind) × (rest : List ℕ) × (held
 
 -- what is read of the file does
 abbrev pub IsDoubtful : TrieFile → Option (List ℕ) → Option Story → Type 0
-IsDoubtful file input files = (held : List ℕ) × IsRead file.place input files held × HasNumberToo file.kind held
+IsDoubtful file input files = (held : List ℕ) × IsRead file.place input files held × HasNumberToo file.bare held
 
 -- a command reads such a file, which is told
 abbrev pub TellsNumber : Command → Option (List ℕ) → Option Story → Type 0

@@ -1,5 +1,5 @@
 -- What was answered of an input that could not be read to its end.
-use Rattle.std.specs.Prelude.{◌≡◌, ℕ, List, ◌++◌, Option, Bool, ◌⊎◌}
+use Rattle.std.specs.Prelude.{ℕ, List, ◌++◌, Option, Bool, ◌⊎◌}
 use Rattle.std.specs.Io.KnownBytes.{Consumes}
 use Rattle.zerotrie_core.specs.declared.TrieKind.{TrieKind}
 use Rattle.zerotrie_files.specs.Faults.{IsOutOfMemory}

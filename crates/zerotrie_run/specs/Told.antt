@@ -1,22 +1,24 @@
 -- What is told of a run on standard error.
-use Rattle.std.specs.Prelude.{◌≡◌, ℕ, List, [], ◌∷◌, ◌++◌, length, Option, Some, None, Bool, true, false, Result, Ok, Err, Vec, codes}
+use Rattle.std.specs.Prelude.{◌≡◌, ℕ, List, [], ◌++◌, length, Option, Some, Bool, true, false, Result, Ok, Err, Vec, codes}
 use Rattle.std.specs.Io.KnownBytes.{Appends}
 use Rattle.zerotrie_files.specs.Disks.{Story}
 use Rattle.zerotrie_queries.specs.declared.file.OpenError.{OpenError}
+use Rattle.zerotrie_queries.specs.Texts.{looks_like_text}
 use Rattle.zerotrie_making.specs.Made.{IsFile}
 use Rattle.zerotrie_making.specs.Made as made
 use Rattle.zerotrie_making.specs.declared.refused.MakeError.{MakeError}
 use Rattle.zerotrie_run.specs.Statuses.{made_refusal}
-use Rattle.zerotrie_run.specs.Messages.{IsLine, TellsMade, TellsNoTrie, step_line}
-use Rattle.zerotrie_run.specs.Runs.{IsRead, IsUnopened, HasNumberToo}
+use Rattle.zerotrie_run.specs.Messages.{IsLine, Says, TellsMade, TellsNoTrie, step_line, told_key}
+use Rattle.zerotrie_run.specs.Runs.{IsRead, IsThere, IsUnopened, IsUnprinted, HasNumberToo}
 use Rattle.zerotrie_run.specs.declared.status.Status.{Status}
-use Rattle.zerotrie_run.specs.declared.status.Status.TheVariants.{Done, Absent, Refused, BadUsage, BadInput, Unread, Unwritten, OutOfMemory}
+use Rattle.zerotrie_run.specs.declared.status.Status.TheVariants.{Done, Absent, Refused, Taken, BadUsage, BadInput, Unread, Unwritten, OutOfMemory, Closed}
 use Rattle.zerotrie_run.specs.declared.command.Place.{Place}
 use Rattle.zerotrie_run.specs.declared.command.Place.TheVariants.{File, Stream}
 use Rattle.zerotrie_run.specs.declared.command.Build.{Build}
 use Rattle.zerotrie_run.specs.declared.command.Command.{Command}
 use Rattle.zerotrie_run.specs.declared.command.Command.TheVariants as commands
 use Rattle.zerotrie_run.specs.declared.command.TrieFile.{TrieFile}
+use Rattle.zerotrie_run.specs.declared.command.Question.{Question}
 use Rattle.zerotrie_run.specs.declared.asking.AskError.{AskError}
 use Rattle.zerotrie_run.specs.declared.asking.AskError.TheVariants as ask
 use Rattle.zerotrie_run.specs.declared.building.BuildError.{BuildError}
@@ -35,22 +37,25 @@ abbrev pub LineTold : (old new : Option (List ℕ)) → Type 0
 LineTold old new = (text : List ℕ) × IsLine text × ToldLast old new text
 
 -- why a question has no answer is so of what was read of the file
-abbrev pub HasReason : TrieFile → Option (List ℕ) → Option Story → AskError → Type 0
-HasReason file input files ask.TwoInputs = Unit {0}
-HasReason file input files (ask.Unread e) = Unit {0}
-HasReason file input files (ask.NoTrie why) = (held : List ℕ) × IsRead file.place input files held × IsUnopened file held why
-HasReason file input files (ask.Unanswered e) = Unit {0}
+abbrev pub HasReason : TrieFile → Question → Option (List ℕ) → Option Story → AskError → Type 0
+HasReason file question input files ask.TwoInputs = Unit {0}
+HasReason file question input files (ask.Unread e) = Unit {0}
+HasReason file question input files (ask.NoTrie why is_text) = (held : List ℕ) × IsRead file.place input files held × IsUnopened file held why × (is_text ≡ looks_like_text held)
+HasReason file question input files (ask.Unanswered e) = Unit {0}
+HasReason file question input files (ask.NotText key) = IsUnprinted file question input files key.items
 
 -- why no file was made is so of what was read
 abbrev pub HasCause : Build → Option (List ℕ) → Option Story → BuildError → Type 0
 HasCause build input files (unmade.Unread e) = Unit {0}
 HasCause build input files (unmade.NotMade e) = (all : List ℕ) × IsRead build.from input files all × made.Explains build.plan all e
 HasCause build input files (unmade.Unwritten e) = Unit {0}
+HasCause build input files unmade.Taken = IsThere build.to files
+HasCause build input files (unmade.Unfound e) = Unit {0}
 
 -- a line is told if the file is read as bare bytes and begins with the number of a kind
 abbrev pub NotesNumber : TrieFile → Option (List ℕ) → Option Story → (old new : Option (List ℕ)) → Type 0
 NotesNumber file input files old new = (held : List ℕ) × IsRead file.place input files held
-    × (HasNumberToo file.kind held → (text : List ℕ) × IsLine text × Appends old new text)
+    × (HasNumberToo file.bare held → (text : List ℕ) × IsLine text × Appends old new text)
 
 -- a step is told or not
 abbrev pub told_step : Bool → List ℕ → List ℕ → ℕ → List ℕ
@@ -80,18 +85,26 @@ TellsRefusal (commands.Build build) input files old new status = (all : List ℕ
     × (e : MakeError) × made.Explains build.plan all e × (made_refusal e ≡ Some status)
     × (text : List ℕ) × IsLine text × TellsMade e text × ToldLast old new text
 TellsRefusal (commands.Ask file question) input files old new status = (held : List ℕ) × IsRead file.place input files held
-    × (why : OpenError) × IsUnopened file held why × (text : List ℕ) × IsLine text × TellsNoTrie why text × ToldLast old new text
+    × (why : OpenError) × IsUnopened file held why × (text : List ℕ) × IsLine text × TellsNoTrie why (looks_like_text held) text × ToldLast old new text
 
--- what is told last of a run that ends so; one that can't write its output tells nothing if who reads it has closed it
+-- a line tells what is refused: a build, or pairs with a key that can't be printed
+abbrev pub TellsRefused : Command → Option (List ℕ) → Option Story → (old new : Option (List ℕ)) → Type 0
+TellsRefused (commands.Build build) input files old new = TellsRefusal (commands.Build build) input files old new Refused
+TellsRefused (commands.Ask file question) input files old new = (key : List ℕ) × IsUnprinted file question input files key
+    × (text : List ℕ) × IsLine text × Says text (told_key key) × ToldLast old new text
+
+-- what is told last of a run that ends so; nothing if whoever reads the output has closed it
 abbrev pub IsTold : Command → Option (List ℕ) → Option Story → (old new : Option (List ℕ)) → Status → Type 0
 IsTold command input files old new Done = Unit {0}
 IsTold command input files old new Absent = Unit {0}
-IsTold command input files old new Refused = TellsRefusal command input files old new Refused
+IsTold command input files old new Refused = TellsRefused command input files old new
+IsTold command input files old new Taken = LineTold old new
 IsTold command input files old new BadUsage = LineTold old new
 IsTold command input files old new BadInput = TellsRefusal command input files old new BadInput
 IsTold command input files old new Unread = LineTold old new
-IsTold command input files old new Unwritten = Unit {0}
+IsTold command input files old new Unwritten = LineTold old new
 IsTold command input files old new OutOfMemory = LineTold old new
+IsTold command input files old new Closed = Unit {0}
 
 -- what a run that succeeds tells
 abbrev pub Notes : Command → Option (List ℕ) → Option Story → (old new : Option (List ℕ)) → Type 0

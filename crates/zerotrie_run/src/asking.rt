@@ -4,13 +4,15 @@ ghost use Rattle.std.specs.Prelude.{◌≡◌, ◌↔◌, ℕ, List, true, false
 ghost use Rattle.std.specs.Io.Buffered.{writer_contents};
 ghost use Rattle.zerotrie_core.specs.declared.TrieKind.{TrieKind};
 ghost use Rattle.zerotrie_files.specs.Notes.{NothingFailed, SameNotes};
-ghost use Rattle.zerotrie_run.specs.Runs.{Opens, IsUnopened, KeysAnswered, KeysAnsweredInPart, Answers, AnswersInPart, IsAsked, EndsAsk, IsUnanswered, IsDoubtful, ReadsTwice, LeavesKeys, LeavesInputOf, HandsOn, ask_fails, ask_refusal, asked_refusal, are_lines, of_lines};
+ghost use Rattle.zerotrie_run.specs.Runs.{Opens, OpensBy, ExplainsInFull, IsUnopened, KeysAnswered, KeysAnsweredInPart, Answers, IsNoAnswer, IsAsked, EndsAsk, IsUnanswered, IsDoubtful, ReadsTwice, LeavesKeys, LeavesInputOf, HandsOn, ask_fails, ask_refusal, asked_refusal, are_lines, of_lines};
 ghost use Rattle.zerotrie_run.specs.Told.{HasReason, NotesNumber, TellsMore};
 ghost use Rattle.zerotrie_run.specs.declared.command.Place.TheVariants.{Stream};
+ghost use Rattle.zerotrie_run.specs.declared.command.Check.TheVariants.{Full};
 ghost use Rattle.zerotrie_run.specs.declared.command.Command.TheVariants.{Ask};
-ghost use Rattle.zerotrie_run.specs.declared.asking.AskError.TheVariants.{TwoInputs};
+ghost use Rattle.zerotrie_run.specs.declared.asking.AskError.TheVariants.{TwoInputs, Unanswered};
+ghost use Rattle.zerotrie_run.specs.declared.stdin_lines.AnswerError.TheVariants.{Output};
 
-use crate::command::{Keys, Place, Question, TrieFile};
+use crate::command::{Check, Keys, Place, Question, TrieFile};
 use crate::messages::tell_number;
 use crate::reading::read_place;
 use crate::status::Status;
@@ -18,10 +20,11 @@ use crate::stdin_lines::{AnswerError, answer_lines};
 use std::alloc::Global;
 use std::io;
 use std::io::{BufWriter, ErrorKind, Read, Write};
+use zerotrie_core::TrieKind;
 use zerotrie_files::{Disk, Noted, Store};
 use zerotrie_queries::{
-    Asked, OpenError, Trie, write_answers, write_list, write_trie_code, write_trie_report,
-    write_trie_view,
+    Asked, ListError, OpenError, Trie, looks_like_text, write_answers, write_list, write_trie_code,
+    write_trie_report, write_trie_view,
 };
 
 /// Why a question has no answer.
@@ -31,8 +34,10 @@ pub enum AskError {
     TwoInputs,
     /// The file can't be read, or memory was refused before it was opened.
     Unread(io::Error),
-    /// The file has no trie.
-    NoTrie(OpenError),
+    /// The file has no trie, and looks like text or not.
+    NoTrie(OpenError, bool),
+    /// The pairs can't be one JSON value, as this key is not UTF-8.
+    NotText(Vec<u8>),
     /// It can't be answered, or not to the end.
     Unanswered(AnswerError),
 }
@@ -44,10 +49,11 @@ impl AskError {
     {
         match self {
             AskError::TwoInputs => Some(Status::BadUsage),
-            AskError::NoTrie(OpenError::BadTag(_) | OpenError::NotWellFormed(_, _)) => {
-                Some(Status::BadInput)
-            }
-            AskError::NoTrie(OpenError::OutOfMemory) => None,
+            AskError::NoTrie(why, _) => match why {
+                OpenError::OutOfMemory => None,
+                _ => Some(Status::BadInput),
+            },
+            AskError::NotText(_) => Some(Status::Refused),
             AskError::Unread(_) | AskError::Unanswered(_) => None,
         }
     }
@@ -63,12 +69,28 @@ impl AskError {
     }
 }
 
+impl From<AnswerError> for AskError {
+    ghost from_gives = { λ error e. e ≡ Unanswered error };
+
+    fn from(error: AnswerError) -> Self {
+        AskError::Unanswered(error)
+    }
+}
+
+impl From<io::Error> for AskError {
+    ghost from_gives = { λ error e. e ≡ Unanswered (Output error) };
+
+    fn from(error: io::Error) -> Self {
+        AskError::Unanswered(AnswerError::Output(error))
+    }
+}
+
 /// Whether the keys of a question are the lines of standard input.
 fn reads_lines(question: Question<'_>) -> bool
     ensures { result ≡ of_lines question.entry }
 {
     match question {
-        Question::Get(Keys::Lines) | Question::Longest(Keys::Lines) => true,
+        Question::LookUp(_, Keys::Lines) => true,
         _ => false,
     }
 }
@@ -83,15 +105,34 @@ pub fn reads_twice(place: Place<'_>, question: Question<'_>) -> bool
     }
 }
 
-/// Opens the trie in the bytes of a file. It validates them, unless they are trusted.
+/// Opens the trie in the bytes of a file, and validates its bytes, also if they are sealed.
+fn open_in_full(alloc: Global, bare: Option<TrieKind>, held: &[u8]) -> Result<Trie<'_>, OpenError>
+    ensures ok { IfOk result (λ trie. OpensBy Full bare held.now trie.kind trie.bytes.now) }
+    ensures err { IfErr result (ExplainsInFull bare held.now) }
+{
+    let trie = match Trie::open_unchecked(bare, held) {
+        Ok(trie) => trie,
+        Err(why) => return Err(why),
+    };
+    if trie.is_well_formed() {
+        return Ok(trie);
+    }
+    match trie.first_fault(alloc) {
+        Ok(Some(fault)) => Err(OpenError::NotWellFormed(trie.kind, fault)),
+        Ok(None) => Ok(trie),
+        Err(_) => Err(OpenError::OutOfMemory),
+    }
+}
+
+/// Opens the trie in the bytes of a file, by the test that is asked for.
 fn open<'a>(alloc: Global, file: TrieFile<'_>, held: &'a [u8]) -> Result<Trie<'a>, OpenError>
     ensures ok { IfOk result (λ trie. Opens file.entry held.now trie.kind trie.bytes.now) }
     ensures err { IfErr result (IsUnopened file.entry held.now) }
 {
-    if file.trust {
-        Ok(Trie::open_untested(file.kind, held)?)
-    } else {
-        Trie::open(alloc, file.kind, held)
+    match file.check {
+        Check::Skip => Trie::open_unchecked(file.bare, held),
+        Check::Usual => Trie::open(alloc, file.bare, held),
+        Check::Full => open_in_full(alloc, file.bare, held),
     }
 }
 
@@ -126,27 +167,32 @@ fn answer<R: Read, W: Write + Drop>(
     question: Question<'_>,
     input: &mut Noted<R>,
     output: &mut Noted<BufWriter<W>>,
-) -> Result<bool, AnswerError>
+) -> Result<bool, AskError>
     ensures answered { IfOk result (Answers question.entry (R.remaining input.old.inner)
         trie.now.kind trie.now.bytes.now (writer_contents W.contents output.old.inner) (writer_contents W.contents output.new.inner)) }
-    ensures part { OnErr result (AnswersInPart question.entry (R.remaining input.old.inner)
+    ensures part { IfErr result (IsNoAnswer question.entry (R.remaining input.old.inner)
         trie.now.kind trie.now.bytes.now (writer_contents W.contents output.old.inner) (writer_contents W.contents output.new.inner)) }
-    ensures noted { OnOk result (SameNotes input.old input.new output.old output.new) }
+    ensures noted { ask_fails result ≡ false → SameNotes input.old input.new output.old output.new }
     ensures unread { of_lines question.entry ≡ false → input.new ≡ input.old }
 {
     match question {
-        Question::Get(keys) => answer_keys(alloc, trie, Asked::Value, keys, input, output),
-        Question::Longest(texts) => answer_keys(alloc, trie, Asked::Longest, texts, input, output),
-        Question::List(form, prefix) => {
-            write_list(alloc, trie, form, prefix, output)?;
-            Ok(true)
+        Question::LookUp(asked, keys) => {
+            Ok(answer_keys(alloc, trie, asked, keys, input, output)?)
+        }
+        Question::List(form, choice, limit) => {
+            match write_list(alloc, trie, form, choice, limit, output) {
+                Ok(()) => Ok(true),
+                Err(ListError::NotText(key)) => Err(AskError::NotText(key)),
+                Err(ListError::Failed(error)) => Err(AskError::from(error)),
+            }
         }
         Question::Code(language, name) => {
             write_trie_code(alloc, trie, language, name, output)?;
             Ok(true)
         }
-        Question::Report => {
-            write_trie_report(alloc, trie, output)?;
+        Question::Verify => Ok(true),
+        Question::Report(form) => {
+            write_trie_report(alloc, trie, form, output)?;
             Ok(true)
         }
         Question::View(view) => {
@@ -177,12 +223,9 @@ fn answer_held<R: Read, W: Write + Drop>(
 {
     let trie = match open(alloc, file, held) {
         Ok(trie) => trie,
-        Err(why) => return Err(AskError::NoTrie(why)),
+        Err(why) => return Err(AskError::NoTrie(why, looks_like_text(held))),
     };
-    match answer(alloc, &trie, question, input, output) {
-        Ok(all) => Ok(all),
-        Err(error) => Err(AskError::Unanswered(error)),
-    }
+    answer(alloc, &trie, question, input, output)
 }
 
 /// Answers a question to the trie of a file, and returns whether all was found. If the file is read
@@ -202,7 +245,7 @@ pub fn ask<D: Disk, R: Read, W: Write + Drop, M: Write>(
         (D.story files.old.disk) (writer_contents W.contents output.old.inner) (writer_contents W.contents output.new.inner) (ask_refusal e)) }
     ensures same { files.new.disk ≡ files.old.disk }
     ensures handed { IfOk result (λ _. HandsOn output.old.inner output.new.inner) }
-    ensures why { IfErr result (HasReason file.entry (R.remaining input.old.inner) (D.story files.old.disk)) }
+    ensures why { IfErr result (HasReason file.entry question.entry (R.remaining input.old.inner) (D.story files.old.disk)) }
     ensures notes { IfOk result (λ _. messages.new.failed ≡ false
         → NotesNumber file.entry (R.remaining input.old.inner) (D.story files.old.disk)
         (M.contents messages.old.inner) (M.contents messages.new.inner)) }

@@ -2,14 +2,14 @@
 
 ghost use Rattle.std.specs.Prelude.{◌≡◌, false, IfErr, OnOk};
 ghost use Rattle.zerotrie_files.specs.Notes.{NothingFailed};
-ghost use Rattle.zerotrie_run.specs.Runs.{world, IsMade, EndsBuild, HandsOn, build_fails, build_refusal};
+ghost use Rattle.zerotrie_run.specs.Runs.{world, IsFresh, IsMade, IsNotBegun, EndsBuild, HandsOn, build_fails, build_refusal};
 ghost use Rattle.std.specs.Io.Buffered.{writer_contents};
 ghost use Rattle.zerotrie_making.specs.declared.refused.MakeError.TheVariants.{OutOfMemory};
 ghost use Rattle.zerotrie_run.specs.Told.{HasCause, TellsMore, TellsSteps};
 ghost use Rattle.zerotrie_run.specs.declared.building.BuildError.TheVariants.{NotMade};
 ghost use Rattle.zerotrie_run.specs.declared.command.Place.TheVariants.{Stream};
 
-use crate::command::Build;
+use crate::command::{Build, Place};
 use crate::messages::{source_name, step_text, target_name, tell};
 use crate::reading::{read_place, write_place};
 use crate::status::Status;
@@ -28,6 +28,10 @@ pub enum BuildError {
     NotMade(MakeError),
     /// The file can't be written.
     Unwritten(io::Error),
+    /// There is a file already, which is to be left as it is.
+    Taken,
+    /// It can't be found out whether there is a file.
+    Unfound(io::Error),
 }
 
 impl BuildError {
@@ -37,7 +41,8 @@ impl BuildError {
     {
         match self {
             BuildError::NotMade(error) => Status::of_refusal(error),
-            BuildError::Unread(_) | BuildError::Unwritten(_) => None,
+            BuildError::Taken => Some(Status::Taken),
+            BuildError::Unread(_) | BuildError::Unwritten(_) | BuildError::Unfound(_) => None,
         }
     }
 
@@ -45,7 +50,7 @@ impl BuildError {
     pub fn is_closed(&self) -> bool {
         match self {
             BuildError::Unwritten(error) => error.kind() == ErrorKind::BrokenPipe,
-            BuildError::Unread(_) | BuildError::NotMade(_) => false,
+            _ => false,
         }
     }
 }
@@ -60,7 +65,7 @@ impl From<AllocError> for BuildError {
 
 /// Makes a trie file, and writes it to its place. It reports each step as it ends, if that was
 /// asked for.
-pub fn build<D: Disk, R: Read, W: Write + Drop, M: Write>(
+fn make_file<D: Disk, R: Read, W: Write + Drop, M: Write>(
     alloc: Global,
     build: Build<'_>,
     files: &mut Store<D>,
@@ -112,5 +117,59 @@ pub fn build<D: Disk, R: Read, W: Write + Drop, M: Write>(
             Ok(())
         }
         Err(error) => Err(BuildError::Unwritten(error)),
+    }
+}
+
+/// Refuses a build whose file is there already, if it is to be left as it is.
+fn spare<D: Disk>(build: Build<'_>, files: &mut Store<D>) -> Result<(), BuildError>
+    ensures fresh { OnOk result (IsFresh build.entry (D.story files.old.disk)) }
+    ensures unchanged { OnOk result (files.new ≡ files.old) }
+    ensures err { IfErr result (IsNotBegun build.entry (D.story files.old.disk)) }
+    ensures same { files.new.disk ≡ files.old.disk }
+    ensures unwritten { files.new.unwritten ≡ files.old.unwritten }
+    ensures noted { build_fails result ≡ false → files.new.unread ≡ files.old.unread }
+{
+    match build.to {
+        Place::File(path) if build.no_clobber => match files.has(path) {
+            Ok(true) => Err(BuildError::Taken),
+            Ok(false) => Ok(()),
+            Err(error) => Err(BuildError::Unfound(error)),
+        },
+        _ => Ok(()),
+    }
+}
+
+/// Makes a trie file, and writes it to its place, unless there is a file already that is to be left
+/// as it is. It reports each step as it ends, if that was asked for.
+pub fn build<D: Disk, R: Read, W: Write + Drop, M: Write>(
+    alloc: Global,
+    build: Build<'_>,
+    files: &mut Store<D>,
+    input: &mut Noted<R>,
+    output: &mut Noted<BufWriter<W>>,
+    messages: &mut Noted<M>,
+) -> Result<(), BuildError>
+    ensures ok { OnOk result (IsMade build.entry (R.remaining input.old.inner)
+        (world (D.story files.old.disk) (writer_contents W.contents output.old.inner))
+        (world (D.story files.new.disk) (writer_contents W.contents output.new.inner))) }
+    ensures fresh { OnOk result (IsFresh build.entry (D.story files.old.disk)) }
+    ensures err { IfErr result (λ e. EndsBuild build.entry (R.remaining input.old.inner)
+        (world (D.story files.old.disk) (writer_contents W.contents output.old.inner))
+        (world (D.story files.new.disk) (writer_contents W.contents output.new.inner)) (build_refusal e)) }
+    ensures handed { OnOk result (HandsOn output.old.inner output.new.inner) }
+    ensures why { IfErr result (HasCause build.entry (R.remaining input.old.inner) (D.story files.old.disk)) }
+    ensures steps { OnOk result (messages.new.failed ≡ false
+        → TellsSteps build.entry (R.remaining input.old.inner) (D.story files.old.disk)
+        (M.contents messages.old.inner) (M.contents messages.new.inner)) }
+    ensures tells { messages.new.failed ≡ false
+        → TellsMore (M.contents messages.old.inner) (M.contents messages.new.inner) }
+    ensures quiet { build.entry.progress ≡ false → messages.new ≡ messages.old }
+    ensures noted { build_fails result ≡ false
+        → NothingFailed input.old input.new output.old output.new files.old files.new }
+    ensures unread { (build.entry.from ≡ Stream → ⊥) → input.new ≡ input.old }
+{
+    match spare(build, files) {
+        Ok(()) => make_file(alloc, build, files, input, output, messages),
+        Err(error) => Err(error),
     }
 }

@@ -4,7 +4,7 @@ ghost use Rattle.zerotrie_run.specs.Runs.{IsNamed, IsNameOf};
 
 use zerotrie_core::TrieKind;
 use zerotrie_making::Plan;
-use zerotrie_queries::{Form, Language, View};
+use zerotrie_queries::{Asked, Choice, Form, Language, ReportForm, View};
 
 /// Where bytes come from, or go to.
 #[derive(Clone, Copy, PartialEq, Eq, Debug)]
@@ -50,28 +50,39 @@ pub enum Keys<'a> {
 /// What a trie is asked.
 #[derive(Clone, Copy, Debug)]
 pub enum Question<'a> {
-    /// The values of these keys.
-    Get(Keys<'a>),
-    /// The longest key that each of these texts begins with.
-    Longest(Keys<'a>),
-    /// The pairs whose keys begin with a prefix.
-    List(Form, &'a [u8]),
+    /// These keys or texts.
+    LookUp(Asked, Keys<'a>),
+    /// The first pairs whose keys are chosen: at most this many, or all.
+    List(Form, Choice<'a>, Option<usize>),
     /// The trie as source code, by a name.
     Code(Language, &'a str),
+    /// Nothing: whether the file has a trie.
+    Verify,
     /// What the trie is made of.
-    Report,
+    Report(ReportForm),
     /// Its nodes.
     View(View),
+}
+
+/// How the bytes of a file are tested before they are asked.
+#[derive(Clone, Copy, PartialEq, Eq, Debug)]
+pub enum Check {
+    /// A sealed file by its parts alone.
+    Skip,
+    /// A sealed file by its parts, and others as a trie.
+    Usual,
+    /// As a trie, and a sealed file by its parts, too.
+    Full,
 }
 
 /// The file of a trie.
 #[derive(Clone, Copy, Debug)]
 pub struct TrieFile<'a> {
     pub place: Place<'a>,
-    /// The kind of bare bytes. If `None`, the first byte is the number of the kind.
-    pub kind: Option<TrieKind>,
-    /// Whether the bytes are taken for a trie without a test.
-    pub trust: bool,
+    /// The kind of bare bytes. If `None`, the file says which kind it has.
+    pub bare: Option<TrieKind>,
+    /// How the bytes are tested.
+    pub check: Check,
 }
 
 /// How a trie file is made, of what, and where.
@@ -80,6 +91,8 @@ pub struct Build<'a> {
     pub from: Place<'a>,
     pub to: Place<'a>,
     pub plan: Plan,
+    /// Whether a file that is there already is left as it is, and the build refused.
+    pub no_clobber: bool,
     /// Whether each step is told as it ends.
     pub progress: bool,
 }

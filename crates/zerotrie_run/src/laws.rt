@@ -1,19 +1,25 @@
-//! Laws of the definitions. A law is an empty function: a call of it brings its clause into the
-//! caller's proof.
+//! Laws of the definitions. A law is a function that does nothing: a call of it brings its clause
+//! into the caller's proof.
 
 ghost use Rattle.zerotrie_run.specs.Laws.{MadeOpens, RefusedExactly, UnmadeIsRefused};
+
+use zerotrie_sealed::laws::one_trie;
 
 /// A file that a build made opens as the trie of the pairs that the build read, if its kind is
 /// named as it was for the build. So each question to it is answered by them.
 pub fn made_opens()
     ensures { MadeOpens }
-{}
+{
+    one_trie();
+}
 
-/// A question to a file that is tested is refused exactly if the file has no trie, unless the usage
-/// is bad or something failed.
+/// A question to a file is refused exactly if the file has no trie, by the test that was asked for,
+/// unless the usage is bad or something failed.
 pub fn refused_exactly()
     ensures { RefusedExactly }
-{}
+{
+    one_trie();
+}
 
 /// A build whose input makes no file is refused, unless something failed.
 pub fn unmade_is_refused()

@@ -11,6 +11,6 @@ mod running;
 mod status;
 mod stdin_lines;
 
-pub use command::{Build, Command, Keys, Place, Question, TrieFile};
+pub use command::{Build, Check, Command, Keys, Place, Question, TrieFile};
 pub use running::run;
 pub use status::Status;

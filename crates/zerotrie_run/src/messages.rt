@@ -4,7 +4,7 @@ ghost use Rattle.std.specs.Prelude.{◌≡◌, ◌≢◌, ◌⊎◌, ◌++◌, �
 ghost use Rattle.std.specs.Io.KnownBytes.{Appends};
 ghost use Rattle.zerotrie_run.specs.Runs.{HasNumberToo};
 ghost use Rattle.zerotrie_core.specs.Faults.{rule_text};
-ghost use Rattle.zerotrie_run.specs.Messages.{BeginsWithNoDigit, Extends, IsLine, Names, NamesPairs, Says, SaysKeys, TellsAsk, TellsBuild, TellsMade, TellsNoPair, TellsNoTrie, told_key};
+ghost use Rattle.zerotrie_run.specs.Messages.{BeginsWithNoDigit, Extends, IsLine, Names, NamesPairs, Says, SaysField, SaysKeys, TellsAsk, TellsBuild, TellsMade, TellsNoPair, TellsNoTrie, told_key};
 ghost use Rattle.zerotrie_run.specs.Told.{LineTold, TellsMore, place_name, told_step};
 
 use crate::asking::AskError;
@@ -15,11 +15,12 @@ use std::alloc::{AllocError, Global};
 use std::io;
 use std::io::{ErrorKind, Write};
 use zerotrie_any::TagError;
-use zerotrie_core::{Fault, FaultCause, TrieKind, ZeroTrieBuildError};
+use zerotrie_core::{Fault, TrieKind, ZeroTrieBuildError};
 use zerotrie_files::Noted;
-use zerotrie_lines::{BadLine, Format, write_escaped, write_number};
+use zerotrie_lines::{BadLine, Format, ValueFault, write_escaped, write_number};
 use zerotrie_making::{MakeError, NoPair, Shown, Source};
 use zerotrie_queries::{OpenError, Trie};
+use zerotrie_sealed::SealError;
 
 const STANDARD_INPUT: &str = "standard input";
 
@@ -48,9 +49,9 @@ pub fn target_name(place: Place<'_>) -> &str
 fn counted_from(file: TrieFile<'_>) -> &'static str
     ensures { BeginsWithNoDigit result.now }
 {
-    match file.kind {
+    match file.bare {
         Some(_) => " of the file",
-        None => " after the number of the kind",
+        None => " of the trie in it",
     }
 }
 
@@ -101,6 +102,16 @@ fn add_place(text: &mut Vec<u8>, place: &str) -> Result<(), AllocError>
     add(text, ": ")
 }
 
+/// Adds words that stand in the text then.
+#[tactic(auto, using(crate::proofs::MessageLemmas::says_here))]
+fn add_words(text: &mut Vec<u8>, words: &str) -> Result<(), AllocError>
+    ensures says { OnOk result (Says text.new.items words.now) }
+    ensures adds { OnOk result (Extends text.old.items text.new.items) }
+{
+    add(text, words)?;
+    Ok(())
+}
+
 /// Ends a line.
 fn end_line(text: &mut Vec<u8>) -> Result<(), AllocError>
     ensures line { OnOk result (IsLine text.new.items) }
@@ -121,6 +132,19 @@ fn line_on(alloc: Global, place: &str, words: &str) -> Result<Vec<u8>, AllocErro
     Ok(text)
 }
 
+/// A line that says these words of a place.
+#[tactic(auto, using(crate::proofs::MessageLemmas::extends_both, crate::proofs::MessageLemmas::says_here, crate::proofs::MessageLemmas::says_on))]
+fn said_on(alloc: Global, place: &str, words: &str) -> Result<Vec<u8>, AllocError>
+    ensures line { IfOk result (λ text. IsLine text.items) }
+    ensures says { IfOk result (λ text. Says text.items words.now) }
+{
+    let mut text = Vec::new(alloc);
+    add_place(&mut text, place)?;
+    add_words(&mut text, words)?;
+    end_line(&mut text)?;
+    Ok(text)
+}
+
 /// A line that tells of a fault at a place.
 fn fault_on(alloc: Global, place: &str, error: &io::Error) -> Result<Vec<u8>, AllocError>
     ensures { IfOk result (λ text. IsLine text.items) }
@@ -129,15 +153,6 @@ fn fault_on(alloc: Global, place: &str, error: &io::Error) -> Result<Vec<u8>, Al
     write!(text, "zerotrie: {place}: {error}").map_err(|_| AllocError)?;
     end_line(&mut text)?;
     Ok(text)
-}
-
-/// Adds the rule that fails.
-#[tactic(auto, using(crate::proofs::MessageLemmas::says_here))]
-fn add_rule(text: &mut Vec<u8>, cause: FaultCause) -> Result<(), AllocError>
-    ensures says { OnOk result (Says text.new.items (rule_text cause)) }
-    ensures adds { OnOk result (Extends text.old.items text.new.items) }
-{
-    add(text, cause.text())
 }
 
 /// A line that tells of the first fault in the bytes of a file.
@@ -156,25 +171,56 @@ fn malformed(
     let name = kind.name();
     let mut text = Vec::new(alloc);
     write!(text, "zerotrie: {path}: no trie of kind {name}: ").map_err(|_| AllocError)?;
-    add_rule(&mut text, fault.cause)?;
+    add_words(&mut text, fault.cause.text())?;
     add_number(&mut text, ", at byte", fault.place, counted_from(file))?;
     end_line(&mut text)?;
     Ok(text)
 }
 
-/// A line that tells why a file has no trie.
-fn no_trie(alloc: Global, file: TrieFile<'_>, why: &OpenError) -> Result<Vec<u8>, AllocError>
+/// A line that tells that the kind of a file is not known, as it looks like text or for another
+/// reason.
+fn no_kind(alloc: Global, place: &str, why: &TagError, is_text: bool) -> Result<Vec<u8>, AllocError>
     ensures line { IfOk result (λ text. IsLine text.items) }
-    ensures tells { IfOk result (λ text. TellsNoTrie why.now text.items) }
+    ensures says { IfOk result (λ text. is_text ≡ true
+        → Says text.items (codes "it looks like text: build it first")) }
+{
+    if is_text {
+        return said_on(alloc, place, "it looks like text: build it first");
+    }
+    match why {
+        TagError::Empty => line_on(alloc, place, "the file is empty"),
+        TagError::InvalidTag => line_on(
+            alloc,
+            place,
+            "no file of zerotrie build: no kind has the number that the file begins with; if it is bare bytes, name their kind by --bare",
+        ),
+    }
+}
+
+/// A line that tells that a sealed file is damaged.
+fn damaged(alloc: Global, place: &str, why: SealError) -> Result<Vec<u8>, AllocError>
+    ensures { IfOk result (λ text. IsLine text.items) }
+{
+    let mut text = Vec::new(alloc);
+    write!(text, "zerotrie: {place}: {why}").map_err(|_| AllocError)?;
+    end_line(&mut text)?;
+    Ok(text)
+}
+
+/// A line that tells why a file has no trie.
+fn no_trie(
+    alloc: Global,
+    file: TrieFile<'_>,
+    why: &OpenError,
+    is_text: bool,
+) -> Result<Vec<u8>, AllocError>
+    ensures line { IfOk result (λ text. IsLine text.items) }
+    ensures tells { IfOk result (λ text. TellsNoTrie why.now is_text text.items) }
 {
     let path = source_name(file.place);
     match why {
-        OpenError::BadTag(TagError::Empty) => line_on(alloc, path, "the file is empty"),
-        OpenError::BadTag(TagError::InvalidTag) => line_on(
-            alloc,
-            path,
-            "no file of zerotrie build: no kind has the number that the file begins with; if it is bare bytes, name their kind by --kind",
-        ),
+        OpenError::BadTag(why) => no_kind(alloc, path, why, is_text),
+        OpenError::Damaged(why) => damaged(alloc, path, *why),
         OpenError::NotWellFormed(kind, fault) => malformed(alloc, file, *kind, *fault),
         OpenError::OutOfMemory => line_on(alloc, path, "out of memory"),
     }
@@ -182,10 +228,10 @@ fn no_trie(alloc: Global, file: TrieFile<'_>, why: &OpenError) -> Result<Vec<u8>
 
 /// The kind whose number a file begins with, if it is read as bare bytes of a kind that was named.
 fn number_too(file: TrieFile<'_>, held: &[u8]) -> Option<TrieKind>
-    ensures some { IfSome result (λ _. HasNumberToo file.entry.kind held.now) }
-    ensures none { IfNone result (HasNumberToo file.entry.kind held.now → ⊥) }
+    ensures some { IfSome result (λ _. HasNumberToo file.entry.bare held.now) }
+    ensures none { IfNone result (HasNumberToo file.entry.bare held.now → ⊥) }
 {
-    file.kind?;
+    file.bare?;
     let trie = Trie::of_tagged(held).ok()?;
     Some(trie.kind)
 }
@@ -198,8 +244,8 @@ fn note_on_number(
     held: &[u8],
 ) -> Result<Option<Vec<u8>>, AllocError>
     ensures some { IfOk result (λ note. IfSome note (λ text. IsLine text.items)) }
-    ensures why { IfOk result (λ note. IfSome note (λ _. HasNumberToo file.entry.kind held.now)) }
-    ensures none { IfOk result (λ note. IfNone note (HasNumberToo file.entry.kind held.now → ⊥)) }
+    ensures why { IfOk result (λ note. IfSome note (λ _. HasNumberToo file.entry.bare held.now)) }
+    ensures none { IfOk result (λ note. IfNone note (HasNumberToo file.entry.bare held.now → ⊥)) }
 {
     let Some(kind) = number_too(file, held) else {
         return Ok(None);
@@ -213,7 +259,7 @@ fn note_on_number(
     add(&mut text, kind.name())?;
     add(
         &mut text,
-        ": leave out --kind unless every key begins with that byte",
+        ": leave out --bare unless every key begins with that byte",
     )?;
     end_line(&mut text)?;
     Ok(Some(text))
@@ -227,11 +273,11 @@ pub fn tell_number<M: Write>(
     file: TrieFile<'_>,
     held: &[u8],
 ) -> Result<(), AllocError>
-    ensures quiet { (HasNumberToo file.entry.kind held.now → ⊥) → messages.new ≡ messages.old }
+    ensures quiet { (HasNumberToo file.entry.bare held.now → ⊥) → messages.new ≡ messages.old }
     ensures tells { messages.new.failed ≡ false → (messages.old.failed ≡ false)
         × TellsMore (M.contents messages.old.inner) (M.contents messages.new.inner) }
     ensures notes { OnOk result (messages.new.failed ≡ false
-        → HasNumberToo file.entry.kind held.now → (text : List ℕ) × IsLine text
+        → HasNumberToo file.entry.bare held.now → (text : List ℕ) × IsLine text
         × Appends (M.contents messages.old.inner) (M.contents messages.new.inner) text) }
 {
     match note_on_number(alloc, file, held)? {
@@ -251,8 +297,9 @@ fn unwritten(alloc: Global, place: &str, error: &io::Error) -> Result<Vec<u8>, A
         ErrorKind::AlreadyExists => line_on(
             alloc,
             place,
-            "builds that were interrupted left a hundred new files beside it, or beside the file that it leads to, with .0.tmp to .99.tmp after its name: remove these",
+            "a hundred builds of it are running, by the files beside it with .0.tmp to .99.tmp after its name",
         ),
+        ErrorKind::NotFound => line_on(alloc, place, "the folder of the file is not there"),
         ErrorKind::PermissionDenied => {
             let mut text = Vec::new(alloc);
             write!(
@@ -290,6 +337,20 @@ fn two_inputs(alloc: Global) -> Result<Vec<u8>, AllocError>
     Ok(text)
 }
 
+/// A line that tells that pairs can't be one JSON value, and the key that shows it.
+#[tactic(auto, using(crate::proofs::MessageLemmas::extends_both, crate::proofs::MessageLemmas::says_on))]
+fn not_text(alloc: Global, place: &str, key: &[u8]) -> Result<Vec<u8>, AllocError>
+    ensures line { IfOk result (λ text. IsLine text.items) }
+    ensures says { IfOk result (λ text. Says text.items (told_key key.now)) }
+{
+    let mut text = Vec::new(alloc);
+    add_place(&mut text, place)?;
+    add(&mut text, "a key is not UTF-8, so take --format jsonl: ")?;
+    add_key(&mut text, key)?;
+    end_line(&mut text)?;
+    Ok(text)
+}
+
 /// A line that tells why a question has no answer.
 pub fn ask_text(alloc: Global, file: TrieFile<'_>, error: &AskError) -> Result<Vec<u8>, AllocError>
     ensures { IfOk result (λ text. TellsAsk error.now text.items) }
@@ -298,7 +359,8 @@ pub fn ask_text(alloc: Global, file: TrieFile<'_>, error: &AskError) -> Result<V
     match error {
         AskError::TwoInputs => two_inputs(alloc),
         AskError::Unread(error) => fault_on(alloc, path, error),
-        AskError::NoTrie(why) => no_trie(alloc, file, why),
+        AskError::NoTrie(why, is_text) => no_trie(alloc, file, why, *is_text),
+        AskError::NotText(key) => not_text(alloc, path, key.as_slice()),
         AskError::Unanswered(AnswerError::Input(error)) => fault_on(alloc, STANDARD_INPUT, error),
         AskError::Unanswered(AnswerError::Output(error)) => unwritten(
             alloc,
@@ -311,8 +373,8 @@ pub fn ask_text(alloc: Global, file: TrieFile<'_>, error: &AskError) -> Result<V
 /// What the pairs of an input stand on.
 fn unit_of(source: Source) -> &'static str {
     match source {
-        Source::Text(Format::Csv) => "record",
-        Source::Text(_) => "line",
+        Source::Text(Format::Csv, _) => "record",
+        Source::Text(_, _) => "line",
         Source::Json => "pair",
     }
 }
@@ -472,13 +534,37 @@ fn add_keys(text: &mut Vec<u8>, shown: &Shown) -> Result<(), AllocError>
 }
 
 /// What may help if this line or record is no pair.
-fn hint(source: Source, number: usize, bad: BadLine) -> &'static str {
+fn hint(source: Source, number: usize, bad: &BadLine) -> &'static str {
     match (source, bad) {
         (_, BadLine::NoTab) => "; if the input has another form, name it by --format",
-        (Source::Text(Format::Csv), BadLine::Number) if number == 1 => {
+        (Source::Text(Format::Csv, _), BadLine::Value(value))
+            if number == 1 && value.fault == ValueFault::Other => {
             "; if it is a header, leave it out"
         }
         _ => "",
+    }
+}
+
+/// Adds bytes with their escapes, in quotes.
+#[tactic(auto, using(crate::proofs::MessageLemmas::extends_both))]
+fn add_quoted(text: &mut Vec<u8>, bytes: &[u8]) -> Result<(), AllocError>
+    ensures says { OnOk result (Says text.new.items (told_key bytes.now)) }
+    ensures adds { OnOk result (Extends text.old.items text.new.items) }
+{
+    add(text, ": \"")?;
+    add_front(text, bytes)?;
+    add(text, "\"")
+}
+
+/// Adds the field that is no value, in quotes, if it is one that is bad.
+#[tactic(auto, using(crate::proofs::MessageLemmas::extends_both, crate::proofs::MessageLemmas::says_on))]
+fn add_field(text: &mut Vec<u8>, bad: &BadLine) -> Result<(), AllocError>
+    ensures says { OnOk result (SaysField bad.now text.new.items) }
+    ensures adds { OnOk result (Extends text.old.items text.new.items) }
+{
+    match bad {
+        BadLine::Value(value) => add_quoted(text, value.front.as_slice()),
+        _ => Ok(()),
     }
 }
 
@@ -489,8 +575,8 @@ fn add_not_json(text: &mut Vec<u8>, line: usize, column: usize) -> Result<(), Al
     ensures column { OnOk result (Names text.new.items column) }
     ensures adds { OnOk result (Extends text.old.items text.new.items) }
 {
-    let hint = if line == 1 && column == 1 {
-        "; if a byte order mark stands in front, leave it out"
+    let hint = if line > 1 && column == 1 {
+        "; if each line is a value, make one of them by jq -s add"
     } else {
         ""
     };
@@ -523,18 +609,20 @@ fn add_no_pair(text: &mut Vec<u8>, bad: &NoPair) -> Result<(), AllocError>
 }
 
 /// Adds which line is no pair, and why.
-#[tactic(auto, using(crate::proofs::MessageLemmas::extends_both, crate::proofs::MessageLemmas::names_on))]
+#[tactic(auto, using(crate::proofs::MessageLemmas::extends_both, crate::proofs::MessageLemmas::names_on, crate::proofs::MessageLemmas::field_on))]
 fn add_bad_line(
     text: &mut Vec<u8>,
     source: Source,
     number: usize,
-    bad: BadLine,
+    bad: &BadLine,
 ) -> Result<(), AllocError>
     ensures names { OnOk result (Names text.new.items number) }
+    ensures says { OnOk result (SaysField bad.now text.new.items) }
     ensures adds { OnOk result (Extends text.old.items text.new.items) }
 {
     add_number(text, unit_of(source), number, ": ")?;
     add(text, bad.text())?;
+    add_field(text, bad)?;
     add(text, hint(source, number, bad))
 }
 
@@ -568,7 +656,7 @@ fn add_refusal(text: &mut Vec<u8>, source: Source, error: &MakeError) -> Result<
     ensures adds { OnOk result (Extends text.old.items text.new.items) }
 {
     match error {
-        MakeError::Line(number, bad) => add_bad_line(text, source, *number, *bad),
+        MakeError::Line(number, bad) => add_bad_line(text, source, *number, bad),
         MakeError::NotJson(line, column) => add_not_json(text, *line, *column),
         MakeError::NotPairs => add(text, "neither an object nor a list"),
         MakeError::NotPair(bad) => add_no_pair(text, bad),
@@ -627,5 +715,11 @@ pub fn build_text(
         BuildError::Unread(error) => fault_on(alloc, from, error),
         BuildError::NotMade(error) => refusal(alloc, from, build.plan.source, error),
         BuildError::Unwritten(error) => unwritten(alloc, target_name(build.to), error),
+        BuildError::Taken => line_on(
+            alloc,
+            target_name(build.to),
+            "the file is there already, and --no-clobber leaves it",
+        ),
+        BuildError::Unfound(error) => fault_on(alloc, target_name(build.to), error),
     }
 }

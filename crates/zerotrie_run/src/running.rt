@@ -1,13 +1,13 @@
 //! The program over files and streams.
 
-ghost use Rattle.std.specs.Prelude.{◌≡◌, ◌≢◌, ◌⊎◌, ◌||◌, false, true, unwrap_or};
+ghost use Rattle.std.specs.Prelude.{◌≡◌, ◌<◌, ◌⊎◌, ◌||◌, false, true, unwrap_or};
 ghost use Rattle.std.specs.Io.KnownBytes.{Appends};
 ghost use Rattle.std.specs.Io.Buffered.{writer_contents};
 ghost use Rattle.zerotrie_files.specs.Notes.{NothingFailed};
 ghost use Rattle.zerotrie_run.specs.Runs.{Runs, TellsNumber, ReadsTwice, LeavesInput, HandsOn, tells_steps, world};
 ghost use Rattle.zerotrie_run.specs.Statuses.{failure, number_of};
 ghost use Rattle.zerotrie_run.specs.Told.{IsTold, Notes, ended, last_text};
-ghost use Rattle.zerotrie_run.specs.declared.status.Status.TheVariants.{Done, Absent, BadUsage, Unread, Unwritten};
+ghost use Rattle.zerotrie_run.specs.declared.status.Status.TheVariants.{Done, Absent, BadUsage, Unread, Unwritten, Closed};
 
 use crate::asking::{ask, reads_twice};
 use crate::building::build;
@@ -24,14 +24,19 @@ fn failure<D: Disk, R: Read, W: Write + Drop>(
     files: &Store<D>,
     input: &Noted<R>,
     output: &Noted<BufWriter<W>>,
+    is_closed: bool,
 ) -> Status
     ensures { result ≡ failure (input.now.failed || files.now.unread)
-        (output.now.failed || files.now.unwritten) }
+        (output.now.failed || files.now.unwritten) is_closed }
 {
     if input.failed() || files.unread() {
         Status::Unread
     } else if output.failed() || files.unwritten() {
-        Status::Unwritten
+        if is_closed {
+            Status::Closed
+        } else {
+            Status::Unwritten
+        }
     } else {
         Status::OutOfMemory
     }
@@ -43,32 +48,32 @@ fn end_of<D: Disk, R: Read, W: Write + Drop>(
     files: &Store<D>,
     input: &Noted<R>,
     output: &Noted<BufWriter<W>>,
+    is_closed: bool,
 ) -> Status
     ensures { result ≡ unwrap_or refusal (failure (input.now.failed || files.now.unread)
-        (output.now.failed || files.now.unwritten)) }
+        (output.now.failed || files.now.unwritten) is_closed) }
 {
     match refusal {
         Some(status) => status,
-        None => failure(files, input, output),
+        None => failure(files, input, output, is_closed),
     }
 }
 
 /// Tells why a run ends so, and returns how it ends: without memory for the message it is out of
-/// memory. It says nothing if output can't be written since who reads it has closed it.
+/// memory. It says nothing if whoever reads the output has closed it.
 fn end<M: Write>(
     messages: &mut Noted<M>,
     status: Status,
-    is_closed: bool,
     message: Result<Vec<u8>, AllocError>,
 ) -> Status
     ensures status { result ≡ ended status message }
     ensures told { messages.new.failed ≡ false → (messages.old.failed ≡ false)
-        × ((result ≡ Unwritten) ⊎ Appends (M.contents messages.old.inner)
+        × ((result ≡ Closed) ⊎ Appends (M.contents messages.old.inner)
         (M.contents messages.new.inner) (last_text message)) }
 {
     match message {
         Ok(text) => match status {
-            Status::Unwritten if is_closed => status,
+            Status::Closed => status,
             _ => {
                 tell(messages, text.as_slice());
                 status
@@ -87,9 +92,10 @@ fn end<M: Write>(
 /// input. After a fault a beginning of it was printed, or nothing.
 ///
 /// It ends in `Unread` only if a read of a file or of standard input failed, in `Unwritten` only if
-/// a replacement of a file or a write to the output did, and if neither did, it ends by itself or
-/// in `OutOfMemory`. If one of these did, its number is 3: otherwise nothing failed that the files
-/// and streams note. A message that can't be written changes nothing.
+/// a replacement of a file or a write to the output did, and so in `Closed`, if that was since
+/// whoever reads the output has closed it. If neither did, it ends by itself or in `OutOfMemory`.
+/// If one of these did, its number is 3 or 4: otherwise nothing failed that the files and streams
+/// note. A message that can't be written changes nothing.
 ///
 /// After success, or if a key is absent, the buffer is flushed if it was empty before. The only
 /// messages are then the steps of a build, if they were asked for, and a warning for a file that is
@@ -113,7 +119,9 @@ pub fn run<D: Disk, R: Read, W: Write + Drop, M: Write>(
         → (input.new.failed ≡ true) ⊎ (files.new.unread ≡ true) }
     ensures write_failed { result ≡ Unwritten
         → (output.new.failed ≡ true) ⊎ (files.new.unwritten ≡ true) }
-    ensures failed { number_of result ≢ 3
+    ensures closed { result ≡ Closed
+        → (output.new.failed ≡ true) ⊎ (files.new.unwritten ≡ true) }
+    ensures failed { number_of result < 3
         → NothingFailed input.old input.new output.old output.new files.old files.new }
     ensures handed { (result ≡ Done) ⊎ (result ≡ Absent) → HandsOn output.old.inner output.new.inner }
     ensures told { messages.new.failed ≡ false
@@ -132,13 +140,8 @@ pub fn run<D: Disk, R: Read, W: Write + Drop, M: Write>(
         Command::Build(plan) => match build(alloc, plan, files, input, output, messages) {
             Ok(()) => Status::Done,
             Err(error) => {
-                let status = end_of(error.refusal(), files, input, output);
-                end(
-                    messages,
-                    status,
-                    error.is_closed(),
-                    build_text(alloc, plan, &error),
-                )
+                let status = end_of(error.refusal(), files, input, output, error.is_closed());
+                end(messages, status, build_text(alloc, plan, &error))
             }
         },
         Command::Ask(file, question) => {
@@ -150,13 +153,8 @@ pub fn run<D: Disk, R: Read, W: Write + Drop, M: Write>(
                 Ok(true) => Status::Done,
                 Ok(false) => Status::Absent,
                 Err(error) => {
-                    let status = end_of(error.refusal(), files, input, output);
-                    end(
-                        messages,
-                        status,
-                        error.is_closed(),
-                        ask_text(alloc, file, &error),
-                    )
+                    let status = end_of(error.refusal(), files, input, output, error.is_closed());
+                    end(messages, status, ask_text(alloc, file, &error))
                 }
             }
         }

@@ -14,6 +14,8 @@ pub enum Status {
     Absent,
     /// A build of the pairs is refused.
     Refused,
+    /// The file to make is there already, and is not to be replaced.
+    Taken,
     /// The words are no command, or standard input is to be both the file and the keys.
     BadUsage,
     /// A file has no trie, or the input of a build is no pairs.
@@ -24,6 +26,8 @@ pub enum Status {
     Unwritten,
     /// It is out of memory.
     OutOfMemory,
+    /// Whoever reads the output has closed it.
+    Closed,
 }
 
 impl Status {
@@ -33,9 +37,10 @@ impl Status {
     {
         match self {
             Status::Done => 0,
-            Status::Absent | Status::Refused => 1,
+            Status::Absent | Status::Refused | Status::Taken => 1,
             Status::BadUsage | Status::BadInput => 2,
             Status::Unread | Status::Unwritten | Status::OutOfMemory => 3,
+            Status::Closed => 4,
         }
     }
 

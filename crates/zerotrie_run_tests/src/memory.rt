@@ -139,6 +139,8 @@ impl Disk for MemoryDisk {
         Ok(())
     }
 
+    fn remove_left(&mut self, _path: &str) {}
+
     fn append(&mut self, _path: &str, _bytes: &[u8]) -> io::Result<()> {
         Err(io::Error::from(ErrorKind::Unsupported))
     }

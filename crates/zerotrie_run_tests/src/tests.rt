@@ -9,10 +9,10 @@ use std::process::Abort;
 use std::test::Fail;
 use zerotrie_core::TrieKind;
 use zerotrie_files::{Disk, Noted, Store};
-use zerotrie_lines::Format;
-use zerotrie_making::{Plan, Source};
-use zerotrie_queries::{Form, Language, Style, View};
-use zerotrie_run::{Build, Command, Keys, Place, Question, Status, TrieFile, run};
+use zerotrie_lines::{Format, LineEnd};
+use zerotrie_making::{Duplicates, FileForm, Plan, Source};
+use zerotrie_queries::{Asked, Choice, Form, Language, ReportForm, Style, View};
+use zerotrie_run::{Build, Check, Command, Keys, Place, Question, Status, TrieFile, run};
 
 /// A run of the program: the files that are there, the words that are typed in, and what is to come of it.
 struct Row {
@@ -36,11 +36,12 @@ const TRIE: &[u8] = b"\x00\xC2bf\x0Aa\xC2rz\x01\x82zoo\x83oo\x81";
 
 /// The trie of any pairs, of the kind that is taken for them.
 const PLAN: Plan = Plan {
-    source: Source::Text(Format::Tsv),
+    source: Source::Text(Format::Tsv, LineEnd::CrLf),
     kind: None,
+    duplicates: Duplicates::Refuse,
     sorted: false,
     lower_case: false,
-    bare: false,
+    form: FileForm::Tagged,
 };
 
 /// A build of the file `names.trie`, without a word on its steps.
@@ -48,6 +49,7 @@ const BUILD: Build<'static> = Build {
     from: Place::File("names.tsv"),
     to: Place::File("names.trie"),
     plan: PLAN,
+    no_clobber: false,
     progress: false,
 };
 
@@ -83,6 +85,78 @@ const BUILDS: &[Row] = &[
         told: b"zerotrie: names.tsv: read 21 bytes\nzerotrie: names.trie: made 18 bytes\n\
             zerotrie: names.trie: wrote 18 bytes\n",
         left: ("names.trie", TRIE),
+    },
+];
+
+/// The file of the names as it is sealed.
+const SEALED: &[u8] =
+    b"ztri\x89\x8a\r\n\x01\0\0\0\x11\0\0\0\0\0\0\0\xc9\x0b\xf0\x8d\xC2bf\x0Aa\xC2rz\x01\x82zoo\x83oo\x81";
+
+/// A build of that file where one is to be left as it is.
+const SPARING: Build<'static> = Build {
+    plan: Plan {
+        form: FileForm::Sealed,
+        ..PLAN
+    },
+    no_clobber: true,
+    ..BUILD
+};
+
+/// Sealed files: made and asked, spared, and damaged.
+const SEALS: &[Row] = &[
+    Row {
+        files: &[("names.tsv", NAMES)],
+        command: Command::Build(SPARING),
+        status: Status::Done,
+        printed: b"",
+        told: b"",
+        left: ("names.trie", SEALED),
+    },
+    Row {
+        files: &[("names.trie", b"old")],
+        command: Command::Build(SPARING),
+        status: Status::Taken,
+        printed: b"",
+        told: b"zerotrie: names.trie: the file is there already, and --no-clobber leaves it\n",
+        left: ("names.trie", b"old"),
+    },
+    Row {
+        files: &[("names.trie", SEALED)],
+        command: Command::Ask(
+            TrieFile {
+                check: Check::Full,
+                ..FILE
+            },
+            Question::Verify,
+        ),
+        status: Status::Done,
+        printed: b"",
+        told: b"",
+        left: ("names.trie", SEALED),
+    },
+    Row {
+        files: &[("names.trie", SEALED)],
+        command: Command::Ask(FILE, Question::LookUp(Asked::Pair, Keys::Words(ABSENT))),
+        status: Status::Absent,
+        printed: b"bar\t2\nunknown\tnone\n",
+        told: b"",
+        left: ("names.trie", SEALED),
+    },
+    Row {
+        files: &[("names.trie", b"ztri\x89\x8a\r\n\x01\0")],
+        command: Command::Ask(FILE, Question::Verify),
+        status: Status::BadInput,
+        printed: b"",
+        told: b"zerotrie: names.trie: the file is cut short: get all of it\n",
+        left: ("names.trie", b"ztri\x89\x8a\r\n\x01\0"),
+    },
+    Row {
+        files: &[("names.trie", NAMES)],
+        command: Command::Ask(FILE, Question::Verify),
+        status: Status::BadInput,
+        printed: b"",
+        told: b"zerotrie: names.trie: it looks like text: build it first\n",
+        left: ("names.trie", NAMES),
     },
 ];
 
@@ -128,8 +202,8 @@ const REFUSED: &[Row] = &[
 /// The file of the names as a trie.
 const FILE: TrieFile<'static> = TrieFile {
     place: Place::File("names.trie"),
-    kind: None,
-    trust: false,
+    bare: None,
+    check: Check::Usual,
 };
 
 const THERE: &[&[u8]] = &[b"bar"];
@@ -140,7 +214,7 @@ const ABSENT: &[&[u8]] = &[b"bar", b"unknown"];
 const QUESTIONS: &[Row] = &[
     Row {
         files: &[("names.trie", TRIE)],
-        command: Command::Ask(FILE, Question::Get(Keys::Words(THERE))),
+        command: Command::Ask(FILE, Question::LookUp(Asked::Value, Keys::Words(THERE))),
         status: Status::Done,
         printed: b"2\n",
         told: b"",
@@ -148,7 +222,7 @@ const QUESTIONS: &[Row] = &[
     },
     Row {
         files: &[("names.trie", TRIE)],
-        command: Command::Ask(FILE, Question::Get(Keys::Words(ABSENT))),
+        command: Command::Ask(FILE, Question::LookUp(Asked::Value, Keys::Words(ABSENT))),
         status: Status::Absent,
         printed: b"2\nnone\n",
         told: b"",
@@ -156,7 +230,7 @@ const QUESTIONS: &[Row] = &[
     },
     Row {
         files: &[("names.trie", TRIE)],
-        command: Command::Ask(FILE, Question::Longest(Keys::Lines)),
+        command: Command::Ask(FILE, Question::LookUp(Asked::Longest, Keys::Lines)),
         status: Status::Done,
         printed: b"bar\t2\nfoo\t1\n",
         told: b"",
@@ -168,7 +242,7 @@ const QUESTIONS: &[Row] = &[
 const SHOWN: &[Row] = &[
     Row {
         files: &[("names.trie", b"\x00a\x85")],
-        command: Command::Ask(FILE, Question::List(Form::Lines(Style::Tsv), b"a")),
+        command: Command::Ask(FILE, Question::List(Form::Lines(Style::Tsv), Choice::Prefix(b"a"), None)),
         status: Status::Done,
         printed: b"a\t5\n",
         told: b"",
@@ -176,7 +250,7 @@ const SHOWN: &[Row] = &[
     },
     Row {
         files: &[("names.trie", b"\x00a\x85")],
-        command: Command::Ask(FILE, Question::List(Form::Lines(Style::Tsv), b"b")),
+        command: Command::Ask(FILE, Question::List(Form::Lines(Style::Tsv), Choice::Prefix(b"b"), None)),
         status: Status::Done,
         printed: b"",
         told: b"",
@@ -203,7 +277,7 @@ const SHOWN: &[Row] = &[
     },
     Row {
         files: &[("names.trie", b"\x00a\x85")],
-        command: Command::Ask(FILE, Question::Report),
+        command: Command::Ask(FILE, Question::Report(ReportForm::Lines)),
         status: Status::Done,
         printed: b"kind\tsimple\nbytes\t2\npairs\t1\ngreatest value\t5\nbytes a key\t2.00\n\
             depth\t0\nnodes\t2\nliterals\t1\nspans\t0\nbranches\t0\n",
@@ -216,10 +290,10 @@ const SHOWN: &[Row] = &[
 const UNANSWERED: &[Row] = &[
     Row {
         files: &[("names.trie", b"\x00a")],
-        command: Command::Ask(FILE, Question::Report),
+        command: Command::Ask(FILE, Question::Report(ReportForm::Lines)),
         status: Status::BadInput,
         printed: b"",
-        told: b"zerotrie: names.trie: no trie of kind simple: the bytes end where a key has to go on, at byte 1 after the number of the kind\n",
+        told: b"zerotrie: names.trie: no trie of kind simple: the bytes end where a key has to go on, at byte 1 of the trie in it\n",
         left: ("names.trie", b"\x00a"),
     },
     Row {
@@ -227,7 +301,7 @@ const UNANSWERED: &[Row] = &[
         command: Command::Ask(FILE, Question::Code(Language::C, "trie")),
         status: Status::BadInput,
         printed: b"",
-        told: b"zerotrie: names.trie: no trie of kind simple: the bytes end where a key has to go on, at byte 1 after the number of the kind\n",
+        told: b"zerotrie: names.trie: no trie of kind simple: the bytes end where a key has to go on, at byte 1 of the trie in it\n",
         left: ("names.trie", b"\x00a"),
     },
     Row {
@@ -237,7 +311,7 @@ const UNANSWERED: &[Row] = &[
                 place: Place::Stream,
                 ..FILE
             },
-            Question::Get(Keys::Lines),
+            Question::LookUp(Asked::Value, Keys::Lines),
         ),
         status: Status::BadUsage,
         printed: b"",
@@ -246,7 +320,7 @@ const UNANSWERED: &[Row] = &[
     },
     Row {
         files: &[("names.tsv", NAMES)],
-        command: Command::Ask(FILE, Question::Get(Keys::Lines)),
+        command: Command::Ask(FILE, Question::LookUp(Asked::Value, Keys::Lines)),
         status: Status::Unread,
         printed: b"",
         told: b"zerotrie: names.trie: entity not found\n",
@@ -256,18 +330,21 @@ const UNANSWERED: &[Row] = &[
 
 /// The file of the names as bare bytes of a kind, which they are not: the number of a kind stands in front.
 const BARE: TrieFile<'static> = TrieFile {
-    kind: Some(TrieKind::Simple),
-    trust: true,
+    bare: Some(TrieKind::Simple),
+    check: Check::Skip,
     ..FILE
 };
 
 /// A question to such a file, of which a note warns.
 const NOTED: &[Row] = &[Row {
     files: &[("names.trie", TRIE)],
-    command: Command::Ask(BARE, Question::List(Form::Lines(Style::Values), b"\0c")),
+    command: Command::Ask(
+        BARE,
+        Question::List(Form::Lines(Style::Values), Choice::Prefix(b"\0c"), None),
+    ),
     status: Status::Done,
     printed: b"",
-    told: b"zerotrie: names.trie: read as bare bytes, though its first byte is the number of kind simple: leave out --kind unless every key begins with that byte\n",
+    told: b"zerotrie: names.trie: read as bare bytes, though its first byte is the number of kind simple: leave out --bare unless every key begins with that byte\n",
     left: ("names.trie", TRIE),
 }];
 
@@ -315,6 +392,11 @@ fn are_run<H: Abort>(rt: &H, alloc: Global, rows: &[Row]) -> Result<(), Fail> {
 #[test]
 fn a_file_is_made(rt: HostRuntime) -> Result<(), Fail> {
     are_run(&rt, rt.alloc(), BUILDS)
+}
+
+#[test]
+fn sealed_files_are_made_asked_and_spared(rt: HostRuntime) -> Result<(), Fail> {
+    are_run(&rt, rt.alloc(), SEALS)
 }
 
 #[test]
@@ -367,7 +449,7 @@ fn whole_lines_are_answered_before_a_fault(rt: HostRuntime) -> Result<(), Fail> 
     let mut input = Noted::new(Broken { left: b"barn\nf" });
     let status = run(
         alloc,
-        Command::Ask(FILE, Question::Longest(Keys::Lines)),
+        Command::Ask(FILE, Question::LookUp(Asked::Longest, Keys::Lines)),
         &mut files,
         &mut input,
         &mut output,
@@ -390,7 +472,7 @@ fn a_beginning_is_printed_as_far_as_there_is_room(rt: HostRuntime) -> Result<(),
     let mut messages = Noted::new(Vec::new(alloc));
     let status = run(
         alloc,
-        Command::Ask(FILE, Question::List(Form::Lines(Style::Tsv), b"")),
+        Command::Ask(FILE, Question::List(Form::Lines(Style::Tsv), Choice::Prefix(b""), None)),
         &mut files,
         &mut Noted::new(b"".as_slice()),
         &mut output,

@@ -1,5 +1,5 @@
 -- What is left of a sorted listing.
-use Rattle.std.proofs.Common.{◌≡◌, ℕ, List, [], ◌∷◌, ◌++◌, refl, sym, ◌∙◌, ap, subst, arith, Option, Some, None, Bool, true, false, cond, Ordering, Less, Equal, Greater}
+use Rattle.std.proofs.Common.{◌≡◌, ℕ, List, [], ◌∷◌, ◌++◌, length, refl, sym, ◌∙◌, ap, subst, arith, ◌≤◌, Option, Some, None, Bool, true, false, cond, Ordering, Less, Equal, Greater}
 use Rattle.std.specs.Prelude.{T, filter, ◌&&◌}
 use Rattle.std.specs.Cmp.{tied_itself, unsigned_ties, eq_by_cmp_equiv}
 use Rattle.std.specs.Cmp.Lexicographic.{slice_cmp, nat_list_cmp_total, lists_ties}
@@ -13,12 +13,15 @@ use Rattle.zerotrie_base.specs.Kind.{Kind, simple_ascii}
 use Rattle.zerotrie_base.specs.Texts.{Lists, Means}
 use Rattle.zerotrie_core.proofs.ForCallers.{listed_pairs}
 use Rattle.std.proofs.lemmas.List.{append-nil}
+use Rattle.std.proofs.lemmas.List.Sums.{length-filter, count_by-le-length}
+use Rattle.zerotrie_base.proofs.CanonicalLemmas.Bounds.{entries_count}
+use Rattle.zerotrie_search.proofs.PathLemmas.{lists_few}
 use Rattle.zerotrie_search.specs.Sorted.{within}
 use Rattle.zerotrie_search.specs.SortedLaws.{SortedAscends}
 use Rattle.zerotrie_base.specs.Maps.{Pairs, Map, map_of, value_at, same_key, Ascends}
 use Rattle.zerotrie_core.proofs.CallerLemmas.{same-entries, exact_same, exact_itself, entries-map_of}
 use Rattle.zerotrie_search.specs.Sets.{by_bytes}
-use Rattle.zerotrie_search.specs.Paths.{SameFrom, NoneFrom, Starts, IsFollowed, is_from, bound_at, pairs_from, edges_from}
+use Rattle.zerotrie_search.specs.Paths.{SameFrom, NoneFrom, Starts, IsFollowed, MostFrom, is_from, bound_at, pairs_from, edges_from}
 use Rattle.zerotrie_search.proofs.OrderLemmas.{one_from}
 
 -- keys are equal as the order of the map says
@@ -197,6 +200,18 @@ module _ {kind : Kind} {bytes : List ℕ} {pairs : Pairs} (lists : Lists kind by
 
   pub finds_beyond : (to : Bound (List ℕ)) (bound key : List ℕ) → SameFrom pairs bound key → is_up_to_end by_bytes to key ≡ false → pairs_from kind bytes to bound ≡ []
   finds_beyond to bound key same past = subst (λ ps. filter (λ e. is_from bound e.0 && is_up_to_end by_bytes to e.0) (entries (map_of ps)) ≡ []) (sym (listed_pairs lists)) (left_beyond pairs to bound key same past)
+
+-- a listing has no more pairs than bytes
+pub most_from : (kind : Kind) (bytes : List ℕ) (to : Bound (List ℕ)) (bound : List ℕ) → MostFrom kind bytes to bound (length bytes)
+most_from kind bytes to bound pairs lists =
+    let passes : List ℕ × ℕ → Bool = λ e. is_from bound e.0 && is_up_to_end by_bytes to e.0 in
+    let few : length (filter passes (entries (map_of pairs))) ≤ length bytes =
+    (let count = length-filter passes (entries (map_of pairs)) in
+    let fewer = count_by-le-length passes (entries (map_of pairs)) in
+    let each = entries_count pairs in
+    let most = lists_few lists in
+    omega (arith, count, fewer, each, most)) in
+    subst (λ ps. length (filter passes (entries (map_of ps))) ≤ length bytes) (sym (listed_pairs lists)) few
 
 -- where a listing starts
 pub starts_included : (kind : Kind) (bytes bound key : List ℕ) (next : Option ℕ) → IsFollowed kind bytes bound key next → Starts kind bytes (Included bound) (bound_at key next)

@@ -126,3 +126,35 @@ behind_deep (b ∷ key) pairs (suc n) s some = let r = behind_deep key (residual
 -- bytes that begin a key are no more than the bytes of the trie
 pub key_short : {kind : Kind} {bytes : List ℕ} {pairs : Pairs} → Lists kind bytes pairs → (key : List ℕ) → behind_all key pairs ≢ [] → length key ≤ length bytes
 key_short {bytes = bytes} {pairs = pairs} text key some = behind_deep key pairs (length bytes) (lists_short text) some
+
+length-front : (b : ℕ) (pairs : Pairs) → length (with_front b pairs) ≡ length pairs
+length-front b [] = refl
+length-front b (e ∷ pairs) = ap suc (length-front b pairs)
+
+length-run : (run : List ℕ) (pairs : Pairs) → length (with_run run pairs) ≡ length pairs
+length-run run [] = refl
+length-run run (e ∷ pairs) = ap suc (length-run run pairs)
+
+mutual
+  -- there are no more pairs than bytes
+  pub lists_few : {kind : Kind} {bytes : List ℕ} {pairs : Pairs} → Lists kind bytes pairs → length pairs ≤ length bytes
+  lists_few nothing = omega arith
+  lists_few (value {spelling = spelling} {rest = rest} {pairs = pairs} s n text) =
+      let one : length spelling ≡ suc (length s.trail) = ap length s.bytes_are in
+      let few = lists_few text in
+      omega (arith, one, few, length-append spelling rest)
+  lists_few (literal {b = b} {rest = rest} {pairs = pairs} low n text) = let few = lists_few text in omega (arith, few, length-front b pairs)
+  lists_few (span {spelling = spelling} {rest = rest} {pairs = pairs} run h some high s n f text) =
+      let few = lists_few text in
+      omega (arith, few, length-run run pairs, length-append spelling (run ++ rest), length-append run rest)
+  lists_few (branch {targets = targets} {bytes = bytes} {pairs = pairs} b each) =
+      let few = each_few each in
+      let long = branch_long b in
+      omega (arith, few, long)
+
+  each_few : {kind : Kind} {edges : List ℕ} {targets : List (List ℕ)} {pairs : Pairs} → ListEach kind edges targets pairs → length pairs ≤ length (concat targets)
+  each_few no_edge = omega arith
+  each_few (edge {e = e} {target = target} {targets = targets} {pairs = p} {more = m} n text each) =
+      let few = lists_few text in
+      let more = each_few each in
+      omega (arith, few, more, length-front e p, length-append (with_front e p) m, length-append target (concat targets))

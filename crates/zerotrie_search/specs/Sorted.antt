@@ -26,11 +26,13 @@ last_of [] = None
 last_of (e ∷ []) = Some e
 last_of (e ∷ f ∷ pairs) = last_of (f ∷ pairs)
 
--- A sorted listing: the key and the value in hand, what is left, and the trie.
+-- A sorted listing: the key and the value in hand, what is left, at most how many pairs are to come
+-- on any bytes, and the trie.
 pub record Sorting : Type 0 where
   pub key : List ℕ
   pub value : ℕ
   pub left : Left
+  pub most : ℕ
   pub kind : Kind
   pub bytes : List ℕ
 
@@ -40,3 +42,9 @@ abbrev pub sorted_item : Result Bool AllocError → Sorting → Option (Result (
 sorted_item (Ok true) after = Some (Ok (after.key, after.value))
 sorted_item (Ok false) after = None
 sorted_item (Err e) after = Some (Err OutOfMemory)
+
+-- to how many pairs a call of `advance` moved
+abbrev pub moved : Result Bool AllocError → ℕ
+moved (Ok true) = 1
+moved (Ok false) = 0
+moved (Err e) = 0

@@ -24,7 +24,7 @@ use std::ops::Bound;
 /// ```
 ///
 /// A state is the range of what may follow, or `None` if nothing may.
-#[derive(Clone, Copy)]
+#[derive(Clone, Copy, Debug)]
 pub struct KeyRange<'p> {
     pub from: Bound<&'p [u8]>,
     pub to: Bound<&'p [u8]>,

@@ -1,6 +1,6 @@
 //! Searches of the tries of each type.
 
-ghost use Rattle.std.specs.Prelude.{◌≡◌, ℕ, List, IfOk};
+ghost use Rattle.std.specs.Prelude.{◌≡◌, ◌≤◌, ℕ, List, length, IfOk};
 ghost use Rattle.std.specs.Option.{option_map};
 ghost use Rattle.std.specs.Range.Bound.{bound_map, bounds_contain};
 ghost use Rattle.std.specs.declared.ops.Bound.TheVariants.{Included, Excluded, Unbounded};
@@ -156,6 +156,7 @@ pub trait Search {
         ensures pairs { IfOk result (λ s. (m : Map) → Means (kind self.now) (bytes self.now) m
             → s.left ≡ to_come (within (bound_map (λ b. b.now) from.entry)
             (bound_map (λ b. b.now) to.entry) m)) }
+        ensures most { IfOk result (λ s. s.most ≤ length (bytes self.now)) }
         ensures kind { IfOk result (λ s. s.kind ≡ kind self.now) }
         ensures bytes { IfOk result (λ s. s.bytes ≡ bytes self.now) }
     {

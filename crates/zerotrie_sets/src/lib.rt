@@ -9,6 +9,7 @@ pub mod laws;
 mod merge;
 mod merge_all;
 mod slice;
+mod sorted;
 mod stream;
 
 pub use combined::{Combined, Keep, Operation};
@@ -16,4 +17,5 @@ pub use diff::{Change, Diff};
 pub use merge::Merge;
 pub use merge_all::MergeAll;
 pub use slice::SortedSlice;
+pub use sorted::SortedTrie;
 pub use stream::{SimpleStream, SortedStream};

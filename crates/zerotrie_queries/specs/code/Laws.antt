@@ -1,10 +1,11 @@
 -- What is written as code is read back.
-use Rattle.std.specs.Prelude.{◌≡◌, ℕ, ◌<◌, List, [], ◌∷◌, All, true, Option, Some, None, bytes_eq, cond, codes}
+use Rattle.std.specs.Prelude.{◌≡◌, ℕ, ◌+◌, ◌<◌, ◌==◌, List, [], ◌∷◌, length, All, true, Option, Some, None, bytes_eq, cond, codes, if◌then◌else◌}
 use Rattle.zerotrie_core.specs.Kind.{tag}
 use Rattle.zerotrie_core.specs.Kinds.{kind_of}
 use Rattle.zerotrie_queries.specs.code.Texts.{c_kind}
 use Rattle.zerotrie_core.specs.declared.TrieKind.{TrieKind}
 use Rattle.zerotrie_queries.specs.declared.code.Language.{Language}
+use Rattle.zerotrie_queries.specs.declared.code.Language.TheVariants as lang
 use Rattle.zerotrie_queries.specs.code.Names.{is_name}
 use Rattle.zerotrie_queries.specs.code.Items.{numbers_in}
 use Rattle.zerotrie_queries.specs.code.Code.{code}
@@ -28,3 +29,17 @@ header_kinds =
 -- the constant that the code of C names is the number of the kind
 abbrev pub CodeNamesKind : Type 0
 CodeNamesKind = (kind : TrieKind) → number_at header_kinds (c_kind kind) ≡ Some (tag (kind_of kind))
+
+-- how many items stand before the brace that ends a list: those with a comma after them, and the last
+abbrev pub items_before_end : List ℕ → ℕ
+items_before_end [] = 1
+items_before_end (c ∷ text) = if c == 125 then 1 else (if c == 44 then 1 + items_before_end text else items_before_end text)
+
+-- how many stand in the first braces of a text
+abbrev pub items_in_braces : List ℕ → ℕ
+items_in_braces [] = 0
+items_in_braces (c ∷ text) = if c == 123 then items_before_end text else items_in_braces text
+
+-- the array in the code of C has one item more than there are bytes, so its size less one, which is the length in the code, is their number
+abbrev pub CodeCountsBytes : Type 0
+CodeCountsBytes = (kind : TrieKind) (name bytes : List ℕ) → is_name name ≡ true → All (λ b. b < 256) bytes → items_in_braces (code lang.C kind name bytes) ≡ length bytes + 1

@@ -1,20 +1,14 @@
 //! The lines of a report: a name, a tab and a number each.
 
-ghost use Rattle.std.specs.Prelude.{◌≡◌, ◌++◌, ◌<◌, ◌*◌, ◌/◌, OnOk, OnErr, codes};
-ghost use Rattle.std.specs.Io.KnownBytes.{Appends};
-ghost use Rattle.zerotrie_files.specs.Faults.{IsNoted};
-ghost use Rattle.zerotrie_files.specs.Parts.{AppendsPart};
+ghost use Rattle.std.specs.Prelude.{◌≡◌, ◌++◌, ◌<◌, ◌*◌, ◌/◌, OnOk, codes};
 ghost use Rattle.zerotrie_queries.specs.reports.Lines.{text_line, number_line, option_text, ratio_text, group_text, group_name, cell_name, cell_line, cell_lines, size_lines, key_lines, node_lines, report_lines};
 
 use crate::reports::counting::Report;
-use std::alloc::{AllocError, Global};
-use std::io;
-use std::io::Write;
-use zerotrie_files::Noted;
+use std::alloc::AllocError;
 use zerotrie_lines::write_number;
 
 /// Adds a text.
-fn add_text(lines: &mut Vec<u8>, text: &str) -> Result<(), AllocError>
+pub(crate) fn add_text(lines: &mut Vec<u8>, text: &str) -> Result<(), AllocError>
     ensures { OnOk result (lines.new.items ≡ lines.old.items ++ text.now) }
 {
     lines.extend_from_slice(text.as_bytes())
@@ -182,28 +176,11 @@ fn add_nodes(lines: &mut Vec<u8>, report: &Report) -> Result<(), AllocError>
 }
 
 /// Adds the lines of a report.
-fn add_report(lines: &mut Vec<u8>, report: &Report) -> Result<(), AllocError>
+pub(crate) fn add_report(lines: &mut Vec<u8>, report: &Report) -> Result<(), AllocError>
     ensures { OnOk result (lines.new.items ≡ lines.old.items ++ report_lines report.now) }
 {
     add_sizes(lines, report)?;
     add_keys(lines, report)?;
     add_nodes(lines, report)?;
     add_cells(lines, &report.branches.cells[..])
-}
-
-/// Writes the lines of a report. If it fails, a beginning of them was written.
-pub(crate) fn write_report<W: Write>(
-    alloc: Global,
-    report: &Report,
-    output: &mut Noted<W>,
-) -> io::Result<()>
-    ensures all { OnOk result (Appends (W.contents output.old.inner) (W.contents output.new.inner)
-        (report_lines report.now)) }
-    ensures part { OnErr result (AppendsPart (W.contents output.old.inner) (W.contents output.new.inner)
-        (report_lines report.now)) }
-    ensures noted { IsNoted result output.old.failed output.new.failed }
-{
-    let mut lines = Vec::new(alloc);
-    add_report(&mut lines, report)?;
-    output.write_bytes(lines.as_slice())
 }

@@ -2,7 +2,7 @@
 //! names of its own.
 
 use std::fs;
-use std::fs::Permissions;
+use std::fs::{File, Permissions};
 use std::os::unix::fs::{PermissionsExt, symlink};
 use std::process::Abort;
 use std::rt::Files;
@@ -10,7 +10,7 @@ use std::test::Fail;
 use zerotrie_files::{Disk, Found, Store, SystemDisk};
 
 /// Whether a file holds these bytes.
-fn holds<R: Files + AllocGlobal>(rt: &R, path: &str, bytes: &[u8]) -> bool {
+fn holds<R: Files<File = File> + AllocGlobal>(rt: &R, path: &str, bytes: &[u8]) -> bool {
     match SystemDisk::new(rt).read(path) {
         Ok(held) => held.as_slice() == bytes,
         Err(_) => false,
@@ -18,12 +18,12 @@ fn holds<R: Files + AllocGlobal>(rt: &R, path: &str, bytes: &[u8]) -> bool {
 }
 
 /// Whether there is nothing at a path.
-fn is_free<R: Files + AllocGlobal>(rt: &R, path: &str) -> bool {
+fn is_free<R: Files<File = File> + AllocGlobal>(rt: &R, path: &str) -> bool {
     matches!(SystemDisk::new(rt).find(path), Ok(Found::Nothing))
 }
 
 /// Whether a file has these bits of a mode.
-fn has_mode<R: Files + AllocGlobal>(rt: &R, path: &str, mode: u32) -> bool {
+fn has_mode<R: Files<File = File> + AllocGlobal>(rt: &R, path: &str, mode: u32) -> bool {
     match fs::metadata(rt, path) {
         Ok(found) => found.permissions().mode() & 0o7777 == mode,
         Err(_) => false,
@@ -31,7 +31,7 @@ fn has_mode<R: Files + AllocGlobal>(rt: &R, path: &str, mode: u32) -> bool {
 }
 
 /// Replaces a file, and returns whether that was done.
-fn replaces<R: Files + AllocGlobal>(rt: &R, path: &str, bytes: &[u8]) -> bool {
+fn replaces<R: Files<File = File> + AllocGlobal>(rt: &R, path: &str, bytes: &[u8]) -> bool {
     Store::new(SystemDisk::new(rt))
         .replace(rt.alloc(), path, bytes)
         .is_ok()
@@ -45,7 +45,8 @@ fn a_file_is_made_and_replaced(rt: HostRuntime) -> Result<(), Fail> {
     assert!(rt; holds(&rt, "made", b"one"));
     assert!(rt; replaces(&rt, "made", b"a second text"));
     assert!(rt; holds(&rt, "made", b"a second text"));
-    assert!(rt; holds(&rt, "made.0.tmp", b"taken"));
+    // no process holds the file that was there
+    assert!(rt; is_free(&rt, "made.0.tmp"));
     assert!(rt; is_free(&rt, "made.1.tmp"));
     assert!(rt; holds(&rt, "other", b"kept"));
     Ok(())

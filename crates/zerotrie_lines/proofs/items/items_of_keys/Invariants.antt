@@ -1,14 +1,14 @@
 use Rattle.std.proofs.Common.{◌+◌, ◌≤◌, length}
 use Rattle.zerotrie_lines.specs.Tables.{pairs_of}
-use Rattle.zerotrie_lines.specs.Lines.{lines_of}
+use Rattle.zerotrie_lines.specs.Lines.{ended_lines}
 use Rattle.zerotrie_lines.specs.declared.reading.Format.TheVariants.{Lines}
 use Rattle.zerotrie_lines.proofs.ReadLemmas.{ReadTo}
 use Rattle.zerotrie_lines.proofs.items.items_of_keys.Given as goal
 
 abbrev pub invariant-loop-rest : goal.invariant-loop-rest
 invariant-loop-rest l = record {
-  few : l.number + length l.rest ≤ length l.input;
-  read : ReadTo Lines (lines_of l.input) (pairs_of l.items.items) (l.number + 1) (lines_of l.rest);
+  few : l.number + length l.rest ≤ length l.text;
+  read : ReadTo Lines (ended_lines l.end l.text) (pairs_of l.items.items) (l.number + 1) (ended_lines l.end l.rest);
 }
 
 abbrev pub decreases-loop-rest : goal.decreases-loop-rest

@@ -1,41 +1,46 @@
-use Rattle.std.proofs.Common.{◌+◌, Any, subst, sym, ap, refl, ◌∙◌}
-use Rattle.zerotrie_lines.specs.Lines.{lines_of}
+use Rattle.std.proofs.Common.{◌+◌, Any, subst, sym, ap, refl, ◌∙◌, false}
+use Rattle.std.specs.List.{before_first, after_first}
+use Rattle.zerotrie_lines.specs.Lines.{is_feed, ended, ended_lines}
 use Rattle.zerotrie_lines.specs.Tables.{pairs_of}
 use Rattle.zerotrie_lines.specs.declared.reading.Format.TheVariants.{Tsv}
-use Rattle.std.specs.List.{before_first, after_first}
-use Rattle.zerotrie_lines.specs.Lines.{is_feed}
 use Rattle.zerotrie_lines.specs.Reads.{IsNotPlain}
 use Rattle.zerotrie_lines.proofs.ItemLemmas.{pairs_push}
-use Rattle.zerotrie_lines.proofs.LineLemmas.{first_lines, is_nil, not_nil}
+use Rattle.zerotrie_lines.proofs.LineLemmas.{is_nil, not_nil}
+use Rattle.zerotrie_lines.proofs.EndLemmas.{first_ended, none_ended}
 use Rattle.zerotrie_lines.proofs.ReadLemmas.{ReadTo, read_none, read_more, read_all, any_first, any_later}
 use Rattle.zerotrie_lines.proofs.items.items_of_tsv.Goals as goal
 
 pub loop-rest-init : goal.loop-rest-init
-loop-rest-init c = (1, rw c.new-items.ensures.items (read_none Tsv (lines_of c.args.input.now)), λ h. h)
+loop-rest-init c = (1, rw c.new-items.ensures.items (read_none Tsv (ended_lines c.args.end c.args.text.now)), λ h. h)
 
 pub loop-rest-preserved : goal.loop-rest-preserved
 loop-rest-preserved c =
+    let end = c.args.end in
     let rest = c.loop-rest.rest.now in
-    let line = before_first is_feed rest in
+    let line = ended end (before_first is_feed rest) in
     let after = c.take_plain.new.rest.now in
     let items = c.loop-rest.items.items in
     let item = c.in-Some.item in
     let n = c.loop-rest.invariant.0 in
-    let first = first_lines rest line after (not_nil rest c.loop-rest-test.ensures) refl c.in-Some.ensures.rest in
+    let all = ended_lines end c.args.text.now in
+    let first = first_ended end rest line after (not_nil rest c.loop-rest-test.ensures) refl c.in-Some.ensures.rest in
     let pushed = ap pairs_of c.in_ok-push-in-Some.ensures.items ∙ pairs_push items item in (
       n + 1,
-      subst (λ p. ReadTo Tsv (lines_of c.args.input.now) p (n + 1) (lines_of after)) (sym pushed)
-          (read_more Tsv (lines_of c.args.input.now) (lines_of rest) (lines_of after) (pairs_of items) n line (item.0.now, item.1) c.loop-rest.invariant.1 first c.in-Some.ensures.pair),
-      λ h. c.loop-rest.invariant.2 (subst (Any IsNotPlain) (sym first) (any_later IsNotPlain line (lines_of after) h)),
+      subst (λ p. ReadTo Tsv all p (n + 1) (ended_lines end after)) (sym pushed)
+          (read_more Tsv all (ended_lines end rest) (ended_lines end after) (pairs_of items) n line (item.0.now, item.1) c.loop-rest.invariant.1 first c.in-Some.ensures.pair),
+      λ h. c.loop-rest.invariant.2 (subst (Any (IsNotPlain false)) (sym first) (any_later (IsNotPlain false) line (ended_lines end after) h)),
     )
 
 pub returns-in-None-clause-none : goal.returns-in-None-clause-none
 returns-in-None-clause-none c =
+    let end = c.args.end in
     let rest = c.loop-rest.rest.now in
-    let first = first_lines rest (before_first is_feed rest) (after_first is_feed rest) (not_nil rest c.loop-rest-test.ensures) refl refl in
-    c.loop-rest.invariant.2 (subst (Any IsNotPlain) (sym first) (any_first IsNotPlain (before_first is_feed rest) (lines_of (after_first is_feed rest)) c.in-None.ensures.not_plain))
+    let line = ended end (before_first is_feed rest) in
+    let after = ended_lines end (after_first is_feed rest) in
+    let first = first_ended end rest line (after_first is_feed rest) (not_nil rest c.loop-rest-test.ensures) refl refl in
+    c.loop-rest.invariant.2 (subst (Any (IsNotPlain false)) (sym first) (any_first (IsNotPlain false) line after c.in-None.ensures.not_plain))
 
 pub returns-clause-reads : goal.returns-clause-reads
 returns-clause-reads c =
-    read_all Tsv (lines_of c.args.input.now) (lines_of c.loop-rest.rest.now) (pairs_of c.loop-rest.items.items) c.loop-rest.invariant.0 c.loop-rest.invariant.1
-    (ap lines_of (is_nil c.loop-rest.rest.now c.loop-rest-test.ensures))
+    read_all Tsv (ended_lines c.args.end c.args.text.now) (ended_lines c.args.end c.loop-rest.rest.now) (pairs_of c.loop-rest.items.items) c.loop-rest.invariant.0 c.loop-rest.invariant.1
+    (none_ended c.args.end c.loop-rest.rest.now (is_nil c.loop-rest.rest.now c.loop-rest-test.ensures))

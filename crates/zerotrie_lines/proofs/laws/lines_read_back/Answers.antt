@@ -2,4 +2,4 @@ use Rattle.zerotrie_lines.proofs.BackLemmas.{lines_back}
 use Rattle.zerotrie_lines.proofs.laws.lines_read_back.Goals as goal
 
 pub returns : goal.returns
-returns c = λ pairs below. lines_back pairs 1 below
+returns c = λ end pairs below. lines_back end pairs below

@@ -1,23 +1,24 @@
 use Rattle.std.proofs.Common.{◌+◌, length, subst, sym, ap, arith, refl}
-use Rattle.zerotrie_lines.specs.Lines.{lines_of}
+use Rattle.zerotrie_lines.specs.Lines.{ended_lines}
 use Rattle.zerotrie_lines.specs.declared.reading.Format.TheVariants.{Lines}
-use Rattle.zerotrie_lines.proofs.LineLemmas.{first_lines, after_shorter, is_nil, not_nil}
+use Rattle.zerotrie_lines.proofs.LineLemmas.{after_shorter, is_nil, not_nil}
+use Rattle.zerotrie_lines.proofs.EndLemmas.{first_ended, none_ended}
 use Rattle.zerotrie_lines.proofs.ReadLemmas.{ReadTo, read_more, read_all}
 use Rattle.zerotrie_lines.proofs.reading.read_keys.Goals as goal
 
 pub loop-rest-preserved : goal.loop-rest-preserved
 loop-rest-preserved c =
     let rest = c.loop-rest.rest.now in
-    let line = c.take_line-line in
+    let line = c.take_ended-line in
     let after = line.new.rest.now in
     let some = not_nil rest c.loop-rest-test.ensures in
-    let first = first_lines rest line.result.now after some line.ensures.line line.ensures.rest in record {
+    let first = first_ended c.args.end rest line.result.now after some line.ensures.line line.ensures.rest in record {
       few = omega (arith, c.loop-rest.invariant.few, after_shorter rest some, ap (λ t. length t) line.ensures.rest);
-      read = subst (λ t. ReadTo Lines (lines_of c.args.input.now) t (c.loop-rest.number + 1 + 1) (lines_of after)) (sym c.in_ok-push.ensures.ok)
-          (read_more Lines (lines_of c.args.input.now) (lines_of rest) (lines_of after) c.loop-rest.table (c.loop-rest.number + 1) line.result.now (line.result.now, c.loop-rest.number + 1) c.loop-rest.invariant.read first refl);
+      read = subst (λ t. ReadTo Lines (ended_lines c.args.end c.args.text.now) t (c.loop-rest.number + 1 + 1) (ended_lines c.args.end after)) (sym c.in_ok-push.ensures.ok)
+          (read_more Lines (ended_lines c.args.end c.args.text.now) (ended_lines c.args.end rest) (ended_lines c.args.end after) c.loop-rest.table (c.loop-rest.number + 1) line.result.now (line.result.now, c.loop-rest.number + 1) c.loop-rest.invariant.read first refl);
     }
 
 pub returns-clause-ok : goal.returns-clause-ok
 returns-clause-ok c =
-    read_all Lines (lines_of c.args.input.now) (lines_of c.loop-rest.rest.now) c.loop-rest.table (c.loop-rest.number + 1) c.loop-rest.invariant.read
-    (ap lines_of (is_nil c.loop-rest.rest.now c.loop-rest-test.ensures))
+    read_all Lines (ended_lines c.args.end c.args.text.now) (ended_lines c.args.end c.loop-rest.rest.now) c.loop-rest.table (c.loop-rest.number + 1) c.loop-rest.invariant.read
+    (none_ended c.args.end c.loop-rest.rest.now (is_nil c.loop-rest.rest.now c.loop-rest-test.ensures))

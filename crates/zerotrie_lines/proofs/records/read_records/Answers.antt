@@ -1,10 +1,11 @@
 use Rattle.std.proofs.Common.{Bor, List, ℕ, ◌∙◌, ◌++◌, ◌∷◌, [], Some, inl, inr, refl, sym, subst, arith, length-append}
-use Rattle.csv.specs.Reading.{Reached, default_config, strip_bom}
+use Rattle.csv.specs.Reading.{Reached, strip_bom}
 use Rattle.csv.specs.Records.{fields_of}
 use Rattle.csv.specs.declared.parser.State.TheVariants as st
 use Rattle.csv.proofs.ReadFacts.{rows-more}
-use Rattle.zerotrie_lines.specs.Records.{ArePairRecords}
-use Rattle.zerotrie_lines.proofs.RecordLemmas.{records_push}
+use Rattle.zerotrie_lines.specs.Reads.{ExplainsRecords}
+use Rattle.zerotrie_lines.specs.Records.{ArePairRecords, config_of}
+use Rattle.zerotrie_lines.proofs.RecordLemmas.{records_push, with_end}
 use Rattle.zerotrie_lines.proofs.records.read_records.Goals as goal
 
 pub loop-index-init : goal.loop-index-init
@@ -12,10 +13,11 @@ unfolding Reached
 loop-index-init c =
     let fr = c.from_reader-reader.ensures in
     let h = c.has_headers.ensures in
+    let t = c.terminator.ensures in
     let f = c.flexible.ensures in (
-      rw (f, h) at fr.trim ∙ c.new.ensures.trim,
+      rw (f, h, t) at fr.trim ∙ c.new.ensures.trim,
       inr (inr (rw (f, h) at fr.has_headers, fr.headers)),
-      rw (f, h) at fr.config ∙ c.new.ensures.config,
+      rw (f, h, t) at fr.config ∙ rw (c.new.ensures.config, c.terminator_of.ensures) (with_end c.args.end),
       strip_bom c.args.input.now,
       fr.source,
       [],
@@ -29,7 +31,8 @@ returns-in-Some-clause-err c =
     let (trim, ready, config, y, source, rows, reached, pairs, count) = c.loop-index.invariant in
     let fields = fields_of c.read_byte_record.new.row in
     let r = rw c.if-not-found.false at (c.in-Ok.ensures.reads trim ready) in
-    let m = rows-more (λ (s : Bor (List ℕ)). Some s.now) c.loop-index.reader c.read_byte_record.new.self fields default_config st.StartRecord (strip_bom c.args.input.now) y rows config source reached r in
+    let m = rows-more (λ (s : Bor (List ℕ)). Some s.now) c.loop-index.reader c.read_byte_record.new.self fields (config_of c.args.end) st.StartRecord (strip_bom c.args.input.now) y rows config source reached r in
+    subst (λ e. ExplainsRecords c.args.end c.args.input.now e) (sym c.at_line.ensures)
     (rows, fields, c.loop-index.table, (c.read_byte_record.new.self.state, m.0, m.2), pairs, omega (arith, count), rw c.in-Some.is at c.in_ok-bad.ensures.none)
 
 pub loop-index-preserved : goal.loop-index-preserved
@@ -37,7 +40,7 @@ loop-index-preserved c =
     let (trim, ready, config, y, source, rows, reached, pairs, count) = c.loop-index.invariant in
     let fields = fields_of c.read_byte_record.new.row in
     let r = rw c.if-not-found.false at (c.in-Ok.ensures.reads trim ready) in
-    let m = rows-more (λ (s : Bor (List ℕ)). Some s.now) c.loop-index.reader c.read_byte_record.new.self fields default_config st.StartRecord (strip_bom c.args.input.now) y rows config source reached r in
+    let m = rows-more (λ (s : Bor (List ℕ)). Some s.now) c.loop-index.reader c.read_byte_record.new.self fields (config_of c.args.end) st.StartRecord (strip_bom c.args.input.now) y rows config source reached r in
     let pair = rw c.in_default-2.is at c.in_ok-bad.ensures.pair in (
       r.3 ∙ trim,
       inl (c.in-Ok.ensures.ready trim),

@@ -1,22 +1,20 @@
-use Rattle.std.proofs.Common.{rules, ◌≡◌, suc, ◌++◌, ◌∙◌, Ok, true, length, ap, sym, append_assoc, arith}
+use Rattle.std.proofs.Common.{rules, ◌≡◌, ◌∷◌, suc, ◌++◌, ◌∙◌, length, ap, sym, append_assoc, arith}
 use Rattle.zerotrie_queries.specs.Printed.{pair_line, pair_lines}
-use Rattle.zerotrie_queries.proofs.WriteLemmas.{listed_first}
 use Rattle.zerotrie_queries.proofs.listing.add_block.Goals as goal
 
 pub loop-style-preserved : goal.loop-style-preserved
-loop-style-preserved c =
+loop-style-preserved g c =
     let style = c.args.style in
     let before = c.loop-style.lines.items in
     let at = c.advance.new.self in
     let line : c.add_pair.new.line.items ≡ before ++ pair_line style (at.key, at.value) = search rules in
-    let more : c.advance.result ≡ Ok true = search rules in
-    let first = listed_first c.loop-style.pairs.left c.advance.result at more c.advance.ensures.lists in
-    let len : length c.loop-style.pairs.left.pairs ≡ suc (length at.left.pairs) = ap length first in
+    let first : c.loop-style.pairs.pairs ≡ (at.key, at.value) ∷ at.pairs = search rules in
+    let len : length c.loop-style.pairs.pairs ≡ suc (length at.pairs) = ap length first in
     let most = c.loop-style.invariant.most in
     record {
       lines =
-          ap (λ l. l ++ pair_lines style at.left.pairs) line
-          ∙ append_assoc before (pair_line style (at.key, at.value)) (pair_lines style at.left.pairs)
+          ap (λ l. l ++ pair_lines style at.pairs) line
+          ∙ append_assoc before (pair_line style (at.key, at.value)) (pair_lines style at.pairs)
           ∙ ap (λ l. before ++ l) (sym (ap (pair_lines style) first))
           ∙ c.loop-style.invariant.lines;
       most = omega arith;

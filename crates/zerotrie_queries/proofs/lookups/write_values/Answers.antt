@@ -7,8 +7,8 @@ use Rattle.zerotrie_queries.specs.Printed.{value_lines, are_found}
 use Rattle.zerotrie_files.proofs.WroteLemmas.{wrote_more, part_wrote}
 use Rattle.zerotrie_queries.proofs.WriteLemmas.{wrote_all}
 use Rattle.zerotrie_queries.proofs.PartLemmas.{on_err, part_next}
-use Rattle.zerotrie_queries.proofs.AnswerLemmas.{values_begun}
-use Rattle.zerotrie_queries.proofs.FoundLemmas.{answers_of, answers_are, cut_at, lines_cut, found_cut, and_true}
+use Rattle.zerotrie_queries.proofs.AnswerLemmas.{values_are, values_begun}
+use Rattle.zerotrie_queries.proofs.FoundLemmas.{answers_of, cut_at, lines_cut, found_cut, and_true}
 use Rattle.zerotrie_queries.proofs.lookups.write_values.Goals as goal
 
 pub loop-begin-preserved : goal.loop-begin-preserved
@@ -40,10 +40,8 @@ returns-clause-answered g c m means =
     let old = c.loop-begin.invariant.0 m means in
     let none : drop c.loop-begin.begin keys ≡ [] = drop_of_length-le keys (omega arith) in (
       value_lines (answers_of f keys),
-      (
-        ap value_lines (answers_are f keys),
-        sym (and_true c.loop-begin.all) ∙ ap (λ ks. c.loop-begin.all && are_found (answers_of f ks)) (sym none) ∙ old.1 ∙ ap are_found (answers_are f keys),
-      ),
+      values_are c.args.trie.now.kind m keys c.loop-begin.all
+          (sym (and_true c.loop-begin.all) ∙ ap (λ ks. c.loop-begin.all && are_found (answers_of f ks)) (sym none) ∙ old.1),
       wrote_all (contents c.args.output.now.inner) (contents c.loop-begin.output.inner) (value_lines (answers_of f (drop c.loop-begin.begin keys))) (value_lines (answers_of f keys))
           (ap (λ ks. value_lines (answers_of f ks)) none) old.0,
     )

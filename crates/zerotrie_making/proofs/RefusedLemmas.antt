@@ -1,0 +1,131 @@
+-- A build that has a cause of an error returns no bytes.
+use Rattle.std.proofs.Common.{◌≡◌, ℕ, zero, suc, ◌<◌, ◌≤◌, List, [], ◌∷◌, length, get_or, Some, refl, sym, ◌∙◌, ap, subst, arith, inl, inr}
+use Rattle.std.specs.Prelude.{◌≢◌, ◌==◌, All, Any}
+use Rattle.std.specs.FinMap.{entries}
+use Rattle.std.proofs.lemmas.Bool.{cases_Bool}
+use Rattle.zerotrie_core.specs.Kind.{Kind, simple_ascii, same_byte, edge_limit}
+use Rattle.zerotrie_core.specs.Maps.{Pairs, map_of, value_at, same_key, common_front, IsCaseConsistent, RepeatsKey}
+use Rattle.zerotrie_core.specs.Fits.{Fits, ExceedsCapacity}
+use Rattle.zerotrie_core.specs.Built.{IsBuilt}
+use Rattle.zerotrie_core.specs.Routes.{Route, ascending, in_order, any_order, Takes, HasCause}
+use Rattle.zerotrie_core.specs.declared.ZeroTrieBuildError.{ZeroTrieBuildError}
+use Rattle.zerotrie_core.specs.declared.ZeroTrieBuildError.TheVariants.{NonAsciiError, CapacityExceeded, CouldNotSolvePerfectHash, MixedCase, IllegalDelimiter, DuplicateKey, Unsorted, BufferTooSmall, BufferTooLarge, StackExceeded, OutOfMemory as NoMemory}
+use Rattle.zerotrie_core.proofs.CallerLemmas.{same-entries, exact_same, first_found, ascends_apart}
+use Rattle.zerotrie_build.specs.Refused.{AreShown}
+use Rattle.zerotrie_lines.specs.Laws.{OneReading, BadIsUnread}
+use Rattle.zerotrie_lines.specs.Tables.{lowered}
+use Rattle.zerotrie_making.specs.Plans.{route_of, kind_for}
+use Rattle.zerotrie_making.specs.Kept.{kept}
+use Rattle.zerotrie_making.specs.Sources.{IsPairs}
+use Rattle.zerotrie_making.specs.Json.{pairs_in}
+use Rattle.zerotrie_making.specs.Made.{OfInput, ExplainsKept, IsFile, IsFileOfKept}
+use Rattle.zerotrie_making.specs.Laws.{RefusedMakesNoFile}
+use Rattle.zerotrie_making.specs.declared.making.Plan.{Plan}
+use Rattle.zerotrie_making.specs.declared.making.Source.{Source}
+use Rattle.zerotrie_making.specs.declared.making.Source.TheVariants.{Text, Json}
+use Rattle.zerotrie_making.specs.declared.refused.MakeError.{MakeError}
+use Rattle.zerotrie_making.specs.declared.refused.MakeError.TheVariants.{Line, NotJson, NotPairs, NotPair, Keys, Refused, OutOfMemory}
+use Rattle.zerotrie_making.proofs.UnreadLemmas.{some_is, no_file}
+
+-- a value is found at the key of each pair
+each_found : (pairs : Pairs) (i : ℕ) (d : List ℕ × ℕ) → i < length pairs → (v : ℕ) × (value_at simple_ascii pairs (get_or pairs i d).0 ≡ Some v)
+each_found [] i d h = absurd (omega (arith, h))
+each_found (e ∷ pairs) zero d h = (e.1, first_found e pairs)
+each_found (e ∷ pairs) (suc i) d h =
+    let later = each_found pairs i d (omega (arith, h)) in
+    elim (cases_Bool (same_key simple_ascii e.0 (get_or pairs i d).0)) [
+      | inl same ↦ (e.1, rw same refl)
+      | inr other ↦ (later.0, rw other later.1)
+    ]
+
+-- what holds of all keys holds of one at which a value is found
+found_holds : (P : List ℕ → Type 0) (pairs : Pairs) (key : List ℕ) (v : ℕ) → All (λ e. P e.0) pairs → value_at simple_ascii pairs key ≡ Some v → P key
+found_holds P [] key v all found = absurd (cc)
+found_holds P (e ∷ pairs) key v all found =
+    elim (cases_Bool (same_key simple_ascii e.0 key)) [
+      | inl same ↦ subst P (exact_same e.0 key same) (all 0 e (omega arith))
+      | inr other ↦ found_holds P pairs key v (λ i d l. all (suc i) d (omega (arith, l))) (rw other at found)
+    ]
+
+-- what holds of the keys of a map holds of those of the pairs
+keys_hold : (P : List ℕ → Type 0) (pairs : Pairs) → All (λ e. P e.0) (entries (map_of pairs)) → All (λ e. P e.0) pairs
+keys_hold P pairs all i d h =
+    let f = each_found pairs i d h in
+    found_holds P (entries (map_of pairs)) (get_or pairs i d).0 f.0 all (same-entries pairs (get_or pairs i d).0 ∙ f.1)
+
+abbrev Agree : Kind → List ℕ → List ℕ → Type 0
+Agree kind k l = common_front (same_byte kind) k l ≡ common_front (λ a b. a == b) k l
+
+agreeing : (kind : Kind) (pairs : Pairs) → IsCaseConsistent kind (entries (map_of pairs)) → IsCaseConsistent kind pairs
+agreeing kind pairs all =
+    keys_hold (λ k. All (λ f. Agree kind k f.0) pairs) pairs (λ i d h. keys_hold (Agree kind (get_or (entries (map_of pairs)) i d).0) pairs (all i d h))
+
+all_any : {X : Type 0} (P Q : X → Type 0) (xs : List X) → All P xs → Any Q xs → ((x : X) → P x → Q x → ⊥) → ⊥
+all_any P Q xs all any never = never any.1 (subst P any.3 (all any.0 any.1 any.2)) any.4
+
+low_keys : (kind : Kind) (pairs : Pairs) → All (λ e. All (λ b. b < edge_limit kind) e.0) (entries (map_of pairs)) → Any (λ e. Any (λ b. edge_limit kind ≤ b) e.0) pairs → ⊥
+low_keys kind pairs low high =
+    all_any (λ e. All (λ b. b < edge_limit kind) e.0) (λ e. Any (λ b. edge_limit kind ≤ b) e.0) pairs (keys_hold (λ k. All (λ b. b < edge_limit kind) k) pairs low) high
+    (λ e l h. all_any (λ b. b < edge_limit kind) (λ b. edge_limit kind ≤ b) e.0 l h (λ b below above. omega (arith, below, above)))
+
+within : (kind : Kind) (pairs : Pairs) → Fits kind (map_of pairs) → ExceedsCapacity kind (map_of pairs) → ⊥
+within kind pairs fits too = elim too [
+  | inl long ↦ let short = fits.short in absurd (omega (arith, long, short))
+  | inr wide ↦ let narrow = fits.narrow wide.0 wide.1.0 in let reach = wide.1.1 in absurd (omega (arith, narrow, reach))
+]
+
+distinct : (route : Route) (pairs : Pairs) → Takes route pairs → RepeatsKey pairs → ⊥
+distinct ascending pairs takes twice = ascends_apart pairs takes twice
+distinct in_order pairs takes twice = ascends_apart pairs takes twice
+distinct any_order pairs takes twice = takes twice
+
+no_cause : (route : Route) (kind : Kind) (pairs : Pairs) (bytes : List ℕ) (e : ZeroTrieBuildError)
+    → Takes route pairs → IsBuilt kind pairs bytes → HasCause route kind pairs e → e ≢ CouldNotSolvePerfectHash → ⊥
+no_cause route kind pairs bytes NonAsciiError takes built cause other = low_keys kind pairs built.fits.key_bytes cause.1
+no_cause route kind pairs bytes CapacityExceeded takes built cause other = within kind pairs built.fits cause.1.1
+no_cause route kind pairs bytes MixedCase takes built cause other = cause.1 (agreeing kind pairs built.fits.case)
+no_cause route kind pairs bytes DuplicateKey takes built cause other = distinct route pairs takes cause.1
+no_cause ascending kind pairs bytes Unsorted takes built cause other = cause.1 takes
+no_cause in_order kind pairs bytes Unsorted takes built cause other = cause.1 takes
+no_cause any_order kind pairs bytes Unsorted takes built cause other = cause.0 refl
+no_cause route kind pairs bytes CouldNotSolvePerfectHash takes built cause other = other refl
+no_cause route kind pairs bytes IllegalDelimiter takes built cause other = cause.1
+no_cause route kind pairs bytes BufferTooSmall takes built cause other = cause.1
+no_cause route kind pairs bytes (BufferTooLarge needed) takes built cause other = cause.1
+no_cause route kind pairs bytes StackExceeded takes built cause other = cause.1
+no_cause route kind pairs bytes NoMemory takes built cause other = cause.1
+
+-- no keys show that a search found no table
+none_searched : (kind : Kind) (pairs : Pairs) (e : ZeroTrieBuildError) (first second : ℕ) → AreShown kind pairs e first second → e ≢ CouldNotSolvePerfectHash
+none_searched kind pairs e first second shown is = subst (λ x. AreShown kind pairs x first second) is shown
+
+-- an input is one list of pairs at most
+one_list : OneReading → (source : Source) (input : List ℕ) (pairs others : Pairs) → IsPairs source input pairs → IsPairs source input others → others ≡ pairs
+one_list one (Text format end) input pairs others h k = one format end input pairs others h k
+one_list one Json input pairs others h k =
+    let same : h.0 ≡ k.0 = some_is h.0 k.0 (sym h.1.1 ∙ k.1.1) in
+    some_is others pairs (sym k.2 ∙ ap pairs_in (sym same) ∙ h.2)
+
+-- the pairs that explain are those of the file
+of_one : OneReading → (plan : Plan) (input file : List ℕ) (e : MakeError) → OfInput plan input (λ pairs. ExplainsKept plan pairs e) → IsFile plan input file
+    → (pairs : Pairs) × ExplainsKept plan pairs e × IsFileOfKept plan pairs file
+of_one one plan input file e h made =
+    (_, h.2, subst (λ ps. IsFileOfKept plan (lowered plan.lower_case ps) file) (one_list one plan.source input h.0 made.0 h.1 made.1) made.2)
+
+pub refused : OneReading → BadIsUnread → RefusedMakesNoFile
+refused one bad plan input file (Line number fault) h some other made = no_file bad plan.source input (Line number fault) made.0 h some made.1
+refused one bad plan input file (NotJson line column) h some other made = no_file bad plan.source input (NotJson line column) made.0 h some made.1
+refused one bad plan input file NotPairs h some other made = no_file bad plan.source input NotPairs made.0 h some made.1
+refused one bad plan input file (NotPair why) h some other made = no_file bad plan.source input (NotPair why) made.0 h some made.1
+refused one bad plan input file (Keys s) h some other made =
+    let o = of_one one plan input file (Keys s) h made in
+    let ps = kept plan.duplicates o.0 in
+    let kind = kind_for plan.kind ps in
+    let r = o.1.0 in
+    let why = o.1.1 in
+    no_cause (route_of plan.sorted) kind ps o.2.bytes r.error o.2.build.0 o.2.build.1 why.1 (none_searched kind ps r.error r.first r.second why.0)
+refused one bad plan input file (Refused e) h some other made =
+    let o = of_one one plan input file (Refused e) h made in
+    let ps = kept plan.duplicates o.0 in
+    no_cause (route_of plan.sorted) (kind_for plan.kind ps) ps o.2.bytes e o.2.build.0 o.2.build.1 o.1.0 (λ is. other (ap Refused is))
+refused one bad plan input file OutOfMemory h some other made = some refl

@@ -1,8 +1,0 @@
-use Rattle.std.proofs.Common.{◌≡◌, ◌++◌, drop}
-use Rattle.std.specs.Prelude.{option_map}
-use Rattle.serde_json.specs.View.{items_view}
-use Rattle.zerotrie_any.specs.Json.{each, byte_in}
-use Rattle.zerotrie_making.proofs.json.bytes_of.Given as goal
-
-abbrev pub invariant-loop-item : goal.invariant-loop-item
-invariant-loop-item l = option_map (λ more. l.bytes.items ++ more) (each byte_in (items_view (drop l.item-index l.items))) ≡ each byte_in (items_view l.items)

@@ -1,8 +1,0 @@
-use Rattle.std.proofs.Common.{◌≡◌, ◌++◌}
-use Rattle.std.specs.Prelude.{option_map}
-use Rattle.serde_json.specs.View.{members_view}
-use Rattle.zerotrie_any.specs.Json.{member_pairs}
-use Rattle.zerotrie_making.proofs.json.pairs_of_members.Given as goal
-
-abbrev pub invariant-loop-key : goal.invariant-loop-key
-invariant-loop-key l = option_map (λ more. l.table ++ more) (member_pairs (members_view l.key-iterator)) ≡ member_pairs (members_view l.members.entries)

@@ -1,0 +1,39 @@
+//! Laws of the definitions. A law is an empty function: a call of it brings its clause into the
+//! caller's proof.
+
+ghost use Rattle.zerotrie_making.specs.Json.{WholeIsNumber};
+ghost use Rattle.zerotrie_making.specs.Laws.{ListedIsMadeAgain, UnreadMakesNoFile, RefusedMakesNoFile};
+
+use zerotrie_lines::laws::{bad_is_unread, lines_read_back, one_reading};
+
+/// The lines in which a trie is listed, made into a file of the same kind, mean the same map.
+pub fn listed_is_made_again()
+    ensures { ListedIsMadeAgain }
+{
+    lines_read_back();
+    one_reading();
+}
+
+/// An input that is no pairs makes no file.
+pub fn unread_makes_no_file()
+    ensures { UnreadMakesNoFile }
+{
+    bad_is_unread();
+}
+
+/// An input of which no file is made has none: what an error says of the input, and what a file
+/// says of it, exclude each other.
+///
+/// `CouldNotSolvePerfectHash` is left out: it says that the trie needs a table that has to be
+/// searched, and a search may find one. So is `OutOfMemory`, which says nothing of the input.
+pub fn refused_makes_no_file()
+    ensures { RefusedMakesNoFile }
+{
+    one_reading();
+    bad_is_unread();
+}
+
+/// A number in JSON is a value exactly if it is one on a line.
+pub fn whole_is_number()
+    ensures { WholeIsNumber }
+{}

@@ -1,0 +1,98 @@
+//! The first pairs of a source.
+
+ghost use Rattle.std.specs.Prelude.{◌≡◌, ◌∷◌, [], true, false, IfOk};
+ghost use Rattle.zerotrie_queries.specs.Listed.{within, is_spent, one_less};
+
+use crate::source::PairSource;
+use std::alloc::AllocError;
+use std::marker::Model;
+
+/// The pairs of a source, at most as many as are asked for.
+#[derive(Drop)]
+pub struct FirstPairs<P: PairSource> {
+    source: P,
+    limit: Option<usize>,
+}
+
+impl<P: PairSource> Model for FirstPairs<P> {
+    ghost use Rattle.zerotrie_queries.specs.Chosen.{Coming};
+    ghost use Rattle.zerotrie_queries.specs.Listed.{within};
+
+    ghost Value = { Coming };
+
+    ghost view = { λ s. within s.limit (P.coming s.source) };
+}
+
+/// Returns whether no pair may come any more.
+fn is_spent(limit: Option<usize>) -> bool
+    ensures { result ≡ is_spent limit }
+{
+    match limit {
+        Some(most) => most == 0,
+        None => false,
+    }
+}
+
+/// Returns what is left of a limit after one pair.
+fn one_less(limit: Option<usize>) -> Option<usize>
+    ensures { result ≡ one_less limit }
+{
+    match limit {
+        Some(most) => Some(most.saturating_sub(1)),
+        None => None,
+    }
+}
+
+/// Moves a source to the next pair if one more may come, and returns whether there is one.
+fn advance_within<P: PairSource>(
+    source: &mut P,
+    limit: &mut Option<usize>,
+) -> Result<bool, AllocError>
+    ensures some { IfOk result (λ more. more ≡ true
+        → (within limit.old (P.coming source.old)).pairs
+        ≡ ((P.coming source.new).key, (P.coming source.new).value)
+        ∷ (within limit.new (P.coming source.new)).pairs) }
+    ensures none { IfOk result (λ more. more ≡ false
+        → ((within limit.old (P.coming source.old)).pairs ≡ [])
+        × ((within limit.new (P.coming source.new)).pairs ≡ [])) }
+{
+    if is_spent(*limit) {
+        return Ok(false);
+    }
+    let more = source.advance()?;
+    *limit = one_less(*limit);
+    Ok(more)
+}
+
+impl<P: PairSource> FirstPairs<P> {
+    /// Iterates over the pairs of a source. Without a limit, all of them come.
+    pub fn new(source: P, limit: Option<usize>) -> Self
+        ensures { result ≡ within limit (P.coming source) }
+    {
+        FirstPairs { source, limit }
+    }
+
+    /// Moves to the next pair, and returns whether there is one.
+    pub fn advance(&mut self) -> Result<bool, AllocError>
+        ensures some { IfOk result (λ more. more ≡ true
+            → self.old.pairs ≡ (self.new.key, self.new.value) ∷ self.new.pairs) }
+        ensures none { IfOk result (λ more. more ≡ false
+            → (self.old.pairs ≡ []) × (self.new.pairs ≡ [])) }
+    {
+        advance_within(&mut self.source, &mut self.limit)
+    }
+
+    /// The key of the current pair.
+    pub fn key(&self) -> &[u8]
+        ensures { result.now ≡ self.now.key }
+    {
+        self.source.key()
+    }
+
+    /// The value of the current pair.
+    pub fn value(&self) -> usize
+        ensures { result ≡ self.now.value }
+    {
+        self.source.value()
+    }
+}

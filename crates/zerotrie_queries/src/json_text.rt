@@ -1,0 +1,68 @@
+//! Keys and pairs as JSON, each added to a buffer.
+
+ghost use Rattle.std.specs.Prelude.{◌≡◌, ◌++◌, map, OnOk};
+ghost use Rattle.serde_json.specs.Written.{compact_text, comma_if};
+ghost use Rattle.zerotrie_any.specs.Json.{list_of, whole};
+ghost use Rattle.zerotrie_queries.specs.Json.{key_data, pair_json, member_text};
+
+use crate::utf8::is_text;
+use std::alloc::AllocError;
+use zerotrie_lines::{write_number, write_quoted};
+
+/// Adds a comma unless the item is the first.
+pub fn add_comma(text: &mut Vec<u8>, later: bool) -> Result<(), AllocError>
+    ensures { OnOk result (text.new.items ≡ text.old.items ++ comma_if later) }
+{
+    if later {
+        text.push(b',')?;
+    }
+    Ok(())
+}
+
+/// Adds bytes as a list of numbers.
+fn add_bytes(text: &mut Vec<u8>, bytes: &[u8]) -> Result<(), AllocError>
+    ensures { OnOk result (text.new.items
+        ≡ text.old.items ++ compact_text (list_of (map whole bytes.now))) }
+{
+    text.push(b'[')?;
+    let mut later = false;
+    for byte in bytes {
+        add_comma(text, later)?;
+        write_number(text, *byte as usize)?;
+        later = true;
+    }
+    text.push(b']')?;
+    Ok(())
+}
+
+/// Adds a key: a string if it is UTF-8, and else a list of its bytes.
+fn add_key(text: &mut Vec<u8>, key: &[u8]) -> Result<(), AllocError>
+    ensures { OnOk result (text.new.items ≡ text.old.items ++ compact_text (key_data key.now)) }
+{
+    if is_text(key) {
+        write_quoted(text, key)
+    } else {
+        add_bytes(text, key)
+    }
+}
+
+/// Adds a pair as a list of its key and its value.
+pub fn add_pair_json(text: &mut Vec<u8>, key: &[u8], value: usize) -> Result<(), AllocError>
+    ensures { OnOk result (text.new.items ≡ text.old.items ++ pair_json (key.now, value)) }
+{
+    text.push(b'[')?;
+    add_key(text, key)?;
+    text.push(b',')?;
+    write_number(text, value)?;
+    text.push(b']')?;
+    Ok(())
+}
+
+/// Adds a pair as a member of an object.
+pub fn add_member(text: &mut Vec<u8>, key: &[u8], value: usize) -> Result<(), AllocError>
+    ensures { OnOk result (text.new.items ≡ text.old.items ++ member_text (key.now, value)) }
+{
+    write_quoted(text, key)?;
+    text.push(b':')?;
+    write_number(text, value)
+}

@@ -1,0 +1,151 @@
+//! A report as one JSON object.
+
+ghost use Rattle.std.specs.Prelude.{◌≡◌, ◌++◌, ◌<◌, OnOk, codes, decimal, false};
+ghost use Rattle.zerotrie_queries.specs.reports.Json.{member_after, number_or_null, least_edges, most_edges, edge_members, cell_object, cell_objects, size_members, key_members, node_members, branch_member, report_object};
+
+use crate::json_text::add_comma;
+use crate::reports::counting::Report;
+use crate::reports::lines::add_text;
+use std::alloc::AllocError;
+use zerotrie_lines::write_number;
+
+/// Adds a member that is a number.
+fn add_number_member(text: &mut Vec<u8>, name: &str, number: usize) -> Result<(), AllocError>
+    ensures { OnOk result (text.new.items
+        ≡ text.old.items ++ member_after name.now (decimal number)) }
+{
+    add_text(text, ",\"")?;
+    add_text(text, name)?;
+    add_text(text, "\":")?;
+    write_number(text, number)
+}
+
+/// Adds the member of the greatest value.
+fn add_greatest_member(text: &mut Vec<u8>, greatest: Option<usize>) -> Result<(), AllocError>
+    ensures { OnOk result (text.new.items
+        ≡ text.old.items ++ member_after (codes "greatest_value") (number_or_null greatest)) }
+{
+    match greatest {
+        Some(greatest) => add_number_member(text, "greatest_value", greatest),
+        None => add_text(text, ",\"greatest_value\":null"),
+    }
+}
+
+/// The least number of edges in a group.
+fn least_edges(group: usize) -> usize
+    requires { group < 8 }
+    ensures { result ≡ least_edges group }
+{
+    match group {
+        0 => 2,
+        1 => 3,
+        2 => 5,
+        3 => 9,
+        4 => 17,
+        5 => 33,
+        6 => 65,
+        _ => 129,
+    }
+}
+
+/// The greatest number of edges in a group.
+fn most_edges(group: usize) -> usize
+    requires { group < 8 }
+    ensures { result ≡ most_edges group }
+{
+    match group {
+        0 => 2,
+        1 => 4,
+        2 => 8,
+        3 => 16,
+        4 => 32,
+        5 => 64,
+        6 => 128,
+        _ => 256,
+    }
+}
+
+/// Adds the numbers of edges in a group.
+fn add_edge_members(text: &mut Vec<u8>, group: usize) -> Result<(), AllocError>
+    requires { group < 8 }
+    ensures { OnOk result (text.new.items ≡ text.old.items ++ edge_members group) }
+{
+    add_text(text, "{\"least_edges\":")?;
+    write_number(text, least_edges(group))?;
+    add_number_member(text, "most_edges", most_edges(group))
+}
+
+/// Adds a cell.
+fn add_cell_object(text: &mut Vec<u8>, cell: usize, count: usize) -> Result<(), AllocError>
+    requires { cell < 64 }
+    ensures { OnOk result (text.new.items ≡ text.old.items ++ cell_object cell count) }
+{
+    add_edge_members(text, cell / 8)?;
+    add_number_member(text, "width", cell % 8 + 1)?;
+    add_number_member(text, "count", count)?;
+    add_text(text, "}")
+}
+
+/// Adds the cells that have a branch, with commas between.
+fn add_cell_objects(text: &mut Vec<u8>, cells: &[usize; 64]) -> Result<(), AllocError>
+    ensures { OnOk result (text.new.items ≡ text.old.items ++ cell_objects false 0 cells.now) }
+{
+    let mut later = false;
+    for cell in 0..64 {
+        let count = cells[cell];
+        if count != 0 {
+            add_comma(text, later)?;
+            add_cell_object(text, cell, count)?;
+            later = true;
+        }
+    }
+    Ok(())
+}
+
+/// Adds the members of how much there is.
+fn add_size_members(text: &mut Vec<u8>, report: &Report) -> Result<(), AllocError>
+    ensures { OnOk result (text.new.items ≡ text.old.items ++ size_members report.now) }
+{
+    add_text(text, "{\"kind\":\"")?;
+    add_text(text, report.kind.name())?;
+    add_text(text, "\"")?;
+    add_number_member(text, "bytes", report.bytes)?;
+    add_number_member(text, "pairs", report.pairs)
+}
+
+/// Adds the members of what keys and values are.
+fn add_key_members(text: &mut Vec<u8>, report: &Report) -> Result<(), AllocError>
+    ensures { OnOk result (text.new.items ≡ text.old.items ++ key_members report.now) }
+{
+    add_greatest_member(text, report.greatest)?;
+    add_number_member(text, "depth", report.depth)
+}
+
+/// Adds the members of what nodes are.
+fn add_node_members(text: &mut Vec<u8>, report: &Report) -> Result<(), AllocError>
+    ensures { OnOk result (text.new.items ≡ text.old.items ++ node_members report.now) }
+{
+    add_number_member(text, "nodes", report.nodes)?;
+    add_number_member(text, "literals", report.literals)?;
+    add_number_member(text, "spans", report.spans)?;
+    add_number_member(text, "branches", report.branches.count)
+}
+
+/// Adds the member of the branches by their size, and the end of the object.
+fn add_branch_member(text: &mut Vec<u8>, report: &Report) -> Result<(), AllocError>
+    ensures { OnOk result (text.new.items ≡ text.old.items ++ branch_member report.now) }
+{
+    add_text(text, ",\"branch_sizes\":[")?;
+    add_cell_objects(text, &report.branches.cells)?;
+    add_text(text, "]}\n")
+}
+
+/// Adds a report as one JSON object, and a line feed.
+pub(crate) fn add_report_object(text: &mut Vec<u8>, report: &Report) -> Result<(), AllocError>
+    ensures { OnOk result (text.new.items ≡ text.old.items ++ report_object report.now) }
+{
+    add_size_members(text, report)?;
+    add_key_members(text, report)?;
+    add_node_members(text, report)?;
+    add_branch_member(text, report)
+}
