@@ -5,9 +5,10 @@
  *     if (zerotrie_read_get(file[0], file + 1, file_len - 1, "bar", 3, &value))
  *         printf("bar is %" PRIu64 "\n", value);
  *
- * `file` is a file of `zerotrie build`: the number of the kind, then the trie. If the bytes of a
- * trie have no such number in front, as those of a build in C and of `zerotrie build --bare`, give
- * the number of the kind that they were built for: 0 SimpleAscii, 3 PerfectHash, 7
+ * `file` is tagged bytes, as of `zerotrie build --tagged`: the number of the kind, then the trie. Of
+ * a sealed file, which `zerotrie build` writes by default, give file[10], file + 24 and
+ * file_len - 24: nothing here tests its checksum. If nothing is in front of the trie, as after a
+ * build in C, give the number of the kind that it was built for: 0 SimpleAscii, 3 PerfectHash, 7
  * ExtendedCapacity, 8 IgnoreCase. FORMAT.md describes the bytes.
  *
  * This reader is tested, and not proved: its tests compare it with the library of zerotrie.h, whose
