@@ -49,7 +49,7 @@ pub enum NoPair {
 ///     sorted: false,
 ///     lower_case: false,
 ///     duplicates: Duplicates::Refuse,
-///     bare: false,
+///     form: FileForm::Sealed,
 /// };
 /// let input = Vec::from_slice(rt.alloc(), b"[\n  [\"ad\", 22}\n]\n")?;
 /// assert_eq!(rt; make(rt.alloc(), plan, input), Err(MakeError::NotJson(2, 12)));
