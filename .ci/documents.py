@@ -26,7 +26,7 @@ PLAIN = [*QUOTING, "CONTRIBUTING.md", "bindings/README.md", "docs/C.md", "docs/C
 LIMITS = {
     "README.md": 1000,
     "CONTRIBUTING.md": 1800,
-    "bindings/README.md": 380,
+    "bindings/README.md": 610,
     "bindings/python/README.md": 120,
     "crates/zerotrie_cli/NOTES.md": 1300,
     "crates/zerotrie_cli/README.md": 1200,
