@@ -54,7 +54,7 @@ const BUILD: Build<'static> = Build {
 };
 
 /// Builds of that file, told and untold, and on standard output.
-const BUILDS: &[Row] = &[
+const BUILDS: [Row; 3] = [
     Row {
         files: &[("names.tsv", NAMES)],
         command: Command::Build(BUILD),
@@ -103,7 +103,7 @@ const SPARING: Build<'static> = Build {
 };
 
 /// Sealed files: made and asked, spared, and damaged.
-const SEALS: &[Row] = &[
+const SEALS: [Row; 6] = [
     Row {
         files: &[("names.tsv", NAMES)],
         command: Command::Build(SPARING),
@@ -161,7 +161,7 @@ const SEALS: &[Row] = &[
 ];
 
 /// Builds that are refused, and leave the file that was there.
-const REFUSED: &[Row] = &[
+const REFUSED: [Row; 4] = [
     Row {
         files: &[("names.tsv", b"a\t1\na\t2\n"), ("names.trie", TRIE)],
         command: Command::Build(BUILD),
@@ -211,7 +211,7 @@ const THERE: &[&[u8]] = &[b"bar"];
 const ABSENT: &[&[u8]] = &[b"bar", b"unknown"];
 
 /// Questions to that file.
-const QUESTIONS: &[Row] = &[
+const QUESTIONS: [Row; 3] = [
     Row {
         files: &[("names.trie", TRIE)],
         command: Command::Ask(FILE, Question::LookUp(Asked::Value, Keys::Words(THERE))),
@@ -239,10 +239,13 @@ const QUESTIONS: &[Row] = &[
 ];
 
 /// A trie of one pair, which is shown.
-const SHOWN: &[Row] = &[
+const SHOWN: [Row; 5] = [
     Row {
         files: &[("names.trie", b"\x00a\x85")],
-        command: Command::Ask(FILE, Question::List(Form::Lines(Style::Tsv), Choice::Prefix(b"a"), None)),
+        command: Command::Ask(
+            FILE,
+            Question::List(Form::Lines(Style::Tsv), Choice::Prefix(b"a"), None),
+        ),
         status: Status::Done,
         printed: b"a\t5\n",
         told: b"",
@@ -250,7 +253,10 @@ const SHOWN: &[Row] = &[
     },
     Row {
         files: &[("names.trie", b"\x00a\x85")],
-        command: Command::Ask(FILE, Question::List(Form::Lines(Style::Tsv), Choice::Prefix(b"b"), None)),
+        command: Command::Ask(
+            FILE,
+            Question::List(Form::Lines(Style::Tsv), Choice::Prefix(b"b"), None),
+        ),
         status: Status::Done,
         printed: b"",
         told: b"",
@@ -287,7 +293,7 @@ const SHOWN: &[Row] = &[
 ];
 
 /// Questions without an answer: the file has no trie, is the keys too, or is not there.
-const UNANSWERED: &[Row] = &[
+const UNANSWERED: [Row; 4] = [
     Row {
         files: &[("names.trie", b"\x00a")],
         command: Command::Ask(FILE, Question::Report(ReportForm::Lines)),
@@ -336,7 +342,7 @@ const BARE: TrieFile<'static> = TrieFile {
 };
 
 /// A question to such a file, of which a note warns.
-const NOTED: &[Row] = &[Row {
+const NOTED: [Row; 1] = [Row {
     files: &[("names.trie", TRIE)],
     command: Command::Ask(
         BARE,
@@ -391,37 +397,37 @@ fn are_run<H: Abort>(rt: &H, alloc: Global, rows: &[Row]) -> Result<(), Fail> {
 
 #[test]
 fn a_file_is_made(rt: HostRuntime) -> Result<(), Fail> {
-    are_run(&rt, rt.alloc(), BUILDS)
+    are_run(&rt, rt.alloc(), &BUILDS)
 }
 
 #[test]
 fn sealed_files_are_made_asked_and_spared(rt: HostRuntime) -> Result<(), Fail> {
-    are_run(&rt, rt.alloc(), SEALS)
+    are_run(&rt, rt.alloc(), &SEALS)
 }
 
 #[test]
 fn a_refused_build_leaves_files(rt: HostRuntime) -> Result<(), Fail> {
-    are_run(&rt, rt.alloc(), REFUSED)
+    are_run(&rt, rt.alloc(), &REFUSED)
 }
 
 #[test]
 fn a_file_is_asked(rt: HostRuntime) -> Result<(), Fail> {
-    are_run(&rt, rt.alloc(), QUESTIONS)
+    are_run(&rt, rt.alloc(), &QUESTIONS)
 }
 
 #[test]
 fn a_trie_is_shown(rt: HostRuntime) -> Result<(), Fail> {
-    are_run(&rt, rt.alloc(), SHOWN)
+    are_run(&rt, rt.alloc(), &SHOWN)
 }
 
 #[test]
 fn what_is_no_trie_is_not_asked(rt: HostRuntime) -> Result<(), Fail> {
-    are_run(&rt, rt.alloc(), UNANSWERED)
+    are_run(&rt, rt.alloc(), &UNANSWERED)
 }
 
 #[test]
 fn a_number_that_is_read_as_a_byte_is_told(rt: HostRuntime) -> Result<(), Fail> {
-    are_run(&rt, rt.alloc(), NOTED)
+    are_run(&rt, rt.alloc(), &NOTED)
 }
 
 /// A stream that breaks off after some bytes.
@@ -472,7 +478,10 @@ fn a_beginning_is_printed_as_far_as_there_is_room(rt: HostRuntime) -> Result<(),
     let mut messages = Noted::new(Vec::new(alloc));
     let status = run(
         alloc,
-        Command::Ask(FILE, Question::List(Form::Lines(Style::Tsv), Choice::Prefix(b""), None)),
+        Command::Ask(
+            FILE,
+            Question::List(Form::Lines(Style::Tsv), Choice::Prefix(b""), None),
+        ),
         &mut files,
         &mut Noted::new(b"".as_slice()),
         &mut output,
