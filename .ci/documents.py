@@ -46,7 +46,7 @@ LIMITS = {
     "docs/RUST.md": 900,
     "docs/SPEED.md": 1500,
     "docs/speed/fast.md": 870,
-    "docs/speed/tables.md": 2970,
+    "docs/speed/tables.md": 3180,
     "examples/README.md": 340,
 }
 # Words that are gone, each with what to write.
