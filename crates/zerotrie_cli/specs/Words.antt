@@ -311,13 +311,19 @@ IsBelow word Unbounded = word ≡ None
 abbrev pub IsRange : ArgMatches → KeyRange → Type 0
 IsRange matches r = IsFrom (word_of matches (codes "from")) r.from × IsBelow (word_of matches (codes "below")) r.to
 
+-- neither end of a range is there
+abbrev pub HasNoRange : ArgMatches → Type 0
+HasNoRange matches = (word_of matches (codes "from") ≡ None) × (word_of matches (codes "below") ≡ None)
+
 -- what is looked for, by the word of its option; the others are not there
 abbrev pub IsSought : ArgMatches → Choice → Type 0
 IsSought matches (choice.Prefix p) = ⊥
 IsSought matches (choice.Glob g) = (word_of matches (codes "glob") ≡ Some g.pattern.now) × (word_of matches (codes "fuzzy") ≡ None) × (word_of matches (codes "subsequence") ≡ None)
+    × HasNoRange matches
 IsSought matches (choice.Fuzzy l) = (word : List ℕ) × (word_of matches (codes "fuzzy") ≡ Some word) × (letters_of l.word ≡ chars word)
-    × (word_of matches (codes "glob") ≡ None) × (word_of matches (codes "subsequence") ≡ None)
+    × (word_of matches (codes "glob") ≡ None) × (word_of matches (codes "subsequence") ≡ None) × HasNoRange matches
 IsSought matches (choice.Subsequence s) = (word_of matches (codes "subsequence") ≡ Some s.0.now) × (word_of matches (codes "glob") ≡ None) × (word_of matches (codes "fuzzy") ≡ None)
+    × HasNoRange matches
 IsSought matches (choice.Range r) = IsRange matches r × (word_of matches (codes "glob") ≡ None) × (word_of matches (codes "fuzzy") ≡ None) × (word_of matches (codes "subsequence") ≡ None)
 
 -- The pairs that are listed, by the words of a search.

@@ -3,7 +3,7 @@
 ghost use Rattle.std.specs.Prelude.{◌≡◌, ◌≢◌, ◌∷◌, [], ℕ, List, true, false, Some, IfOk, codes, map};
 ghost use Rattle.std.specs.Borrow.{Bor};
 ghost use Rattle.zerotrie_queries.specs.declared.code.Language.{Language};
-ghost use Rattle.zerotrie_cli.specs.Words.{AreKeysOf, IsAsk, IsBorder, IsCheck, IsCode, IsFile, IsFuzzy, IsGet, IsGlob, IsLimit, IsListForm, IsLongest, IsQuestion, IsRange, IsReportForm, IsSought, flag_of, given_words, language_word, texts_of, view_word, word_of};
+ghost use Rattle.zerotrie_cli.specs.Words.{AreKeysOf, HasNoRange, IsAsk, IsBorder, IsCheck, IsCode, IsFile, IsFuzzy, IsGet, IsGlob, IsLimit, IsListForm, IsLongest, IsQuestion, IsRange, IsReportForm, IsSought, flag_of, given_words, language_word, texts_of, view_word, word_of};
 ghost use Rattle.zerotrie_queries.specs.declared.views.View.{View};
 ghost use Rattle.zerotrie_run.specs.declared.command.Question.TheVariants as question;
 
@@ -233,7 +233,9 @@ fn range_in<'a>(matches: &ArgMatches<'a>) -> KeyRange<'a>
 }
 
 /// Returns whether a range is given.
-fn has_range(matches: &ArgMatches<'_>) -> bool {
+fn has_range(matches: &ArgMatches<'_>) -> bool
+    ensures { result ≡ false → HasNoRange matches.now }
+{
     matches.get_str("from").is_some() || matches.get_str("below").is_some()
 }
 
