@@ -31,6 +31,7 @@ LIMITS = {
     "crates/zerotrie_cli/NOTES.md": 1300,
     "crates/zerotrie_cli/README.md": 1200,
     "crates/zerotrie_index/README.md": 480,
+    "crates/zerotrie_reverse/README.md": 350,
     "crates/zerotrie_search/README.md": 480,
     "crates/zerotrie_sets/README.md": 350,
     "crates/zerotrie_tool/README.md": 480,

@@ -17,7 +17,7 @@ import sys
 import tempfile
 
 ROOT = pathlib.Path(__file__).resolve().parent.parent
-PAGES = [ROOT / "README.md", ROOT / "docs" / "CALLING.md", *(ROOT / "crates" / it / "README.md" for it in ("zerotrie_index", "zerotrie_search", "zerotrie_sets"))]
+PAGES = [ROOT / "README.md", ROOT / "docs" / "CALLING.md", *(ROOT / "crates" / it / "README.md" for it in ("zerotrie_index", "zerotrie_reverse", "zerotrie_search", "zerotrie_sets"))]
 CRATES = (ROOT / "crates.txt").read_text()
 BELOW = dict(re.findall(r"^(\w+):(.*)", CRATES, re.M))  # what each crate stands on, static libraries aside
 OTHERS = "use serde_json::Value; use std::borrow::CowSlice; use std::collections::{BTreeMap, VecDeque}; use std::test::Fail; "

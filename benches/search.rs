@@ -2,6 +2,7 @@
 
 #[allow(dead_code)]
 mod calls;
+mod search_calls;
 #[allow(dead_code)]
 mod sets;
 #[allow(dead_code)]
@@ -12,15 +13,6 @@ use sets::Set;
 use std::path::Path;
 use table::{Contestants, Table};
 
-#[link(name = "zerotrie_search_calls", kind = "static")]
-unsafe extern "C" {
-    #[link_name = "search_many"]
-    fn search_many_(
-        kind: u8, bytes: *const u8, len: usize, question: u8, text: *const u8, text_len: usize, end: *const u8, end_len: usize,
-        times: usize,
-    ) -> usize;
-}
-
 /// What is searched for.
 enum Question {
     Prefix(&'static str),
@@ -29,6 +21,9 @@ enum Question {
     Glob(&'static str),
     Near(&'static str, usize),
 }
+
+/// What is listed in order: all keys, and some hundred and some thousand.
+const RANGES: [(&str, &str); 3] = [("", ""), ("interc", "interl"), ("mm", "mp")];
 
 const QUESTIONS: [Question; 14] = [
     Question::Prefix("inter"),
@@ -211,9 +206,13 @@ impl peers::fst::Automaton for &Automaton {
 /// The number of pairs that were found times 2^32, and the sum of their values.
 fn search(kind: Kind, bytes: &[u8], question: &Question) -> usize {
     let (number, text, end) = question.parts();
-    let kind = u8::from(kind == Kind::Hash);
-    // SAFETY: the function reads the three slices.
-    unsafe { search_many_(kind, bytes.as_ptr(), bytes.len(), number, text.as_ptr(), text.len(), end.as_ptr(), end.len(), 1) }
+    search_calls::search(kind, bytes, number, text.as_bytes(), end.as_bytes())
+}
+
+/// The same of the pairs from a key to below another, or to the last if that is empty: in the order of bytes for the question 4, and
+/// for 6 of all pairs, in the trie's order.
+fn listed(kind: Kind, bytes: &[u8], question: u8, (from, end): (&str, &str)) -> usize {
+    search_calls::order(kind, bytes, question, from.as_bytes(), end.as_bytes())
 }
 
 fn is_accepted(automaton: &Automaton, key: &[u8]) -> bool {
@@ -235,6 +234,18 @@ fn scanned(set: &Set, automaton: &Automaton) -> usize {
 fn searched(map: &peers::fst::Map, automaton: &Automaton) -> usize {
     use peers::fst::{IntoStreamer, Streamer};
     let mut found = map.search(automaton).into_stream();
+    let mut sum = 0;
+    while let Some((_, value)) = found.next() {
+        sum += value as usize + (1 << 32);
+    }
+    sum
+}
+
+#[cfg(fst)]
+fn ranged(map: &peers::fst::Map, (from, end): (&str, &str)) -> usize {
+    use peers::fst::{IntoStreamer, Streamer};
+    let range = map.range().ge(from);
+    let mut found = if end.is_empty() { range } else { range.lt(end) }.into_stream();
     let mut sum = 0;
     while let Some((_, value)) = found.next() {
         sum += value as usize + (1 << 32);
@@ -275,6 +286,23 @@ fn main() {
             assert!(sums.iter().all(|sum| *sum == sums[0]), "the answers differ: {sums:?}, {}", question.name());
             let row = format!("{}, {}: {}", question.name(), kind.name(), sums[0] >> 32);
             table.measure(row, rounds, 1000, contestants);
+        }
+    }
+    table.print();
+    let mut table = Table::of_shares(&format!("Microseconds of a listing in the order of bytes in {}", set.name));
+    for (from, end) in RANGES {
+        for (kind, bytes) in &tries {
+            let plain = || if end.is_empty() { listed(*kind, bytes, 6, (from, end)) } else { search(*kind, bytes, &Question::Range(from, end)) };
+            let mut contestants: Contestants<'_> = vec![
+                ("here", Box::new(|| listed(*kind, bytes, 4, (from, end)))),
+                ("a plain one", Box::new(plain)),
+                #[cfg(fst)]
+                ("`fst`", Box::new(|| ranged(&map, (from, end)))),
+            ];
+            let sums: Vec<usize> = contestants.iter_mut().map(|(_, work)| work()).collect();
+            assert!(sums.iter().all(|sum| *sum == sums[0]), "the answers differ: {sums:?}, from {from} to below {end}");
+            let row = if end.is_empty() { String::from("all") } else { format!("from {from} to below {end}") };
+            table.measure(format!("{row}, {}: {}", kind.name(), sums[0] >> 32), rounds, 1000, contestants);
         }
     }
     table.print();

@@ -4,6 +4,8 @@
 #[path = "../benches/calls.rs"]
 #[allow(dead_code)]
 mod calls;
+#[path = "../benches/search_calls.rs"]
+mod search_calls;
 
 use calls::Kind;
 use original::*;
@@ -51,6 +53,15 @@ impl Random {
         (0..self.below(6))
             .map(|_| if wide { self.next() as u8 & if kind == Kind::Simple || kind == Kind::Ignore { 0x3F } else { 0xFF } } else { self.pick(of) })
             .collect()
+    }
+
+    /// One of these keys, or a part of one.
+    fn pick_key(&mut self, of: &[Vec<u8>]) -> Vec<u8> {
+        let mut key = of[self.below(of.len())].clone();
+        if self.below(3) == 0 {
+            key.truncate(self.below(key.len() + 1));
+        }
+        key
     }
 
     fn pairs(&mut self, kind: Kind) -> BTreeMap<Vec<u8>, usize> {
@@ -150,6 +161,53 @@ fn original_answers(kind: Kind, bytes: &[u8], ops: &[u8]) -> Option<Vec<(usize, 
     }
 }
 
+/// A number that a pair, and the order of pairs, changes.
+fn mixed(sum: usize, (key, value): &(Vec<u8>, usize)) -> usize {
+    let sum = sum.wrapping_mul(31).wrapping_add(*value).wrapping_add(key.len());
+    key.iter().fold(sum, |sum, byte| sum.wrapping_mul(31).wrapping_add(*byte as usize))
+}
+
+/// The questions of a search, each with the keys that it is to find.
+const SEARCHES: [fn(&[u8], &[u8], &[u8]) -> bool; 3] = [
+    |key, text, _| key.starts_with(text),
+    |key, text, end| text <= key && key < end,
+    |key, text, _| {
+        let mut rest = key.iter();
+        text.iter().all(|byte| rest.any(|it| it == byte))
+    },
+];
+
+/// What searches, sorted listings and neighbours of a key answer, for these keys as bounds.
+fn searched(kind: Kind, bytes: &[u8], text: &[u8], end: &[u8]) -> Vec<usize> {
+    let ordered = [0, 1, 2, 3, 5].map(|question| search_calls::order(kind, bytes, question, text, end));
+    // of patterns and distances only that they return is tried here
+    for question in 3..6 {
+        search_calls::search(kind, bytes, question, &text[..text.len().min(60)], end);
+    }
+    let found = (0..3).map(|question| search_calls::search(kind, bytes, question, text, end));
+    ordered.into_iter().chain(found).collect()
+}
+
+/// The same, by brute force over the pairs.
+fn expected(pairs: &[(Vec<u8>, usize)], text: &[u8], end: &[u8]) -> Vec<usize> {
+    let mut sorted = pairs.to_vec();
+    sorted.sort();
+    let one = |pair: Option<&(Vec<u8>, usize)>| pair.map_or(search_calls::NOTHING, |pair| mixed(0, pair));
+    let range = sorted.iter().filter(|(key, _)| text <= key && (end.is_empty() || key.as_slice() < end));
+    let ordered = [
+        one(sorted.iter().find(|(key, _)| text <= key)),
+        one(sorted.iter().find(|(key, _)| text < key)),
+        one(sorted.iter().rfind(|(key, _)| key.as_slice() < text)),
+        one(sorted.iter().rfind(|(key, _)| key.as_slice() <= text)),
+        range.fold(0, mixed),
+    ];
+    let found = SEARCHES.iter().map(|accepts| {
+        let accepted = pairs.iter().filter(|(key, _)| accepts(key, text, end));
+        accepted.fold(0usize, |sum, (_, value)| sum.wrapping_add(*value).wrapping_add(1 << 32))
+    });
+    ordered.into_iter().chain(found).collect()
+}
+
 fn main() {
     let word = |place: usize, or: u64| std::env::args().nth(place).and_then(|word| word.parse().ok()).unwrap_or(or);
     let count = word(1, 1_000_000);
@@ -169,6 +227,8 @@ fn main() {
 
         let pairs = calls::pairs(kind, &bytes);
         let answers = calls::answers(kind, &bytes, &ops);
+        let (text, end) = (random.pick_key(&keys), random.pick_key(&keys));
+        let order = searched(kind, &bytes, &text, &end);
         let gotten: Vec<Option<usize>> = keys.iter().map(|key| calls::get(kind, &bytes, key)).collect();
         if pairs.len() > bytes.len() {
             fault("more pairs than bytes: the listing");
@@ -190,6 +250,9 @@ fn main() {
             if *value != told(original_get(kind, &bytes, key)) {
                 fault("a look-up");
             }
+        }
+        if order != expected(&pairs, &text, &end) {
+            fault("a search or an order");
         }
         if original_answers(kind, &bytes, &ops).is_some_and(|theirs| theirs != answers) {
             fault("a cursor");

@@ -176,7 +176,7 @@ typedef enum zerotrie_status ZEROTRIE_ENUM {
     ZEROTRIE_DAMAGED = 18,
     /** zerotrie_open(): a sealed file of another version of the format */
     ZEROTRIE_UNKNOWN_VERSION = 19,
-    /** zerotrie_search_some(): no search, or no bound, has this number */
+    /** zerotrie_search_some(), zerotrie_sorted_some(): no search, or no bound, has this number */
     ZEROTRIE_UNKNOWN_SEARCH = 20,
     /** zerotrie_search_some(): the pattern is malformed, or the word is not UTF-8 */
     ZEROTRIE_MALFORMED_SEARCH = 21,
@@ -266,7 +266,7 @@ typedef enum zerotrie_search_by ZEROTRIE_ENUM {
     ZEROTRIE_BY_CHAR_EDITS = 4
 } zerotrie_search_by;
 
-/** What a bound of a range is. */
+/** What a bound of a range or of a sorted listing is. */
 typedef enum zerotrie_bound ZEROTRIE_ENUM {
     /** there is no bound on this side */
     ZEROTRIE_UNBOUNDED = 0,
@@ -729,6 +729,32 @@ zerotrie_status zerotrie_search_some(zerotrie_kind_number kind, const uint8_t *b
                                      const uint8_t *last, size_t last_len, uint8_t *keys,
                                      size_t keys_len, size_t *ends, size_t ends_len, size_t *values,
                                      size_t values_len, size_t *count, size_t *next_len);
+
+/**
+ * Lists the pairs whose keys are between two bounds, in the order of bytes in every kind: that of
+ * memcmp, a shorter key first. It writes as many as the three rooms have places for. The rooms,
+ * *count, *next_len and the status are as in zerotrie_list_some(), also for malformed bytes. With
+ * ZEROTRIE_UNKNOWN_SEARCH too, of a number that no bound has, nothing is written.
+ *
+ * To continue, pass the last key that the call before wrote as an excluded lower bound. It may not be
+ * in `keys`: zerotrie_listing_sorted() takes care of it. With one place this is the first key from
+ * a key on, or after it:
+ *
+ *     status = zerotrie_sorted_some(kind, trie, len, ZEROTRIE_INCLUDED, (const uint8_t *)"b", 1,
+ *                                   ZEROTRIE_UNBOUNDED, NULL, 0, key, sizeof key, &key_len, 1,
+ *                                   &value, 1, &count, &next_len);
+ *
+ * It compares bytes as they are stored, so in IGNORE_CASE upper case comes before lower case. A
+ * call costs a look-up of the lower bound and what it lists; at each byte it compares the edges
+ * that are there. Allocates as much as the longest key and the places on the way to it take.
+ */
+ZEROTRIE_ANSWERS
+zerotrie_status zerotrie_sorted_some(zerotrie_kind_number kind, const uint8_t *bytes, size_t len,
+                                     zerotrie_bound from_bound, const uint8_t *from,
+                                     size_t from_len, zerotrie_bound to_bound, const uint8_t *to,
+                                     size_t to_len, uint8_t *keys, size_t keys_len, size_t *ends,
+                                     size_t ends_len, size_t *values, size_t values_len,
+                                     size_t *count, size_t *next_len);
 /** @} */
 
 /** @name Indexes
@@ -1122,6 +1148,24 @@ ZEROTRIE_INLINE zerotrie_status zerotrie_search_some_or_null(
 #define zerotrie_search_some(...) zerotrie_search_some_or_null(__VA_ARGS__)
 
 ZEROTRIE_MUST_USE
+ZEROTRIE_NEEDS((16, 17))
+ZEROTRIE_INLINE zerotrie_status zerotrie_sorted_some_or_null(
+    zerotrie_kind_number kind, const uint8_t *bytes, size_t len, zerotrie_bound from_bound,
+    const uint8_t *from, size_t from_len, zerotrie_bound to_bound, const uint8_t *to, size_t to_len,
+    uint8_t *keys, size_t keys_len, size_t *ends, size_t ends_len, size_t *values,
+    size_t values_len, size_t *count, size_t *next_len) {
+    const uint8_t no_byte = 0;
+    uint8_t byte;
+    size_t number;
+    return zerotrie_sorted_some(
+        kind, ZEROTRIE_SOME(bytes, &no_byte), len, from_bound, ZEROTRIE_SOME(from, &no_byte),
+        from_len, to_bound, ZEROTRIE_SOME(to, &no_byte), to_len, ZEROTRIE_SOME(keys, &byte),
+        keys_len, ZEROTRIE_SOME(ends, &number), ends_len, ZEROTRIE_SOME(values, &number),
+        values_len, count, next_len);
+}
+#define zerotrie_sorted_some(...) zerotrie_sorted_some_or_null(__VA_ARGS__)
+
+ZEROTRIE_MUST_USE
 ZEROTRIE_NEEDS((5))
 ZEROTRIE_INLINE bool zerotrie_index_get_or_null(const uint8_t *bytes, size_t len,
                                                 const uint8_t *key, size_t key_len, size_t *value) {
@@ -1332,16 +1376,20 @@ ZEROTRIE_INLINE bool zerotrie_trie_probe(zerotrie_trie trie, zerotrie_cursor *cu
  *
  *     uint8_t room[512];
  *     size_t ends[10], values[10];
- *     zerotrie_listing part = zerotrie_listing_of(trie, (const uint8_t *)"ba", 2, room, sizeof
- * room, ends, values, 10); while (zerotrie_listing_next(&part)) for (size_t i = 0; i < part.count;
- * i++) printf("%.*s %zu\n", (int)zerotrie_listing_key(&part, i).len, (const char
- * *)zerotrie_listing_key(&part, i).ptr, values[i]);
+ *     zerotrie_listing part = zerotrie_listing_of(trie, (const uint8_t *)"ba", 2, room,
+ *                                                 sizeof room, ends, values, 10);
+ *     while (zerotrie_listing_next(&part))
+ *         for (size_t i = 0; i < part.count; i++) {
+ *             const zerotrie_bytes key = zerotrie_listing_key(&part, i);
+ *             printf("%.*s %zu\n", (int)key.len, (const char *)key.ptr, values[i]);
+ *         }
  */
 typedef struct zerotrie_listing {
     zerotrie_trie trie;     /**< the trie */
     zerotrie_bytes prefix;  /**< what the keys begin with */
-    zerotrie_search search; /**< what finds the keys, if it searches */
-    bool searches;          /**< whether it searches, or lists all */
+    zerotrie_search search; /**< what finds the keys, or has the bounds, if it searches or is sorted */
+    bool searches;          /**< whether it searches */
+    bool sorted;            /**< whether it lists in the order of bytes */
     uint8_t *room; /**< room for keys: one half for those of a part, the other for those of the part
                       before */
     size_t room_len;     /**< its bytes */
@@ -1353,8 +1401,7 @@ typedef struct zerotrie_listing {
     size_t next_len; /**< with ZEROTRIE_BUFFER_TOO_SMALL the length of the key that comes next */
     size_t listed;   /**< the number of pairs of all parts so far */
     zerotrie_bytes last;    /**< the last key of the part */
-    zerotrie_status status; /**< what the part came to, as zerotrie_list_some() or
-                               zerotrie_search_some() returned it */
+    zerotrie_status status; /**< what the part came to, as the library returned it */
 } zerotrie_listing;
 
 /** Returns a listing of the pairs whose keys begin with a prefix, before its first part. The key of
@@ -1367,7 +1414,7 @@ ZEROTRIE_INLINE zerotrie_listing zerotrie_listing_of(zerotrie_trie trie, const u
     made.trie = trie;
     made.prefix = zerotrie_bytes_of(prefix, prefix_len);
     made.search = zerotrie_search_for(ZEROTRIE_BY_RANGE, prefix, 0);
-    made.searches = false;
+    made.searches = made.sorted = false;
     made.room = room;
     made.room_len = room_len;
     made.ends = ends;
@@ -1398,6 +1445,26 @@ ZEROTRIE_INLINE zerotrie_listing zerotrie_listing_by(zerotrie_trie trie, zerotri
     return made;
 }
 
+/**
+ * Returns a listing of the pairs between the bounds of zerotrie_range(), in the order of bytes in
+ * every kind, before its first part. It has no prefix.
+ *
+ *     zerotrie_search all = zerotrie_range(ZEROTRIE_UNBOUNDED, NULL, 0, ZEROTRIE_UNBOUNDED, NULL,
+ *                                          0);
+ *     zerotrie_listing part = zerotrie_listing_sorted(trie, all, room, sizeof room, ends, values,
+ *                                                     10);
+ */
+ZEROTRIE_INLINE zerotrie_listing zerotrie_listing_sorted(zerotrie_trie trie, zerotrie_search range,
+                                                         uint8_t *room, size_t room_len,
+                                                         size_t *ends, size_t *values,
+                                                         size_t places) {
+    zerotrie_listing made =
+        zerotrie_listing_of(trie, room, 0, room, room_len, ends, values, places);
+    made.search = range;
+    made.sorted = true;
+    return made;
+}
+
 /** Returns the key of number `i` of the part, in place; `i` is below `count`. */
 ZEROTRIE_NEEDS((1))
 ZEROTRIE_INLINE zerotrie_bytes zerotrie_listing_key(const zerotrie_listing *listing, size_t i) {
@@ -1413,27 +1480,36 @@ ZEROTRIE_INLINE zerotrie_bytes zerotrie_listing_key(const zerotrie_listing *list
  */
 ZEROTRIE_NEEDS((1))
 ZEROTRIE_INLINE bool zerotrie_listing_next(zerotrie_listing *listing) {
+    const zerotrie_trie trie = listing->trie;
+    const zerotrie_bytes prefix = listing->prefix, last = listing->last;
+    const zerotrie_search *const search = &listing->search;
+    const bool goes_on = listing->listed > 0;
+    const zerotrie_bytes from = goes_on ? last : search->text;
     const size_t half = listing->room_len / 2;
     uint8_t *const keys =
         half > 0 && listing->keys == listing->room ? listing->room + half : listing->room;
     listing->count = 0;
     if (listing->status != ZEROTRIE_BUFFER_TOO_SMALL) return false;
-    if (listing->listed > listing->trie.bytes.len) {
+    if (listing->listed > trie.bytes.len) {
         listing->status = ZEROTRIE_DONE;
         return false;
     }
-    listing->status =
-        listing->searches
-            ? zerotrie_search_some(
-                  listing->trie.kind, listing->trie.bytes.ptr, listing->trie.bytes.len,
-                  listing->prefix.ptr, listing->prefix.len, &listing->search, listing->listed > 0,
-                  listing->last.ptr, listing->last.len, keys, half, listing->ends, listing->places,
-                  listing->values, listing->places, &listing->count, &listing->next_len)
-            : zerotrie_list_some(listing->trie.kind, listing->trie.bytes.ptr,
-                                 listing->trie.bytes.len, listing->prefix.ptr, listing->prefix.len,
-                                 listing->listed > 0, listing->last.ptr, listing->last.len, keys,
-                                 half, listing->ends, listing->places, listing->values,
-                                 listing->places, &listing->count, &listing->next_len);
+    if (listing->sorted)
+        listing->status = zerotrie_sorted_some(
+            trie.kind, trie.bytes.ptr, trie.bytes.len,
+            goes_on ? ZEROTRIE_EXCLUDED : search->from_bound, from.ptr, from.len, search->to_bound,
+            search->to.ptr, search->to.len, keys, half, listing->ends, listing->places,
+            listing->values, listing->places, &listing->count, &listing->next_len);
+    else if (listing->searches)
+        listing->status = zerotrie_search_some(
+            trie.kind, trie.bytes.ptr, trie.bytes.len, prefix.ptr, prefix.len, search, goes_on,
+            last.ptr, last.len, keys, half, listing->ends, listing->places, listing->values,
+            listing->places, &listing->count, &listing->next_len);
+    else
+        listing->status = zerotrie_list_some(
+            trie.kind, trie.bytes.ptr, trie.bytes.len, prefix.ptr, prefix.len, goes_on, last.ptr,
+            last.len, keys, half, listing->ends, listing->places, listing->values, listing->places,
+            &listing->count, &listing->next_len);
     listing->keys = keys;
     listing->listed += listing->count;
     if (listing->count > 0) listing->last = zerotrie_listing_key(listing, listing->count - 1);

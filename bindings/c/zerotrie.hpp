@@ -376,8 +376,21 @@ public:
 
 private:
     friend class detail::Parts;
+    friend class Trie;
     Search(zerotrie_search_by by, std::string_view text, uint32_t edits = 0)
         : text_(text), by_(by), edits_(edits) {}
+    // A range whose pairs come in the order of bytes in every kind. Without the others' prefix.
+    Search sorted() const {
+        Search made = *this;
+        made.sorted_ = true;
+        return made;
+    }
+    // The keys after this one, in that order.
+    static Search after(std::string_view key) {
+        Search made = range(key, std::nullopt).sorted();
+        made.from_bound_ = ZEROTRIE_EXCLUDED;
+        return made;
+    }
     bool finds_all() const noexcept {
         return by_ == ZEROTRIE_BY_RANGE && from_bound_ == ZEROTRIE_UNBOUNDED &&
                to_bound_ == ZEROTRIE_UNBOUNDED;
@@ -405,7 +418,7 @@ private:
     zerotrie_search_by by_ = ZEROTRIE_BY_RANGE;
     uint32_t edits_ = 0;
     zerotrie_bound from_bound_ = ZEROTRIE_UNBOUNDED, to_bound_ = ZEROTRIE_UNBOUNDED;
-    bool beginnings_ = false;
+    bool beginnings_ = false, sorted_ = false;
 };
 
 /// @cond
@@ -449,6 +462,14 @@ private:
     // Lists a part with this many places.
     uint32_t list(size_t places, size_t *next_len) {
         const auto last = of(last_), prefix = of(search_.prefix_);
+        if (search_.sorted_) {
+            const auto from = listed_ > 0 ? last : of(search_.text_), to = of(search_.to_);
+            return zerotrie_sorted_some(kind_, trie_.ptr, trie_.len,
+                                        listed_ > 0 ? ZEROTRIE_EXCLUDED : search_.from_bound_,
+                                        from.ptr, from.len, search_.to_bound_, to.ptr, to.len,
+                                        room(keys_), room_, ends_.data(), places, values_.data(),
+                                        places, &count_, next_len);
+        }
         if (search_.finds_all())
             return zerotrie_list_some(kind_, trie_.ptr, trie_.len, prefix.ptr, prefix.len,
                                       listed_ > 0, last.ptr, last.len, room(keys_), room_,
@@ -855,10 +876,23 @@ public:
     [[nodiscard]] Stream search(Search what) const {
         return Stream(kind_, bytes_, std::move(what));
     }
-    /// See Search::range().
+    /// The pairs whose keys are from one on and below another one, in the order of bytes in every
+    /// kind, a part at a time. nullopt: there is no bound on this side. search() of a
+    /// Search::range() lists them in the order of the trie's bytes.
     [[nodiscard]] Stream range(std::optional<std::string_view> from,
                                std::optional<std::string_view> below = std::nullopt) const {
-        return search(Search::range(from, below));
+        return search(Search::range(from, below).sorted());
+    }
+    /// All pairs in the order of bytes in every kind, a part at a time.
+    [[nodiscard]] Stream sorted() const { return range(std::nullopt); }
+    /// The first pair, in the order of bytes, whose key is not below this one. ++ continues in that
+    /// order, up to end().
+    [[nodiscard]] StreamIterator lower_bound(std::string_view key) const {
+        return StreamIterator(kind_, bytes_, Search::range(key, std::nullopt).sorted());
+    }
+    /// The first pair, in the order of bytes, whose key is after this one.
+    [[nodiscard]] StreamIterator upper_bound(std::string_view key) const {
+        return StreamIterator(kind_, bytes_, Search::after(key));
     }
     /// See Search::glob().
     [[nodiscard]] Stream glob(std::string_view pattern) const {
@@ -1112,7 +1146,7 @@ public:
         return trie().search(std::move(what));
     }
     Stream search(Search what) const && = delete;
-    /// See Search::range().
+    /// See Trie::range().
     [[nodiscard]] Stream range(
         std::optional<std::string_view> from,
         std::optional<std::string_view> below = std::nullopt) const &ZEROTRIE_LIFETIMEBOUND {
@@ -1120,6 +1154,19 @@ public:
     }
     Stream range(std::optional<std::string_view> from,
                  std::optional<std::string_view> below = std::nullopt) const && = delete;
+    /// See Trie::sorted().
+    [[nodiscard]] Stream sorted() const &ZEROTRIE_LIFETIMEBOUND { return trie().sorted(); }
+    Stream sorted() const && = delete;
+    /// See Trie::lower_bound().
+    [[nodiscard]] StreamIterator lower_bound(
+        std::string_view key) const &ZEROTRIE_LIFETIMEBOUND {
+        return trie().lower_bound(key);
+    }
+    /// See Trie::upper_bound().
+    [[nodiscard]] StreamIterator upper_bound(
+        std::string_view key) const &ZEROTRIE_LIFETIMEBOUND {
+        return trie().upper_bound(key);
+    }
     /// See Search::glob().
     [[nodiscard]] Stream glob(std::string_view pattern) const &ZEROTRIE_LIFETIMEBOUND {
         return trie().glob(pattern);

@@ -33,6 +33,9 @@
 #include <stddef.h>
 #include <stdint.h>
 #include <string.h>
+#ifdef __SSE2__
+#include <emmintrin.h>
+#endif
 
 #ifdef __cplusplus
 #define ZEROTRIE_READ_INLINE inline
@@ -189,13 +192,23 @@ ZEROTRIE_READ_HOT bool zerotrie_read_target(const zerotrie_read_branch *branch, 
 
 /* Returns the number of the edge that equals this byte but for the ignored bits; any number from
  * `count` on if there is none. It compares eight edges at once as long as eight bytes can be read:
- * `same` has the top bit set of each byte that is equal. */
+ * `same` has the top bit set of each byte that is equal. Processors with SSE2 compare sixteen. */
 ZEROTRIE_READ_HOT unsigned zerotrie_read_search(const zerotrie_read_branch *branch,
                                                 const uint8_t *end, uint8_t byte, uint8_t ignored) {
     const uint64_t low = UINT64_C(0x7F7F7F7F7F7F7F7F), ones = UINT64_C(0x0101010101010101);
     const uint64_t want = ones * (uint8_t)(byte | ignored), spread = ones * ignored;
     const uint8_t *at = branch->edges;
     const uint8_t *const last = branch->edges + branch->count;
+#ifdef __SSE2__
+    const __m128i wanted = _mm_set1_epi8((char)(byte | ignored));
+    const __m128i spread16 = _mm_set1_epi8((char)ignored);
+    for (; at < last && end - at >= 16; at += 16) {
+        const __m128i x = _mm_or_si128(_mm_loadu_si128((const __m128i *)at), spread16);
+        const unsigned equal = (unsigned)_mm_movemask_epi8(_mm_cmpeq_epi8(x, wanted));
+        if (equal != 0)
+            return (unsigned)(at - branch->edges) + (unsigned)__builtin_ctz(equal);
+    }
+#endif
     for (; at < last && end - at >= 8; at += 8) {
         const uint64_t x = (zerotrie_read_eight(at) | spread) ^ want;
         const uint64_t same = ~(((x & low) + low) | x | low);

@@ -40,6 +40,7 @@ C_NUMBERS = {
     "zerotrie_kind_number": 4,
     "zerotrie_status": 4,
     "zerotrie_fault": 4,
+    "zerotrie_bound": 4,
     "zerotrie_bytes": 16,
     "zerotrie_cursor": 24,
     "zerotrie_pair": 24,

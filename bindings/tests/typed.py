@@ -33,6 +33,7 @@ with ZeroTrie.open("names.trie", check=False) as opened:
     sealed: bytes = opened.seal()
 near: list[tuple[str, int]] = list(s.fuzzy("fop", edits=1, beginnings=True))
 between: dict[bytes, int] = dict(t.range("b", b"f"))
+least: Optional[tuple[str, int]] = s.first_from("f") or s.first_after(b"g")
 globbed: set[tuple[str, int]] = s.glob("f*") & s.items("fo")
 joined: StrTrie = (s | {"b": 2}) - {"foo"} & t
 index: Index = Index.build({"foo": 1})

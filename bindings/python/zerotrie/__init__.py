@@ -72,7 +72,7 @@ from ._pairs import (
     FlatPairs, Key, Pairs, Path, auto_kind, build, build_dense, build_sorted, encoded_len,
     key_bytes, known_kind, tagged,
 )
-from ._readers import COUNT, INDEX, AnyPlace, Place, Reader, Table, Word
+from ._readers import COUNT, INDEX, PAIRS, AnyPlace, Place, Reader, Table, Word
 from ._search import BY_GLOB, BY_SUBSEQUENCE, Search
 from ._sets import Keyed, chosen, kind_of
 from ._version import __version__ as __version__
@@ -282,11 +282,14 @@ class _Trie(Reader[Word], Mapping[Any, int]):
         """Parts of the listing of a prefix, or of what a search finds, small ones first."""
         # the search is in use until the last part
         address = 0 if search is None else search.address()
+        # what is in order has no prefix
+        in_order = search is not None and search.in_order and not front
         last, status, room, places = None, TOO_SMALL, 1 << 9, 1 << 5
         # a trie has no more pairs than bytes; if they are malformed, the parts may come round
         left = self._lent()[3] + 1
         while status == TOO_SMALL and left > 0:
-            part, last, status, next_len = self._part(what, front, last, room, places, address)
+            part, last, status, next_len = self._part(
+                what, front, last, room, places, address, in_order)
             if status != TOO_SMALL:
                 check_status(status)
             yield part[:left] if len(part) > left else part
@@ -310,12 +313,38 @@ class _Trie(Reader[Word], Mapping[Any, int]):
         return Values(self, prefix)
 
     def range(self, start: Optional[Key] = None, stop: Optional[Key] = None) -> Found[Word]:
-        """A view of the pairs whose keys are from `start` on and below `stop`, in the order of
-        bytes. None: there is no bound.
+        """A view of the pairs whose keys are from `start` on and below `stop`, in the order of their
+        bytes in every kind. None: there is no bound, so range() has all pairs in order.
 
-        It lists a part at a time, in the order of items(), as all searches.
+        >>> words = StrTrie.build({"tin": 3, "sting": 2, "sing": 1}, PERFECT_HASH)
+        >>> list(words.range("sj")), words.first_from("t"), words.first_after("tin")
+        ([('sting', 2), ('tin', 3)], ('tin', 3), None)
+
+        It lists a part at a time. In IGNORE_CASE upper case comes before lower case, as bytes are
+        compared as they are stored.
         """
         return Found(self, search=Search.range(start, stop))
+
+    def first_from(self, key: Key) -> Optional[tuple[Word, int]]:
+        """The first pair, in the order of bytes, whose key is not below this one. None: there is
+        none.
+        """
+        return self._first(Search.range(key_bytes(key), None))
+
+    def first_after(self, key: Key) -> Optional[tuple[Word, int]]:
+        """The first pair, in the order of bytes, whose key is after this one. None: there is none.
+        """
+        return self._first(Search.after(key))
+
+    def _first(self, search: Search) -> Optional[tuple[Word, int]]:
+        """The first pair of a range."""
+        part: Sequence[Any] = ()
+        room, status = 64, TOO_SMALL
+        while status == TOO_SMALL and not part:
+            part, _, status, room = self._part(PAIRS, b"", None, room, 1, search.address(), True)
+            if status != TOO_SMALL:
+                check_status(status)
+        return part[0] if part else None
 
     def glob(self, pattern: Key) -> Found[Word]:
         """A view of the pairs whose keys a pattern matches, as "s*ing": `*` is any number of bytes,

@@ -23,6 +23,7 @@ static struct {
     __typeof__(zerotrie_common_prefixes) *common_prefixes;
     __typeof__(zerotrie_list_some) *list_some;
     __typeof__(zerotrie_search_some) *search_some;
+    __typeof__(zerotrie_sorted_some) *sorted_some;
     __typeof__(zerotrie_index_get) *index_get;
     __typeof__(zerotrie_cursor_new) *cursor_new;
     __typeof__(zerotrie_with_prefix) *with_prefix;
@@ -32,9 +33,9 @@ static struct {
 } library;
 static const char *const names[] = {
     "zerotrie_get", "zerotrie_longest_prefix", "zerotrie_longest_prefix_at",
-    "zerotrie_common_prefixes", "zerotrie_list_some", "zerotrie_search_some", "zerotrie_index_get",
-    "zerotrie_cursor_new", "zerotrie_with_prefix", "zerotrie_cursor_step",
-    "zerotrie_cursor_take_value", "zerotrie_cursor_probe",
+    "zerotrie_common_prefixes", "zerotrie_list_some", "zerotrie_search_some",
+    "zerotrie_sorted_some", "zerotrie_index_get", "zerotrie_cursor_new", "zerotrie_with_prefix",
+    "zerotrie_cursor_step", "zerotrie_cursor_take_value", "zerotrie_cursor_probe",
 };
 enum { NAMES = sizeof names / sizeof *names };
 
@@ -434,10 +435,21 @@ static PyObject *list_of(const Part *part, long what, bool text) {
     return list;
 }
 
+/* Lists a part of a listing between the bounds of a search in the order of bytes, behind the key
+ * `last`, or from the lower bound if it is null. */
+static uint32_t sorted_part(uint32_t kind, const uint8_t *bytes, size_t len,
+                            const zerotrie_search *search, const zerotrie_bytes *last, Part *part) {
+    const zerotrie_bytes from = last ? *last : search->text;
+    return library.sorted_some(kind, bytes, len, last ? ZEROTRIE_EXCLUDED : search->from_bound,
+                               from.ptr, from.len, search->to_bound, search->to.ptr, search->to.len,
+                               part->keys, part->room, part->ends, part->places, part->values,
+                               part->places, &part->count, &part->next_len);
+}
+
 /* Lists a part behind the key `last`, or from the front if it is null; of what a search finds if
- * that is not null. It releases the lock. */
+ * that is not null, in the order of bytes or in that of the trie. It releases the lock. */
 static void list_part(Held *held, zerotrie_bytes front, const zerotrie_search *search,
-                      const zerotrie_bytes *last, Part *part) {
+                      bool in_order, const zerotrie_bytes *last, Part *part) {
     const zerotrie_bytes after = last ? *last : zerotrie_bytes_of(NULL, 0);
     PyObject *view = held->view;
     const uint8_t *bytes = held->bytes;
@@ -446,7 +458,9 @@ static void list_part(Held *held, zerotrie_bytes front, const zerotrie_search *s
     PyThreadState *state;
     Py_INCREF(view);
     state = PyEval_SaveThread();
-    if (search)
+    if (search && in_order)
+        part->status = sorted_part(kind, bytes, len, search, last, part);
+    else if (search)
         part->status = library.search_some(kind, bytes, len, front.ptr, front.len, search,
                                            last != NULL, after.ptr, after.len, part->keys,
                                            part->room, part->ends, part->places, part->values,
@@ -473,19 +487,21 @@ static PyObject *told_of(const Part *part, long what, bool text, PyObject *last)
                          (Py_ssize_t)part->next_len);
 }
 
-/* _part(what, front, last, room, places, search): the pairs of a listing behind the key `last`, or
- * the first ones if it is None, as many as there is room for; those that are found by the search at
- * this address, if it is not 0. */
+/* _part(what, front, last, room, places, search, in_order): the pairs of a listing behind the key
+ * `last`, or the first ones if it is None, as many as there is room for; those that are found by the
+ * search at this address, if it is not 0; or, in the order of bytes, those between its bounds. */
 static PyObject *reader_part(PyObject *object, PyObject *args) {
     PyObject *front, *last, *result = NULL;
     zerotrie_bytes begins, after;
     Py_ssize_t room, places;
     unsigned long long search = 0;
+    int in_order = 0;
     long what;
     Part part = { 0 };
     Held *held = held_by(object);
     if (!held
-        || !PyArg_ParseTuple(args, "lSOnn|K:_part", &what, &front, &last, &room, &places, &search))
+        || !PyArg_ParseTuple(args, "lSOnn|Kp:_part", &what, &front, &last, &room, &places, &search,
+                             &in_order))
         return NULL;
     begins = zerotrie_bytes_of(PyBytes_AsString(front), (size_t)PyBytes_Size(front));
     if (last != Py_None) {
@@ -501,7 +517,7 @@ static PyObject *reader_part(PyObject *object, PyObject *args) {
     part.ends = malloc(2 * sizeof *part.ends * part.places + 1);
     part.values = part.ends + part.places;
     if (part.keys && part.ends) {
-        list_part(held, begins, (const zerotrie_search *)(uintptr_t)search,
+        list_part(held, begins, (const zerotrie_search *)(uintptr_t)search, in_order != 0,
                   last == Py_None ? NULL : &after, &part);
         result = told_of(&part, what, held->text, last);
     } else {

@@ -47,6 +47,9 @@ class RawSearch(Structure):
         ("text", Bytes), ("to", Bytes), ("beginnings", c_bool)]
 
 
+#: The numbers of bounds.
+UNBOUNDED, INCLUDED, EXCLUDED = range(3)
+
 TEXT = [c_char_p, c_size_t]
 BYTES = [c_void_p, c_size_t]
 SIZES = [POINTER(c_size_t), c_size_t]
@@ -94,6 +97,9 @@ _DECLARED: dict[str, tuple[Any, list[Any]]] = {
         c_uint32,
         [c_uint32, *BYTES, *TEXT, POINTER(RawSearch), c_bool, *TEXT, *BYTES, *SIZES, *SIZES, SIZE,
          SIZE]),
+    "zerotrie_sorted_some": (
+        c_uint32,
+        [c_uint32, *BYTES, c_uint32, *TEXT, c_uint32, *TEXT, *BYTES, *SIZES, *SIZES, SIZE, SIZE]),
     "zerotrie_index_get": (c_bool, [*BYTES, *TEXT, SIZE]),
     "zerotrie_index_is_valid": (c_bool, BYTES),
     "zerotrie_index_build": (c_uint32, [c_uint64, *RAW_PAIRS, *BYTES, SIZE]),

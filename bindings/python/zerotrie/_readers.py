@@ -13,7 +13,7 @@ from itertools import accumulate
 from typing import TYPE_CHECKING, Any, Generic, Optional, TypeVar, Union, overload
 
 from ._errors import Other, check_status
-from ._library import _DECLARED, MADE, CursorPlace, RawSearch, lib
+from ._library import _DECLARED, EXCLUDED, MADE, Bytes, CursorPlace, RawSearch, lib
 from ._pairs import Key, all_key_bytes, delimiter_bytes, key_bytes, sizes, whole_number
 
 AnyPlace = TypeVar("AnyPlace", bound="Place")
@@ -138,10 +138,11 @@ class Reader(Generic[Word]):
 
     def _part(
         self, what: int, front: bytes, last: Optional[bytes], room: int, places: int,
-        search: int = 0, /,
+        search: int = 0, in_order: bool = False, /,
     ) -> tuple[Sequence[Any], Optional[bytes], int, int]:
         """The pairs of a listing behind the key `last`, or the first ones if it is None; those that
-        are found by the search at an address, if one is given.
+        are found by the search at an address, if one is given; or, in the order of bytes, those
+        between its bounds.
 
         Returns what is asked for of as many as there is room for, the last key, the status, and how
         long the next key is.
@@ -154,13 +155,19 @@ class Reader(Generic[Word]):
         goes_on = last is not None, after, len(after)
         if search:
             found_by = RawSearch.from_address(search)
-            status = lib.zerotrie_search_some(*begins, found_by, *goes_on, *rooms)
+            if in_order:
+                to = found_by.to_bound, *text_at(found_by.to)
+                low = (found_by.from_bound, *text_at(found_by.text)) if last is None else (
+                    EXCLUDED, *goes_on[1:])
+                status = lib.zerotrie_sorted_some(*begins[:3], *low, *to, *rooms)
+            else:
+                status = lib.zerotrie_search_some(*begins, found_by, *goes_on, *rooms)
         else:
             status = lib.zerotrie_list_some(*begins, *goes_on, *rooms)
-        to = ends[: count.value]
-        text = ctypes.string_at(keys, to[-1]) if to else b""
-        words = [text[begin:end] for begin, end in zip([0, *to], to)]
-        part: Sequence[Any] = range(len(to))
+        listed = ends[: count.value]
+        text = ctypes.string_at(keys, listed[-1]) if listed else b""
+        words = [text[begin:end] for begin, end in zip([0, *listed], listed)]
+        part: Sequence[Any] = range(len(listed))
         if what == VALUES:
             part = values[: count.value]
         elif what != COUNT:
@@ -213,6 +220,11 @@ class Table:
         text, value = key_bytes(key), c_size_t()
         view, _, at, length = self._held
         return bool(lib.zerotrie_index_get(at, length, text, len(text), value))
+
+
+def text_at(text: Bytes) -> tuple[bytes, int]:
+    """The bytes of a text of a search, and how many they are."""
+    return ctypes.string_at(text.ptr or 0, text.len), text.len
 
 
 def word_of(word: bytes, as_text: bool) -> Any:

@@ -83,7 +83,8 @@ class Items(Listed, ItemsView[Word, int]):
 
 
 class Found(Items[Word]):
-    """The pairs whose keys a search finds. `in` finds what the trie finds, if the search does."""
+    """The pairs whose keys a search finds, in the order of the trie's bytes, but those of a range in
+    the order of their keys. `in` finds what the trie finds, if the search does."""
 
     __slots__ = ()
 

@@ -4,7 +4,7 @@ use Rattle.std.proofs.lemmas.List.{append-nil, take_at, take-append-drop, length
 use Rattle.std.proofs.lemmas.Bool.{cases_lt}
 use Rattle.std.proofs.Math.Seq.{drop-append-add}
 use Rattle.zerotrie_core.specs.Maps.{Pairs}
-use Rattle.zerotrie_c.specs.Listed.{joined, ends_from, values_of, IsPut, IsWritten}
+use Rattle.zerotrie_c.specs.Listed.{joined, ends_from, values_of, IsPut, IsWritten, IsListedSome}
 
 drop_again : (n m : ℕ) (xs : List ℕ) → n ≤ length xs → drop m (drop n xs) ≡ drop (n + m) xs
 drop_again n m xs h =
@@ -122,3 +122,30 @@ placed_len ys room p fits =
     let c = length-take-le p room (omega arith) in
     let d = length-drop (p + length ys) room in
     omega arith
+
+-- a pair after those that are written, and none after it
+pub going_on : {found : Pairs} {old_keys keys old_ends ends old_values values : List ℕ} {count used : ℕ} (e : List ℕ × ℕ)
+    → Going found [] old_keys keys old_ends ends old_values values count used
+    → Going (found ++ e ∷ []) (e ∷ []) old_keys keys old_ends ends old_values values count used
+going_on e g = record {
+  written = g.written;
+  parts = ap (λ p. p ++ e ∷ []) (g.parts ∙ append-nil g.written);
+  count_is = g.count_is;
+  used_is = g.used_is;
+  done = g.done;
+}
+
+-- nothing is written yet
+pub going_start : (pairs : Pairs) (keys ends values : List ℕ) → Going pairs pairs keys keys ends ends values values 0 0
+going_start pairs keys ends values = record { written = []; parts = refl; count_is = refl; used_is = refl; done = nothing_written keys ends values }
+
+-- the next pair has no place in some room
+pub listed_full : (pairs : Pairs) (key : List ℕ) (v : ℕ) (after : Pairs) {old_keys keys old_ends ends old_values values : List ℕ} {count used : ℕ} (old_next : ℕ)
+    → Going pairs ((key, v) ∷ after) old_keys keys old_ends ends old_values values count used
+    → (used + length key ≤ length old_keys → count < length old_ends → count < length old_values → ⊥)
+    → IsListedSome pairs 8 old_keys keys old_ends ends old_values values count old_next (length key)
+listed_full pairs key v after {old_keys} {keys} {old_ends} {ends} {old_values} {values} {count} {used} old_next g full =
+    let over = no_room (length old_keys) (length old_ends) (length old_values) used count (length key) full in
+    let over = subst (λ n. (length old_keys < n + length key) ⊎ ((length old_ends ≤ count) ⊎ (length old_values ≤ count))) g.used_is over in
+    let over = subst (λ n. (length old_keys < length (joined g.written) + length key) ⊎ ((length old_ends ≤ n) ⊎ (length old_values ≤ n))) g.count_is over in
+    (g.written, (key, v) ∷ after, g.parts, g.count_is, g.done, inr (inl (refl, (refl, over))))

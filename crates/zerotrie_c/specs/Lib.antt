@@ -10,6 +10,7 @@ pub mod Tags
 pub mod Files
 pub mod Listed
 pub mod Searched
+pub mod Sorted
 pub mod Entries
 pub mod Dense
 pub mod Indexes

@@ -19,5 +19,6 @@ pub mod look_up;
 pub mod numbers;
 pub mod refusals;
 pub mod searches;
+pub mod sorted;
 pub mod tags;
 pub mod version;

@@ -3,7 +3,7 @@
 ghost use Rattle.std.specs.Prelude.{◌≡◌, ◌≤◌, ◌+◌, ◌++◌, ◌&&◌, length, take, drop, IfOk, IfErr, IfSome, IfNone};
 ghost use Rattle.zerotrie_core.specs.Maps.{Pairs, beginning};
 ghost use Rattle.zerotrie_core.specs.Texts.{Lists};
-ghost use Rattle.zerotrie_core.specs.Listings.{Left, Standing, ListsOne, MemoryOnly, item_of, to_come};
+ghost use Rattle.zerotrie_core.specs.Listings.{to_come};
 ghost use Rattle.zerotrie_core.specs.declared.listing.ListError.TheVariants.{OutOfMemory};
 ghost use Rattle.zerotrie_c.specs.Numbers.{kind_of};
 ghost use Rattle.zerotrie_c.specs.Statuses.{unknown_kind};
@@ -11,7 +11,7 @@ ghost use Rattle.zerotrie_c.specs.Listed.{joined, ends_from, values_of, status_i
 
 use crate::numbers::{BUFFER_TOO_SMALL, DONE, OUT_OF_MEMORY, UNKNOWN_KIND, kind_of};
 use std::alloc::{AllocError, Global};
-use zerotrie_core::{ListError, ZeroTrieStream, ZeroTrieWithOptions, by_kind};
+use zerotrie_core::{ListError, PairStream, ZeroTrieStream, ZeroTrieWithOptions, by_kind};
 
 /// Keys one after another, where each ends, and their values.
 #[derive(Drop)]
@@ -173,7 +173,7 @@ pub extern "C" fn zerotrie_list(
 }
 
 /// Copies bytes into the room at a place.
-fn put_at(bytes: &[u8], room: &mut [u8], place: usize)
+pub fn put_at(bytes: &[u8], room: &mut [u8], place: usize)
     requires { place + length bytes.now ≤ length room.old }
     ensures { room.new ≡ take place room.old
         ++ (bytes.now ++ drop (place + length bytes.now) room.old) }
@@ -183,48 +183,8 @@ fn put_at(bytes: &[u8], room: &mut [u8], place: usize)
     part.copy_from_slice(bytes);
 }
 
-/// Pairs that come one after another, as those of a stream and of a search do.
-pub trait Listing {
-    // What it has in hand.
-    ghost standing: { Self → Standing };
-
-    // What is left of it.
-    ghost left: { Self → Left };
-
-    /// Moves to the next pair, and returns whether there is one.
-    fn advance(&mut self) -> Result<bool, AllocError>
-        ensures { ListsOne (λ key. key) MemoryOnly (left self.old)
-            (item_of result (standing self.new)) (left self.new) };
-
-    /// Returns the key of the current pair.
-    fn key(&self) -> &[u8]
-        ensures { result.now ≡ (standing self.now).key };
-
-    /// Returns the value of the current pair.
-    fn value(&self) -> usize
-        ensures { result ≡ (standing self.now).value };
-}
-
-impl<'a> Listing for ZeroTrieStream<'a> {
-    ghost standing = { λ s. s };
-
-    ghost left = { λ s. s.left };
-
-    fn advance(&mut self) -> Result<bool, AllocError> {
-        ZeroTrieStream::advance(self)
-    }
-
-    fn key(&self) -> &[u8] {
-        ZeroTrieStream::key(self)
-    }
-
-    fn value(&self) -> usize {
-        ZeroTrieStream::value(self)
-    }
-}
-
 /// Writes the next pairs of a listing, as many as the rooms have places for.
-pub fn write_some<L: Listing + Drop>(
+pub fn write_some<L: PairStream + Drop>(
     mut pairs: L,
     keys: &mut [u8],
     ends: &mut [usize],

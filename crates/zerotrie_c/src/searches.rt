@@ -13,7 +13,7 @@ ghost use Rattle.zerotrie_c.specs.Statuses.{unknown_kind};
 ghost use Rattle.zerotrie_c.specs.Listed.{left_of, IsListedSome};
 ghost use Rattle.zerotrie_c.specs.Searched.{bound_with, finds_whole, or_beginnings, sought_keys, IsSearchFault, IsSearchedSome};
 
-use crate::listings::{Listing, left_of, write_some};
+use crate::listings::{left_of, write_some};
 use crate::numbers::{
     MALFORMED_SEARCH, OUT_OF_MEMORY, SEARCH_TOO_LONG, UNKNOWN_KIND, UNKNOWN_SEARCH, kind_of,
 };
@@ -50,7 +50,7 @@ pub enum Sought<'q> {
 }
 
 /// Returns the bound with this number at a key, or `None` if no bound has it.
-fn bound_with(number: u32, key: &[u8]) -> Option<Bound<&[u8]>>
+pub fn bound_with(number: u32, key: &[u8]) -> Option<Bound<&[u8]>>
     ensures { option_map (bound_map (λ b. b.now)) result ≡ bound_with number key.now }
 {
     match number {
@@ -110,24 +110,6 @@ fn near_text(word: &str, edits: u32) -> Option<LevenshteinChars>
     ensures none { IfNone result ((63 < length (chars word.now)) ⊎ (254 < edits)) }
 {
     LevenshteinChars::new(word, u8::try_from(edits).ok()?)
-}
-
-impl<'a, T: Automaton> Listing for ZeroTrieSearch<'a, T> {
-    ghost standing = { λ s. s.stream };
-
-    ghost left = { λ s. s.left };
-
-    fn advance(&mut self) -> Result<bool, AllocError> {
-        ZeroTrieSearch::advance(self)
-    }
-
-    fn key(&self) -> &[u8] {
-        ZeroTrieSearch::key(self)
-    }
-
-    fn value(&self) -> usize {
-        ZeroTrieSearch::value(self)
-    }
 }
 
 /// Writes the next pairs of a stream whose keys an automaton accepts, or begin with such a key.

@@ -28,6 +28,8 @@ use Rattle.zerotrie_queries.specs.declared.reports.ReportForm.{ReportForm}
 use Rattle.zerotrie_queries.specs.declared.reports.ReportForm.TheVariants as report
 use Rattle.zerotrie_queries.specs.declared.source.Choice.{Choice}
 use Rattle.zerotrie_queries.specs.declared.source.Choice.TheVariants as choice
+use Rattle.zerotrie_queries.specs.declared.source.Order.{Order}
+use Rattle.zerotrie_queries.specs.declared.source.Order.TheVariants as order
 use Rattle.zerotrie_search.specs.Words.{letters_of}
 use Rattle.zerotrie_search.specs.declared.range.KeyRange.{KeyRange}
 use Rattle.zerotrie_queries.specs.declared.views.View.{View}
@@ -145,6 +147,14 @@ IsFormOf false word f = (word ≡ form_word f) × (f ≢ form.Count)
 abbrev pub IsListForm : Option (List ℕ) → Option (List ℕ) → Form → Type 0
 IsListForm count word f = (flag : Bool) × IsFlag count flag × IsFormOf flag word f
 
+-- the order of a list: that of the bytes by the flag
+abbrev pub order_by : Bool → Order
+order_by true = order.ByBytes
+order_by false = order.Stored
+
+abbrev pub IsOrder : Option (List ℕ) → Order → Type 0
+IsOrder word o = (flag : Bool) × IsFlag word flag × (o ≡ order_by flag)
+
 -- a limit, which is none without a word; that it is the number of the word, tests show
 abbrev pub IsLimit : Option (List ℕ) → Option ℕ → Type 0
 IsLimit None limit = limit ≡ None
@@ -190,7 +200,15 @@ view_word (view.Dot most) = codes "dot"
 abbrev pub language_word : Language → List ℕ
 language_word lang.Rust = codes "rust"
 language_word lang.C = codes "c"
+language_word lang.CAlone = codes "c"
 language_word lang.Rattle = codes "rattle"
+
+-- whether its code needs no library
+abbrev pub is_alone : Language → Bool
+is_alone lang.CAlone = true
+is_alone lang.C = false
+is_alone lang.Rust = false
+is_alone lang.Rattle = false
 
 -- the kind that a word names: none without a word, or if it is `auto`
 abbrev pub IsKind : Option (List ℕ) → Option TrieKind → Type 0
@@ -277,9 +295,10 @@ pub record IsFile (matches : ArgMatches) (about : Topic) (file : TrieFile) : Typ
   pub check : IsCheck about (flag_of matches (codes "no-check")) file.check
 
 -- The pairs that are listed, by the words of a listing.
-pub record IsListing (matches : ArgMatches) (form : Form) (prefix : List ℕ) (limit : Option ℕ) : Type 0 where
+pub record IsListing (matches : ArgMatches) (form : Form) (prefix : List ℕ) (o : Order) (limit : Option ℕ) : Type 0 where
   pub format : IsListForm (flag_of matches (codes "count")) (word_of matches (codes "format")) form
   pub front : prefix ≡ unwrap_or (word_of matches (codes "prefix")) []
+  pub ordered : IsOrder (flag_of matches (codes "sorted")) o
   pub most : IsLimit (word_of matches (codes "limit")) limit
 
 -- the pattern, or the word, that is looked for; that the edits are those of the number, tests show
@@ -327,14 +346,16 @@ IsSought matches (choice.Subsequence s) = (word_of matches (codes "subsequence")
 IsSought matches (choice.Range r) = IsRange matches r × (word_of matches (codes "glob") ≡ None) × (word_of matches (codes "fuzzy") ≡ None) × (word_of matches (codes "subsequence") ≡ None)
 
 -- The pairs that are listed, by the words of a search.
-pub record IsSearch (matches : ArgMatches) (form : Form) (c : Choice) (limit : Option ℕ) : Type 0 where
+pub record IsSearch (matches : ArgMatches) (form : Form) (c : Choice) (o : Order) (limit : Option ℕ) : Type 0 where
   pub format : IsListForm (flag_of matches (codes "count")) (word_of matches (codes "format")) form
   pub sought : IsSought matches c
+  pub ordered : IsOrder (flag_of matches (codes "sorted")) o
   pub most : IsLimit (word_of matches (codes "limit")) limit
 
 -- The code that is written, by the words of its command.
 pub record IsCode (matches : ArgMatches) (language : Language) (name : List ℕ) : Type 0 where
   pub lang : word_of matches (codes "lang") ≡ Some (language_word language)
+  pub alone : IsFlag (flag_of matches (codes "alone")) (is_alone language)
   pub called : name ≡ unwrap_or (word_of matches (codes "name")) (usual_name language)
   pub word : is_name name ≡ true
 
@@ -342,8 +363,8 @@ pub record IsCode (matches : ArgMatches) (language : Language) (name : List ℕ)
 abbrev pub IsQuestion : ArgMatches → Topic → Option (List (List ℕ)) → Question → Type 0
 IsQuestion matches topic.Get texts q = (a : Asked) × (of : Keys) × IsGet (flag_of matches (codes "keys")) a × AreKeysOf texts of × (q ≡ question.LookUp a of)
 IsQuestion matches topic.Longest texts q = (a : Asked) × (of : Keys) × IsLongest matches a × AreKeysOf texts of × (q ≡ question.LookUp a of)
-IsQuestion matches topic.List texts q = (f : Form) × (prefix : Bor (List ℕ)) × (limit : Option ℕ) × IsListing matches f prefix.now limit × (q ≡ question.List f (choice.Prefix prefix) limit)
-IsQuestion matches topic.Search texts q = (f : Form) × (c : Choice) × (limit : Option ℕ) × IsSearch matches f c limit × (q ≡ question.List f c limit)
+IsQuestion matches topic.List texts q = (f : Form) × (prefix : Bor (List ℕ)) × (o : Order) × (limit : Option ℕ) × IsListing matches f prefix.now o limit × (q ≡ question.List f (choice.Prefix prefix) o limit)
+IsQuestion matches topic.Search texts q = (f : Form) × (c : Choice) × (o : Order) × (limit : Option ℕ) × IsSearch matches f c o limit × (q ≡ question.List f c o limit)
 IsQuestion matches topic.Verify texts q = q ≡ question.Verify
 IsQuestion matches topic.Stats texts q = (f : ReportForm) × IsReportForm (flag_of matches (codes "json")) f × (q ≡ question.Report f)
 IsQuestion matches topic.Inspect texts q = (v : View) × (word_of matches (codes "VIEW") ≡ Some (view_word v)) × (q ≡ question.View v)

@@ -8,6 +8,7 @@ use clap::{Arg, ArgAction, ArgMatches, Command};
 use std::alloc::{AllocError, Global};
 use zerotrie_core::TrieKind;
 use zerotrie_run::Place;
+use zerotrie_sets::Operation;
 
 /// What holds if an option is left out.
 pub enum Otherwise {
@@ -64,6 +65,10 @@ pub enum Task {
     Build,
     /// It asks a trie.
     Ask(Topic),
+    /// It compares two tries.
+    Diff,
+    /// It makes a trie of two others.
+    Combine(Operation),
 }
 
 /// A command: what it does and is for, the end of its help, and its arguments in the order of the

@@ -90,7 +90,7 @@ fn duplicates_in(matches: &ArgMatches<'_>) -> Result<Duplicates, &'static str>
 }
 
 /// What the file has beside the bytes of the trie.
-fn form_in(matches: &ArgMatches<'_>) -> Result<FileForm, &'static str>
+pub fn form_in(matches: &ArgMatches<'_>) -> Result<FileForm, &'static str>
     ensures { IfOk result (IsForm (flag_of matches.now (codes "tagged"))
         (flag_of matches.now (codes "bare"))) }
 {
@@ -117,7 +117,7 @@ fn plan_in(matches: &ArgMatches<'_>) -> Result<Plan, &'static str>
 }
 
 /// Where the file goes. A path of standard output is that stream: what it leads to is not replaced.
-fn target_in<'a>(matches: &ArgMatches<'a>) -> Place<'a>
+pub fn target_in<'a>(matches: &ArgMatches<'a>) -> Place<'a>
     ensures { IsTarget (word_of matches.now (codes "output")) result }
 {
     match matches.get_str("output") {

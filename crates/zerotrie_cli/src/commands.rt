@@ -2,6 +2,8 @@
 
 use crate::arguments::{Task, Topic, command, task_of};
 use crate::build::build_in;
+use crate::combine::combine_in;
+use crate::diff::diff_in;
 use crate::question::{ask_in, words_in};
 use clap::ArgMatches;
 use clap::error::ErrorKind;
@@ -9,6 +11,7 @@ use std::io::{BufWriter, IsTerminal};
 use std::{env, fs, io};
 use zerotrie_files::{Noted, Store, SystemDisk};
 use zerotrie_run::{Build, Command, Place, Status, run};
+use zerotrie_sets::Operation;
 
 /// Reports that memory was refused before the command ran. If the message can't be written, the
 /// status alone reports it.
@@ -92,14 +95,37 @@ fn run_build(rt: &HostRuntime, build: Build<'_>) -> Status {
     run_here(rt, Command::Build(build))
 }
 
+/// Makes the file that the words of a build ask for.
+fn run_making(rt: &HostRuntime, matches: &ArgMatches<'_>) -> Status {
+    match build_in(matches, rt.stderr().is_terminal()) {
+        Ok(build) => run_build(rt, build),
+        Err(why) => refuse(rt, why),
+    }
+}
+
+/// Compares the two tries that the words name.
+fn run_comparing(rt: &HostRuntime, matches: &ArgMatches<'_>) -> Status {
+    match diff_in(matches) {
+        Ok(diff) => run_here(rt, Command::Diff(diff)),
+        Err(message) => refuse(rt, &message),
+    }
+}
+
+/// Makes a trie of the two that the words name.
+fn run_combining(rt: &HostRuntime, matches: &ArgMatches<'_>, operation: Operation) -> Status {
+    match combine_in(matches, operation) {
+        Ok(both) => run_here(rt, Command::Combine(both)),
+        Err(why) => refuse(rt, why),
+    }
+}
+
 /// Does the command of this name.
 fn run_named(rt: &HostRuntime, matches: &ArgMatches<'_>, name: &str) -> Status {
     match task_of(name) {
-        Some(Task::Build) => match build_in(matches, rt.stderr().is_terminal()) {
-            Ok(build) => run_build(rt, build),
-            Err(why) => refuse(rt, why),
-        },
+        Some(Task::Build) => run_making(rt, matches),
         Some(Task::Ask(topic)) => run_question(rt, matches, topic),
+        Some(Task::Diff) => run_comparing(rt, matches),
+        Some(Task::Combine(operation)) => run_combining(rt, matches, operation),
         None => Status::BadUsage,
     }
 }

@@ -3,7 +3,9 @@
 
 mod arguments;
 mod build;
+mod combine;
 mod commands;
+mod diff;
 mod question;
 mod table;
 

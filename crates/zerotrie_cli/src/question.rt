@@ -3,7 +3,7 @@
 ghost use Rattle.std.specs.Prelude.{◌≡◌, ◌≢◌, ◌∷◌, [], ℕ, List, true, false, Some, IfOk, codes, map};
 ghost use Rattle.std.specs.Borrow.{Bor};
 ghost use Rattle.zerotrie_queries.specs.declared.code.Language.{Language};
-ghost use Rattle.zerotrie_cli.specs.Words.{AreKeysOf, HasNoRange, IsAsk, IsBorder, IsCheck, IsCode, IsFile, IsFuzzy, IsGet, IsGlob, IsLimit, IsListForm, IsLongest, IsQuestion, IsRange, IsReportForm, IsSought, flag_of, given_words, language_word, texts_of, view_word, word_of};
+ghost use Rattle.zerotrie_cli.specs.Words.{AreKeysOf, HasNoRange, IsAsk, IsBorder, IsCheck, IsCode, IsFile, IsFlag, IsFuzzy, IsGet, IsGlob, IsLimit, IsListForm, IsLongest, IsOrder, IsQuestion, IsRange, IsReportForm, IsSought, flag_of, given_words, is_alone, language_word, texts_of, view_word, word_of};
 ghost use Rattle.zerotrie_queries.specs.declared.views.View.{View};
 ghost use Rattle.zerotrie_run.specs.declared.command.Question.TheVariants as question;
 
@@ -11,7 +11,7 @@ use crate::arguments::{Topic, kind_in, source_in};
 use clap::ArgMatches;
 use std::alloc::{AllocError, Global};
 use std::ops::Bound;
-use zerotrie_queries::{Asked, Choice, Form, Language, ReportForm, Style, View, is_name};
+use zerotrie_queries::{Asked, Choice, Form, Language, Order, ReportForm, Style, View, is_name};
 use zerotrie_run::{Check, Command, Keys, Question, TrieFile};
 use zerotrie_search::{Glob, GlobError, KeyRange, LevenshteinChars, Subsequence};
 
@@ -29,7 +29,7 @@ const KEYWORDS: &[&str] = &[
 fn is_taken(language: Language, name: &str) -> bool {
     match language {
         Language::Rust | Language::Rattle => KEYWORDS.iter().any(|word| *word == name),
-        Language::C => name.starts_with("zerotrie"),
+        Language::C | Language::CAlone => name.starts_with("zerotrie"),
     }
 }
 
@@ -129,15 +129,30 @@ fn form_in(matches: &ArgMatches<'_>) -> Result<Form, &'static str>
     }
 }
 
-/// The language that is named.
-fn language_in(matches: &ArgMatches<'_>) -> Result<Language, &'static str>
-    ensures { IfOk result (λ language.
-        word_of matches.now (codes "lang") ≡ Some (language_word language)) }
+/// The order in which pairs are to be printed.
+fn order_in(matches: &ArgMatches<'_>) -> Order
+    ensures { IsOrder (flag_of matches.now (codes "sorted")) result }
 {
-    match matches.get_str("lang") {
-        Some("rust") => Ok(Language::Rust),
-        Some("c") => Ok(Language::C),
-        Some("rattle") => Ok(Language::Rattle),
+    if matches.get_flag("sorted") {
+        Order::ByBytes
+    } else {
+        Order::Stored
+    }
+}
+
+/// The language that is named, or C with the reader in front.
+fn language_in(matches: &ArgMatches<'_>) -> Result<Language, &'static str>
+    ensures word { IfOk result (λ language.
+        word_of matches.now (codes "lang") ≡ Some (language_word language)) }
+    ensures alone { IfOk result (λ language.
+        IsFlag (flag_of matches.now (codes "alone")) (is_alone language)) }
+{
+    match (matches.get_str("lang"), matches.get_flag("alone")) {
+        (Some("c"), true) => Ok(Language::CAlone),
+        (_, true) => Err("--alone is for --lang c"),
+        (Some("rust"), _) => Ok(Language::Rust),
+        (Some("c"), _) => Ok(Language::C),
+        (Some("rattle"), _) => Ok(Language::Rattle),
         _ => Err("--lang asks for a language"),
     }
 }
@@ -154,7 +169,7 @@ fn code_in<'a>(matches: &ArgMatches<'a>) -> Result<Question<'a>, &'static str>
     }
     if is_taken(language, name) {
         return Err(match language {
-            Language::C => "--name asks for no name that begins with zerotrie",
+            Language::C | Language::CAlone => "--name asks for no name that begins with zerotrie",
             Language::Rust | Language::Rattle => "--name asks for no keyword of the language",
         });
     }
@@ -318,11 +333,17 @@ fn question_in<'w, 'a: 'w>(
         Topic::List => {
             let prefix = matches.get_str("prefix").unwrap_or("").as_bytes();
             let choice = Choice::Prefix(prefix);
-            Ok(Question::List(form_in(matches)?, choice, limit_in(matches)?))
+            Ok(Question::List(
+                form_in(matches)?,
+                choice,
+                order_in(matches),
+                limit_in(matches)?,
+            ))
         }
         Topic::Search => Ok(Question::List(
             form_in(matches)?,
             choice_in(matches)?,
+            order_in(matches),
             limit_in(matches)?,
         )),
         Topic::Verify => Ok(Question::Verify),

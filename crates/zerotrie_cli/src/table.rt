@@ -1,6 +1,7 @@
 //! The commands, as rows.
 
 use crate::arguments::{Argument, Form, Otherwise, Subcommand, Task, Topic};
+use zerotrie_sets::{Keep, Operation};
 
 const KINDS: &[&str] = &["simple", "ignore", "hash", "ext"];
 
@@ -40,9 +41,65 @@ const NO_CHECK: Argument = Argument {
     help: "Skip the test of the bytes of a file that is not sealed",
 };
 
+const SORTED: Argument = Argument {
+    name: "sorted",
+    form: Form::Flag(Some('S')),
+    help: "Print the pairs in the order of the keys' bytes",
+};
+
+/// The file that is made.
+const OUTPUT: Argument = Argument {
+    name: "output",
+    form: Form::Text("OUT", Some('o'), Otherwise::Refused),
+    help: "The file to make, or - for standard output",
+};
+
+const NO_CLOBBER: Argument = Argument {
+    name: "no-clobber",
+    form: Form::Flag(Some('n')),
+    help: "Refuse the build if OUT is there already",
+};
+
+const KIND: Argument = Argument {
+    name: "kind",
+    form: Form::OneOf("K", Some('k'), KINDS_OR_AUTO, Otherwise::Is("auto")),
+    help: "The kind of the trie: auto is simple for fewer than 512 ASCII keys, else hash",
+};
+
+const TAGGED: Argument = Argument {
+    name: "tagged",
+    form: Form::Flag(Some('t')),
+    help: "Put the number of the kind in front, and no checksum",
+};
+
+const BARE_OUTPUT: Argument = Argument {
+    name: "bare",
+    form: Form::Flag(Some('b')),
+    help: "Put nothing in front; name the kind too",
+};
+
+/// What a command has that makes a trie of two others.
+const BOTH: &[Argument] = &[
+    Argument {
+        name: "A",
+        form: Form::Place,
+        help: "A trie that is sealed or tagged, or - for standard input",
+    },
+    Argument {
+        name: "B",
+        form: Form::Place,
+        help: "Another, whose kind may differ",
+    },
+    OUTPUT,
+    NO_CLOBBER,
+    KIND,
+    TAGGED,
+    BARE_OUTPUT,
+];
+
 /// What a status says, in the help of the program.
 pub const STATUSES: &str =
-    "Status: 0 if all is done or found; 1 if a key is not there, a text\nbegins with none, or a build is refused; 2 if the command line is\nwrong, FILE is no trie, or IN is no pairs; 3 if a file can't be read\nor written, or memory runs out; 4 if whoever reads the output has\nclosed it.";
+    "Status: 0 if all is done or found; 1 if a key is not there, a text\nbegins with none, pairs differ, or a build is refused; 2 if the command\nline is wrong, FILE is no trie, or IN is no pairs; 3 if a file can't be read\nor written, or memory runs out; 4 if whoever reads the output has\nclosed it.";
 
 /// What the program can be asked to do.
 pub const COMMANDS: &[Subcommand] = &[
@@ -59,16 +116,8 @@ pub const COMMANDS: &[Subcommand] = &[
                 form: Form::Place,
                 help: "A file of pairs, or - for standard input",
             },
-            Argument {
-                name: "output",
-                form: Form::Text("OUT", Some('o'), Otherwise::Refused),
-                help: "The file to make, or - for standard output",
-            },
-            Argument {
-                name: "no-clobber",
-                form: Form::Flag(Some('n')),
-                help: "Refuse the build if OUT is there already",
-            },
+            OUTPUT,
+            NO_CLOBBER,
             Argument {
                 name: "format",
                 form: Form::OneOf("F", Some('f'), INPUTS, Otherwise::Nothing),
@@ -99,21 +148,9 @@ pub const COMMANDS: &[Subcommand] = &[
                 form: Form::Flag(Some('s')),
                 help: "Refuse keys that do not ascend by their bytes",
             },
-            Argument {
-                name: "kind",
-                form: Form::OneOf("K", Some('k'), KINDS_OR_AUTO, Otherwise::Is("auto")),
-                help: "The kind of the trie: auto is simple for fewer than 512 ASCII keys, else hash",
-            },
-            Argument {
-                name: "tagged",
-                form: Form::Flag(Some('t')),
-                help: "Put the number of the kind in front, and no checksum",
-            },
-            Argument {
-                name: "bare",
-                form: Form::Flag(Some('b')),
-                help: "Put nothing in front; name the kind too",
-            },
+            KIND,
+            TAGGED,
+            BARE_OUTPUT,
             Argument {
                 name: "progress",
                 form: Form::Flag(Some('p')),
@@ -198,6 +235,7 @@ pub const COMMANDS: &[Subcommand] = &[
                 form: Form::Flag(Some('c')),
                 help: "Print how many pairs there are",
             },
+            SORTED,
             BARE,
             NO_CHECK,
         ],
@@ -256,8 +294,34 @@ pub const COMMANDS: &[Subcommand] = &[
                 form: Form::Flag(Some('c')),
                 help: "Print how many pairs there are",
             },
+            SORTED,
             BARE,
             NO_CHECK,
+        ],
+    },
+    Subcommand {
+        name: "diff",
+        task: Task::Diff,
+        about: "Print the pairs that were added, removed and changed",
+        help: "Example: zerotrie diff old.trie new.trie\n\
+            Prints +, key and value of an added pair; -, key and value of a removed\none; and ~, key, old and new value. Tabs are between.\n\
+            Status: 0 if the pairs are the same, 1 if not, 2 if a file is no trie.",
+        arguments: &[
+            Argument {
+                name: "OLD",
+                form: Form::Place,
+                help: "A trie, or - for standard input",
+            },
+            Argument {
+                name: "NEW",
+                form: Form::Place,
+                help: "Another one, of any kind",
+            },
+            Argument {
+                name: "bare",
+                form: Form::OneOf("K", Some('b'), KINDS, Otherwise::Nothing),
+                help: "Read both as bare bytes of this kind",
+            },
         ],
     },
     Subcommand {
@@ -321,8 +385,40 @@ pub const COMMANDS: &[Subcommand] = &[
                 form: Form::Text("NAME", None, Otherwise::Nothing),
                 help: "The name of what is made, else TRIE, get and trie",
             },
+            Argument {
+                name: "alone",
+                form: Form::Flag(Some('a')),
+                help: "Print a reader in front, so that the code of C needs no library",
+            },
             BARE,
             NO_CHECK,
         ],
+    },
+    Subcommand {
+        name: "union",
+        task: Task::Combine(Operation::Union(Keep::First)),
+        about: "Make a trie of the pairs of two others",
+        help: "Example: zerotrie union new.trie old.trie -o all.trie\n\
+            If both have a key, the value in A counts. OUT may be A or B.\n\
+            Status: 1 if the build is refused, 2 if A or B is no trie.",
+        arguments: BOTH,
+    },
+    Subcommand {
+        name: "intersect",
+        task: Task::Combine(Operation::Intersection(Keep::First)),
+        about: "Make a trie of the keys that two others have",
+        help: "Example: zerotrie intersect names.trie wanted.trie -o found.trie\n\
+            The values are those in A. OUT may be A or B.\n\
+            Status: 1 if the build is refused, 2 if A or B is no trie.",
+        arguments: BOTH,
+    },
+    Subcommand {
+        name: "minus",
+        task: Task::Combine(Operation::Difference),
+        about: "Make a trie of the keys of one that another has not",
+        help: "Example: zerotrie minus names.trie old.trie -o new.trie\n\
+            The keys are those of A that B has not. OUT may be A or B.\n\
+            Status: 1 if the build is refused, 2 if A or B is no trie.",
+        arguments: BOTH,
     },
 ];

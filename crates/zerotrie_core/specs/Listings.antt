@@ -56,9 +56,9 @@ module _ {K E : Type 0} (key : K → List ℕ) (MayEnd : E → Pairs → Type 0)
 abbrev pub MemoryOnly : ListError → Pairs → Type 0
 MemoryOnly e pairs = e ≡ OutOfMemory
 
--- the result of a call of `advance` as an item of the listing: the pair in hand after it, or the
+-- the result of a call of `advance` as an item of the listing: the current pair after it, or the
 -- error, or the end
-abbrev pub item_of : Result Bool AllocError → Standing → Option (Result (List ℕ × ℕ) ListError)
-item_of (Ok true) after = Some (Ok (after.key, after.value))
-item_of (Ok false) after = None
-item_of (Err e) after = Some (Err OutOfMemory)
+abbrev pub item_of : Result Bool AllocError → List ℕ × ℕ → Option (Result (List ℕ × ℕ) ListError)
+item_of (Ok true) current = Some (Ok current)
+item_of (Ok false) current = None
+item_of (Err e) current = Some (Err OutOfMemory)

@@ -97,8 +97,8 @@ impl<'a, A: Allocator> ZeroTrieStream<'a, A> {
     ///
     /// The only error is a failed allocation for a longer key or a deeper branch.
     pub fn advance(&mut self) -> Result<bool, AllocError>
-        ensures lists { ListsOne (λ key. key) MemoryOnly self.old.left (item_of result self.new)
-            self.new.left }
+        ensures lists { ListsOne (λ key. key) MemoryOnly self.old.left
+            (item_of result (self.new.key, self.new.value)) self.new.left }
         ensures grouped { IsGrouped self.old → IsGrouped self.new }
     {
         if self.ended {

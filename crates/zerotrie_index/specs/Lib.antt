@@ -3,3 +3,4 @@ pub mod Hashed
 pub mod Built
 pub mod Valid
 pub mod Lent
+pub mod Tries

@@ -7,6 +7,7 @@ mod index;
 pub mod laws;
 mod lent;
 mod reader;
+mod trie;
 mod well_formed;
 
 pub use builder::{BUCKET_LIMIT, SEEDS_TRIED, build, build_all, build_sorted};

@@ -103,6 +103,8 @@ fn are_buckets(seed: u64, count: u32, table: &[u8], pool: &[u8]) -> bool
 /// bounded number of times.
 ///
 /// ```
+/// use zerotrie_index::is_well_formed;
+///
 /// let index = build(rt.alloc(), 0, &[("in", 1), ("on", 2)])?;
 /// assert!(rt; is_well_formed(index.as_slice()) && !is_well_formed(&index.as_slice()[1..]));
 /// ```

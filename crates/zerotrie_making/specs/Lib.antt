@@ -4,4 +4,5 @@ pub mod Kept
 pub mod Sources
 pub mod Unread
 pub mod Made
+pub mod Combinations
 pub mod Laws

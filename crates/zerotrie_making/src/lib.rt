@@ -1,6 +1,7 @@
 //! Makes the bytes of a trie file from the bytes of a file of pairs.
 #![tactic(auto)]
 
+mod combining;
 mod duplicates;
 mod json_pairs;
 mod json_places;
@@ -10,6 +11,7 @@ mod reading;
 mod refused;
 mod tries;
 
+pub use combining::make_combined;
 pub use duplicates::Duplicates;
 pub use making::{FileForm, Plan, Source, make};
 pub use refused::{MakeError, NoPair, NumberedKey, Shown};

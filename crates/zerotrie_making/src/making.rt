@@ -110,7 +110,7 @@ fn explain(
 }
 
 /// Makes the file of the trie of the pairs.
-fn make_of(
+pub(crate) fn make_of(
     alloc: Global,
     plan: Plan,
     numbers: Option<&[usize]>,

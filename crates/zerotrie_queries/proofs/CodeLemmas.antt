@@ -9,9 +9,9 @@ use Rattle.zerotrie_core.specs.declared.TrieKind.TheVariants.{Simple, Ignore, Ha
 use Rattle.zerotrie_queries.specs.declared.code.Language.{Language}
 use Rattle.zerotrie_queries.specs.declared.code.Language.TheVariants as lang
 use Rattle.zerotrie_queries.specs.code.Names.{is_letter, is_in_word, are_in_word, is_name}
-use Rattle.zerotrie_queries.specs.code.Texts.{rust_kind, c_kind, rattle_type, c_get, front, end}
+use Rattle.zerotrie_queries.specs.code.Texts.{rust_kind, c_kind, kind_number, rattle_type, c_constants, c_call, alone_call, c_get, c_end, front, end}
 use Rattle.zerotrie_queries.specs.code.Items.{before_item, item_number, items, is_hex, digit_value, seen_after, numbers_after}
-use Rattle.zerotrie_queries.specs.code.Laws.{items_before_end, items_in_braces}
+use Rattle.zerotrie_queries.specs.code.Laws.{IsC, items_before_end, items_in_braces}
 use Rattle.zerotrie_queries.specs.code.Items.Seen.{outside, inside, zero_seen, digit_seen}
 
 -- a digit that is written has its value
@@ -113,6 +113,22 @@ rattle_type_read Ignore text = refl
 rattle_type_read Hash text = refl
 rattle_type_read Ext text = refl
 
+-- so does the number of a kind before a semicolon
+kind_number_read : (kind : TrieKind) (text rest : List ℕ) → numbers_after outside ((kind_number kind ++ (59 ∷ text)) ++ rest) ≡ numbers_after inside ((59 ∷ text) ++ rest)
+kind_number_read Simple text rest = refl
+kind_number_read Ignore text rest = refl
+kind_number_read Hash text rest = refl
+kind_number_read Ext text rest = refl
+
+-- no number stands in the constants of C, if the text of the kind leaves a word open
+constants_read : (kind name rest : List ℕ) → ((text rest : List ℕ) → numbers_after outside ((kind ++ (59 ∷ text)) ++ rest) ≡ numbers_after inside ((59 ∷ text) ++ rest)) → is_name name ≡ true
+    → numbers_after outside (c_constants kind name ++ rest) ≡ numbers_after outside rest
+constants_read kind name rest read is =
+    let last = codes "_bytes[] = {" in
+    let bytes = codes "\n\n/* Its bytes, and a zero. */\nstatic const uint8_t " ++ (name ++ last) in
+    let kinds = codes "_kind = " ++ (kind ++ (59 ∷ bytes)) in
+    named name kinds rest is ∙ read bytes rest ∙ named name last rest is
+
 -- no number stands in front of the bytes
 pub front_read : (language : Language) (kind : TrieKind) (name rest : List ℕ) → is_name name ≡ true → numbers_after outside (front language kind name ++ rest) ≡ numbers_after outside rest
 front_read lang.Rust kind name rest is =
@@ -120,25 +136,26 @@ front_read lang.Rust kind name rest is =
     let kinds = codes ": zerotrie_proved::ZeroTrie<&'static [u8]> =\n    zerotrie_proved::ZeroTrie::from_bytes(zerotrie_proved::Kind::" ++ (rust_kind kind ++ last) in
     let static = codes ".get(key)` is the value of a key.\npub static " ++ (name ++ kinds) in
     named name static rest is ∙ named name kinds rest is ∙ rust_kind_read kind last rest
-front_read lang.C kind name rest is =
-    let last = codes "_bytes[] = {" in
-    let bytes = codes ";\n\n/* Its bytes, and a zero. */\nstatic const uint8_t " ++ (name ++ last) in
-    let kinds = codes "_kind = " ++ (c_kind kind ++ bytes) in
-    named name kinds rest is ∙ c_kind_read kind bytes rest ∙ named name last rest is
+front_read lang.C kind name rest is = constants_read (c_kind kind) name rest (λ text. c_kind_read kind (59 ∷ text)) is
+front_read lang.CAlone kind name rest is = constants_read (kind_number kind) name rest (kind_number_read kind) is
 front_read lang.Rattle kind name rest is = named name (codes "(key: &[u8]) -> Option<usize> {\n    static BYTES: &[u8] = &[") rest is
 
--- and none after them
-pub end_read : (language : Language) (kind : TrieKind) (name : List ℕ) → is_name name ≡ true → numbers_after outside (end language kind name) ≡ []
-end_read lang.Rust kind name is = refl
-end_read lang.C kind name is =
+-- nor after the bytes of C
+c_end_read : (call name : List ℕ) → ((rest : List ℕ) → numbers_after inside (call ++ rest) ≡ numbers_after outside rest) → is_name name ≡ true → numbers_after outside (c_end call name) ≡ []
+c_end_read call name read is =
     let less = codes "_bytes - 1;\n" in
     let size = codes "_len = sizeof " ++ (name ++ less) in
     let last = codes "_len, key, key_len, value);\n}\n" in
     let len = codes "_bytes, " ++ (name ++ last) in
     let bytes = codes "_kind, " ++ (name ++ len) in
-    let call = codes "_get(const uint8_t *key, size_t key_len, size_t *value) {\n    return zerotrie_get(" ++ (name ++ bytes) in
-    let get = c_get name in
-    named name size get is ∙ named name less get is ∙ name_read name call is ∙ name_read name bytes is ∙ name_read name len is ∙ name_read name last is
+    let get = c_get call name in
+    named name size get is ∙ named name less get is ∙ name_read name (call ++ (name ++ bytes)) is ∙ read (name ++ bytes) ∙ name_read name bytes is ∙ name_read name len is ∙ name_read name last is
+
+-- and none after them
+pub end_read : (language : Language) (kind : TrieKind) (name : List ℕ) → is_name name ≡ true → numbers_after outside (end language kind name) ≡ []
+end_read lang.Rust kind name is = refl
+end_read lang.C kind name is = c_end_read c_call name (λ rest. refl) is
+end_read lang.CAlone kind name is = c_end_read alone_call name (λ rest. refl) is
 end_read lang.Rattle kind name is = rattle_type_read kind (codes "::from_bytes(BYTES).get(key)\n}\n")
 
 -- a digit is neither the end of a list nor a comma
@@ -195,10 +212,30 @@ c_kind_passed Ignore text rest = refl
 c_kind_passed Hash text rest = refl
 c_kind_passed Ext text rest = refl
 
--- the first brace is the one in front of the bytes
-pub front_passed : (kind : TrieKind) (name rest : List ℕ) → is_name name ≡ true → items_in_braces (front lang.C kind name ++ rest) ≡ items_before_end rest
-front_passed kind name rest is =
+kind_number_passed : (kind : TrieKind) (text rest : List ℕ) → items_in_braces ((kind_number kind ++ text) ++ rest) ≡ items_in_braces (text ++ rest)
+kind_number_passed Simple text rest = refl
+kind_number_passed Ignore text rest = refl
+kind_number_passed Hash text rest = refl
+kind_number_passed Ext text rest = refl
+
+constants_passed : (kind name rest : List ℕ) → ((text rest : List ℕ) → items_in_braces ((kind ++ text) ++ rest) ≡ items_in_braces (text ++ rest)) → is_name name ≡ true
+    → items_in_braces (c_constants kind name ++ rest) ≡ items_before_end rest
+constants_passed kind name rest passed is =
     let last = codes "_bytes[] = {" in
     let bytes = codes ";\n\n/* Its bytes, and a zero. */\nstatic const uint8_t " ++ (name ++ last) in
-    let kinds = codes "_kind = " ++ (c_kind kind ++ bytes) in
-    name_passed name kinds rest is ∙ c_kind_passed kind bytes rest ∙ name_passed name last rest is
+    let kinds = codes "_kind = " ++ (kind ++ bytes) in
+    name_passed name kinds rest is ∙ passed bytes rest ∙ name_passed name last rest is
+
+-- the first brace is the one in front of the bytes
+pub front_passed : (language : Language) (kind : TrieKind) (name rest : List ℕ) → IsC language → is_name name ≡ true → items_in_braces (front language kind name ++ rest) ≡ items_before_end rest
+front_passed lang.Rust kind name rest c is = absurd c
+front_passed lang.C kind name rest c is = constants_passed (c_kind kind) name rest (c_kind_passed kind) is
+front_passed lang.CAlone kind name rest c is = constants_passed (kind_number kind) name rest (kind_number_passed kind) is
+front_passed lang.Rattle kind name rest c is = absurd c
+
+-- what stands behind the bytes has one item more
+pub end_passed : (language : Language) (kind : TrieKind) (name : List ℕ) → IsC language → items_before_end (end language kind name) ≡ 1
+end_passed lang.Rust kind name c = absurd c
+end_passed lang.C kind name c = refl
+end_passed lang.CAlone kind name c = refl
+end_passed lang.Rattle kind name c = absurd c

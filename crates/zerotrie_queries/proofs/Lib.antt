@@ -10,3 +10,5 @@ pub mod PartLemmas
 mod LongestLemmas
 mod FrontLemmas
 mod LimitLemmas
+mod SortedLemmas
+mod DiffLemmas

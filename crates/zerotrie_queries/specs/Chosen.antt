@@ -3,7 +3,7 @@ use Rattle.std.specs.Prelude.{ℕ, List}
 use Rattle.std.specs.Range.Bound.{bound_map, bounds_contain}
 use Rattle.zerotrie_core.specs.Maps.{Pairs, beginning}
 use Rattle.zerotrie_core.specs.Kinds.{kind_of}
-use Rattle.zerotrie_core.specs.Listings.{Standing}
+use Rattle.zerotrie_core.specs.Listings.{Left}
 use Rattle.zerotrie_core.specs.declared.TrieKind.{TrieKind}
 use Rattle.zerotrie_search.specs.Globs as globs
 use Rattle.zerotrie_search.specs.Pending.{is_near_text}
@@ -27,6 +27,6 @@ pub record Coming : Type 0 where
   pub value : ℕ
   pub pairs : Pairs
 
--- the state of a stream, of which these pairs are to come
-abbrev pub standing : Standing → Pairs → Coming
-standing s pairs = record { key = s.key; value = s.value; pairs = pairs }
+-- the state of a stream with this current pair, of which this is left
+abbrev pub coming : Left → List ℕ × ℕ → Coming
+coming left current = record { key = current.0; value = current.1; pairs = left.pairs }

@@ -3,7 +3,9 @@ pub mod Files
 pub mod Json
 pub mod Printed
 pub mod Chosen
+pub mod Sorted
 pub mod Listed
+pub mod Diffs
 pub mod Answers
 pub mod code
 pub mod views

@@ -1,8 +1,9 @@
 //! A trie as source code: its bytes as a constant, and a function that looks a key up in them.
 
 ghost use Rattle.std.specs.Prelude.{◌≡◌};
-ghost use Rattle.zerotrie_queries.specs.code.Texts.{rust_kind, c_kind, rattle_type, usual_name};
+ghost use Rattle.zerotrie_queries.specs.code.Texts.{rust_kind, c_kind, kind_number, rattle_type, usual_name};
 
+mod c_reader;
 mod items;
 pub mod laws;
 mod name;
@@ -19,6 +20,8 @@ pub enum Language {
     Rust,
     /// C, by `zerotrie.h`.
     C,
+    /// C, by the reader `zerotrie_read.h`, which stands in front.
+    CAlone,
     /// Rattle, by the library `zerotrie`.
     Rattle,
 }
@@ -47,6 +50,18 @@ pub fn c_kind(kind: TrieKind) -> &'static str
     }
 }
 
+/// The number of the kind.
+pub fn kind_number(kind: TrieKind) -> &'static str
+    ensures { result.now ≡ kind_number kind }
+{
+    match kind {
+        TrieKind::Simple => "0",
+        TrieKind::Ignore => "8",
+        TrieKind::Hash => "3",
+        TrieKind::Ext => "7",
+    }
+}
+
 /// The type of the kind in the library.
 pub fn rattle_type(kind: TrieKind) -> &'static str
     ensures { result.now ≡ rattle_type kind }
@@ -66,7 +81,7 @@ impl Language {
     {
         match self {
             Language::Rust => "TRIE",
-            Language::C => "trie",
+            Language::C | Language::CAlone => "trie",
             Language::Rattle => "get",
         }
     }

@@ -1,26 +1,27 @@
 //! The first pairs of a source.
 
 ghost use Rattle.std.specs.Prelude.{◌≡◌, ◌∷◌, [], true, false, IfOk};
-ghost use Rattle.zerotrie_queries.specs.Listed.{within, is_spent, one_less};
+ghost use Rattle.zerotrie_queries.specs.Chosen.{coming};
+ghost use Rattle.zerotrie_queries.specs.Listed.{within, limited, is_spent, one_less};
 
-use crate::source::PairSource;
 use std::alloc::AllocError;
 use std::marker::Model;
+use zerotrie_core::PairStream;
 
 /// The pairs of a source, at most as many as are asked for.
 #[derive(Drop)]
-pub struct FirstPairs<P: PairSource> {
+pub struct FirstPairs<P: PairStream> {
     source: P,
     limit: Option<usize>,
 }
 
-impl<P: PairSource> Model for FirstPairs<P> {
-    ghost use Rattle.zerotrie_queries.specs.Chosen.{Coming};
+impl<P: PairStream> Model for FirstPairs<P> {
+    ghost use Rattle.zerotrie_queries.specs.Chosen.{Coming, coming};
     ghost use Rattle.zerotrie_queries.specs.Listed.{within};
 
     ghost Value = { Coming };
 
-    ghost view = { λ s. within s.limit (P.coming s.source) };
+    ghost view = { λ s. within s.limit (coming (P.left s.source) (P.current s.source)) };
 }
 
 /// Returns whether no pair may come any more.
@@ -44,17 +45,16 @@ fn one_less(limit: Option<usize>) -> Option<usize>
 }
 
 /// Moves a source to the next pair if one more may come, and returns whether there is one.
-fn advance_within<P: PairSource>(
+fn advance_within<P: PairStream>(
     source: &mut P,
     limit: &mut Option<usize>,
 ) -> Result<bool, AllocError>
     ensures some { IfOk result (λ more. more ≡ true
-        → (within limit.old (P.coming source.old)).pairs
-        ≡ ((P.coming source.new).key, (P.coming source.new).value)
-        ∷ (within limit.new (P.coming source.new)).pairs) }
+        → limited limit.old (P.left source.old).pairs
+        ≡ P.current source.new ∷ limited limit.new (P.left source.new).pairs) }
     ensures none { IfOk result (λ more. more ≡ false
-        → ((within limit.old (P.coming source.old)).pairs ≡ [])
-        × ((within limit.new (P.coming source.new)).pairs ≡ [])) }
+        → (limited limit.old (P.left source.old).pairs ≡ [])
+        × (limited limit.new (P.left source.new).pairs ≡ [])) }
 {
     if is_spent(*limit) {
         return Ok(false);
@@ -64,10 +64,10 @@ fn advance_within<P: PairSource>(
     Ok(more)
 }
 
-impl<P: PairSource> FirstPairs<P> {
+impl<P: PairStream> FirstPairs<P> {
     /// Iterates over the pairs of a source. Without a limit, all of them come.
     pub fn new(source: P, limit: Option<usize>) -> Self
-        ensures { result ≡ within limit (P.coming source) }
+        ensures { result ≡ within limit (coming (P.left source) (P.current source)) }
     {
         FirstPairs { source, limit }
     }

@@ -9,11 +9,11 @@ ghost use Rattle.zerotrie_files.specs.Parts.{AppendsPart};
 
 use crate::first_pairs::FirstPairs;
 use crate::json_text::{add_comma, add_member};
-use crate::source::PairSource;
 use crate::utf8::is_text;
 use std::alloc::{AllocError, Global};
 use std::io;
 use std::io::Write;
+use zerotrie_core::PairStream;
 use zerotrie_files::Noted;
 
 /// Returns a copy of bytes.
@@ -26,7 +26,7 @@ fn copied(alloc: Global, bytes: &[u8]) -> Result<Vec<u8>, AllocError>
 }
 
 /// Returns the first of the keys to come that is not UTF-8, if there is one.
-fn first_no_text<P: PairSource>(
+fn first_no_text<P: PairStream>(
     alloc: Global,
     pairs: &mut FirstPairs<P>,
 ) -> Result<Option<Vec<u8>>, AllocError>
@@ -45,7 +45,7 @@ fn first_no_text<P: PairSource>(
 }
 
 /// Writes the pairs to come as members, with commas between.
-fn write_members<P: PairSource, W: Write>(
+fn write_members<P: PairStream, W: Write>(
     alloc: Global,
     pairs: &mut FirstPairs<P>,
     output: &mut Noted<W>,
@@ -71,7 +71,7 @@ fn write_members<P: PairSource, W: Write>(
 }
 
 /// Writes the pairs to come as an object, and a line feed.
-fn write_object<P: PairSource, W: Write>(
+fn write_object<P: PairStream, W: Write>(
     alloc: Global,
     pairs: &mut FirstPairs<P>,
     output: &mut Noted<W>,
@@ -92,7 +92,7 @@ fn write_object<P: PairSource, W: Write>(
 ///
 /// `seen` has the same pairs as `pairs`, for a first look at the keys. It allocates nothing for a
 /// pair alone. If it fails, a beginning of the object was written.
-pub(crate) fn write_json<P: PairSource, W: Write>(
+pub(crate) fn write_json<P: PairStream, W: Write>(
     alloc: Global,
     seen: &mut FirstPairs<P>,
     pairs: &mut FirstPairs<P>,

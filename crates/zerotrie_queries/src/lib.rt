@@ -7,6 +7,7 @@
 #![tactic(auto)]
 
 pub mod code;
+mod diff;
 mod file;
 mod first_pairs;
 mod json_listing;
@@ -15,17 +16,19 @@ mod listing;
 mod lookups;
 mod print;
 mod reports;
+mod sorted;
 mod source;
 mod trie;
 mod utf8;
 mod views;
 
 pub use code::{Language, is_name, write_trie_code};
+pub use diff::write_diff;
 pub use file::{OpenError, looks_like_text};
 pub use listing::{ListError, write_list};
 pub use lookups::{Asked, write_answers};
 pub use print::{Form, Style};
 pub use reports::{Branches, Report, ReportForm, write_trie_report};
-pub use source::Choice;
+pub use source::{Choice, Order};
 pub use trie::Trie;
 pub use views::{View, write_trie_view};

@@ -3,14 +3,14 @@ use Rattle.std.proofs.Common.{◌≡◌, ◌⊎◌, ℕ, List, Option, Bool, tru
 use Rattle.std.specs.Io.KnownBytes.{Keeps}
 use Rattle.std.proofs.KnownBytes.{Appends-kept, Keeps-trans}
 use Rattle.zerotrie_core.specs.declared.TrieKind.{TrieKind}
-use Rattle.zerotrie_queries.specs.code.Code.{code}
+use Rattle.zerotrie_queries.specs.code.Code.{whole_code}
 use Rattle.zerotrie_queries.specs.views.Views.{shown}
 use Rattle.zerotrie_queries.specs.reports.Reports.{report_of}
 use Rattle.zerotrie_queries.specs.reports.Forms.{reported}
 use Rattle.zerotrie_queries.specs.Printed.{listed}
 use Rattle.zerotrie_queries.specs.Answers.{AreAnswered}
 use Rattle.zerotrie_queries.specs.declared.lookups.Asked.{Asked}
-use Rattle.zerotrie_queries.specs.Chosen.{chosen}
+use Rattle.zerotrie_queries.specs.Sorted.{picked}
 use Rattle.zerotrie_queries.specs.Listed.{limited}
 use Rattle.zerotrie_queries.proofs.PartLemmas.{part_all}
 use Rattle.zerotrie_queries.proofs.AnswerLemmas.{begun_all}
@@ -38,8 +38,8 @@ kept_texts of kind bytes texts a b c all h k m means = let x = h m means in (x.0
 pub kept_answer : (q : Question) (input : Option (List ℕ)) (kind : TrieKind) (bytes : List ℕ) (a b c : Option (List ℕ)) (all : Bool) → Answers q input kind bytes a b all → Keeps b c
     → Answers q input kind bytes a c all
 kept_answer (LookUp of keys) input kind bytes a b c all h k = (h.0, h.1, kept_texts of kind bytes h.0 a b c all h.2 k)
-kept_answer (Listing form choice limit) input kind bytes a b c all h k = (h.0, λ pairs lists. let x = h.1 pairs lists in (x.0, Appends-kept a b c (listed form (limited limit (chosen kind choice pairs))) x.1 k))
-kept_answer (Code language name) input kind bytes a b c all h k = (h.0, Appends-kept a b c (code language kind name.now bytes) h.1 k)
+kept_answer (Listing form choice order limit) input kind bytes a b c all h k = (h.0, λ pairs lists. let x = h.1 pairs lists in (x.0, Appends-kept a b c (listed form (limited limit (picked order kind choice pairs))) x.1 k))
+kept_answer (Code language name) input kind bytes a b c all h k = (h.0, Appends-kept a b c (whole_code language kind name.now bytes) h.1 k)
 kept_answer Verify input kind bytes a b c all h k = (h.0, Keeps-trans a b c h.1 k)
 kept_answer (Report form) input kind bytes a b c all h k = (h.0, Appends-kept a b c (reported form (report_of kind bytes)) h.1 k)
 kept_answer (View view) input kind bytes a b c all h k = (h.0, Appends-kept a b c (shown view kind bytes) h.1 k)
@@ -53,7 +53,7 @@ other_keys Lines i j ks apart h = absurd (apart refl)
 pub other_input : (q : Question) (i j : Option (List ℕ)) (kind : TrieKind) (bytes : List ℕ) (a b : Option (List ℕ)) (all : Bool) → (of_lines q ≡ true → ⊥) → Answers q i kind bytes a b all
     → Answers q j kind bytes a b all
 other_input (LookUp of keys) i j kind bytes a b all apart h = (h.0, other_keys keys i j h.0 apart h.1, h.2)
-other_input (Listing form choice limit) i j kind bytes a b all apart h = h
+other_input (Listing form choice order limit) i j kind bytes a b all apart h = h
 other_input (Code language name) i j kind bytes a b all apart h = h
 other_input Verify i j kind bytes a b all apart h = h
 other_input (Report form) i j kind bytes a b all apart h = h
@@ -73,8 +73,8 @@ keys_in_part of keys input kind bytes a b all h = (h.0, h.1, begun_all of kind b
 -- an answer is a beginning of itself
 pub answer_in_part : (q : Question) (input : Option (List ℕ)) (kind : TrieKind) (bytes : List ℕ) (a b : Option (List ℕ)) (all : Bool) → Answers q input kind bytes a b all → AnswersInPart q input kind bytes a b
 answer_in_part (LookUp of keys) input kind bytes a b all h = keys_in_part of keys input kind bytes a b all h
-answer_in_part (Listing form choice limit) input kind bytes a b all h = λ pairs lists. part_all a b (listed form (limited limit (chosen kind choice pairs))) (h.1 pairs lists).1
-answer_in_part (Code language name) input kind bytes a b all h = part_all a b (code language kind name.now bytes) h.1
+answer_in_part (Listing form choice order limit) input kind bytes a b all h = λ pairs lists. part_all a b (listed form (limited limit (picked order kind choice pairs))) (h.1 pairs lists).1
+answer_in_part (Code language name) input kind bytes a b all h = part_all a b (whole_code language kind name.now bytes) h.1
 answer_in_part Verify input kind bytes a b all h = h.1
 answer_in_part (Report form) input kind bytes a b all h = part_all a b (reported form (report_of kind bytes)) h.1
 answer_in_part (View view) input kind bytes a b all h = part_all a b (shown view kind bytes) h.1
@@ -82,7 +82,7 @@ answer_in_part (View view) input kind bytes a b all h = part_all a b (shown view
 -- a beginning of an answer whose keys are no lines is one whatever standard input has
 other_part : (q : Question) (i j : Option (List ℕ)) (kind : TrieKind) (bytes : List ℕ) (a b : Option (List ℕ)) → (of_lines q ≡ true → ⊥) → AnswersInPart q i kind bytes a b → AnswersInPart q j kind bytes a b
 other_part (LookUp of keys) i j kind bytes a b apart h = (h.0, other_keys keys i j h.0 apart h.1, h.2)
-other_part (Listing form choice limit) i j kind bytes a b apart h = h
+other_part (Listing form choice order limit) i j kind bytes a b apart h = h
 other_part (Code language name) i j kind bytes a b apart h = h
 other_part Verify i j kind bytes a b apart h = h
 other_part (Report form) i j kind bytes a b apart h = h

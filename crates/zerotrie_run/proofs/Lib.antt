@@ -7,3 +7,8 @@ mod NoteLemmas
 mod RefusedLemmas
 mod FileLemmas
 mod SpareLemmas
+mod DiffLemmas
+mod CombinedLemmas
+mod CombinedTold
+mod CombinedEnds
+mod CombinedLaws

@@ -3,7 +3,7 @@ use Rattle.std.proofs.Common.{◌≡◌, ℕ, List, Option, Some, refl, sym, sub
 use Rattle.std.specs.Prelude.{IfSome}
 use Rattle.std.proofs.lemmas.Option.{same_Some}
 use Rattle.zerotrie_core.specs.Kind.{Kind}
-use Rattle.zerotrie_core.specs.Maps.{map_of}
+use Rattle.zerotrie_core.specs.Maps.{Pairs, map_of}
 use Rattle.zerotrie_core.specs.Texts.{Means}
 use Rattle.zerotrie_core.specs.WellFormed.{IsWellFormed}
 use Rattle.zerotrie_lines.specs.Tables.{lowered}
@@ -20,13 +20,14 @@ use Rattle.zerotrie_making.specs.Plans.{kind_for, IsFormOf}
 use Rattle.zerotrie_making.specs.declared.making.FileForm.{FileForm}
 use Rattle.zerotrie_making.specs.declared.making.FileForm.TheVariants as form
 use Rattle.zerotrie_run.specs.Runs.{World, IsRead, IsWritten}
-use Rattle.zerotrie_run.specs.Laws.{IsNamedAsMade, MadeOpens}
+use Rattle.zerotrie_run.specs.Laws.{IsNamedAsMade, MadeOpens, OpensAsMade}
+use Rattle.zerotrie_run.specs.declared.command.TrieFile.{TrieFile}
 use Rattle.zerotrie_run.specs.declared.command.Place.{Place}
 use Rattle.zerotrie_run.specs.declared.command.Place.TheVariants.{File, Stream}
 use Rattle.zerotrie_run.proofs.FileLemmas.{named, held_once, holds_of, opens_of, opened}
 
 -- what was written to a place is read of it
-read_back : (place : Place) (stdin : Option (List ℕ)) (bytes got : List ℕ) (before after : World) (held files : Story) → before.files ≡ Some held → after.files ≡ Some files
+pub read_back : (place : Place) (stdin : Option (List ℕ)) (bytes got : List ℕ) (before after : World) (held files : Story) → before.files ≡ Some held → after.files ≡ Some files
     → (place ≡ Stream → ⊥) → IsWritten place bytes before after → IsRead place stdin after.files got → got ≡ bytes
 read_back (File path) stdin bytes got before after held files known same apart written read =
     let wrote = WasReplaced path.now bytes in
@@ -47,6 +48,25 @@ made_holds form.Tagged kind bytes file choice is as_made =
 made_holds form.Bare kind bytes file choice is as_made =
     (as_made.0, as_made.2, subst (λ o. Holds o file as_made.0 bytes) (sym as_made.1) (inr (refl, sym is)))
 
+-- a file that holds what was made opens as it was made
+pub opens_made : OneTrie → (of : FileForm) (kind : Kind) (pairs : Pairs) (bytes made : List ℕ) (file : TrieFile) (stdin : Option (List ℕ)) (files : Option Story)
+    → ((got : List ℕ) → IsRead file.place stdin files got → got ≡ made) → IsFormOf of kind bytes made → Means kind bytes (map_of pairs) → IsNamedAsMade of kind file.bare
+    → OpensAsMade file stdin files of kind pairs made
+opens_made one of kind pairs bytes made file stdin files back is means as_made =
+    let has = made_holds of kind bytes made file.bare is as_made in
+    let good : IsWellFormed (kind_of has.0) bytes = (map_of pairs, subst (λ j. Means j bytes (map_of pairs)) (sym has.1) means) in
+    record {
+      taken = λ none. opened one file.check file.bare none.0 none.2 has.0 bytes none.3
+          (opens_of file.check file.bare none.0 has.0 bytes (subst (λ x. Holds file.bare x has.0 bytes) (sym (back none.0 none.1)) has.2) good);
+      opened = λ got k b read opens.
+          let holds = subst (λ x. Holds file.bare x k b) (back got read) (holds_of file.check file.bare got k b opens) in
+          let both = held_once one file.bare made k has.0 b bytes holds has.2 in (
+            both.0 ∙ has.1,
+            subst (λ b. IsFormOf of kind b made) (sym both.1) is,
+            subst (λ b. Means kind b (map_of pairs)) (sym both.1) means,
+          );
+    }
+
 pub made_opens : OneTrie → MadeOpens
 made_opens one build input before after held files known same made file stdin away at =
     let f = made.made.2 in
@@ -56,18 +76,5 @@ made_opens one build input before after held files known same made file stdin aw
     λ got read. read_back build.to stdin made.file got before after held files known same away made.written (subst (λ p. IsRead p stdin after.files got) at read) in (
       made.made.0,
       made.made.1,
-      λ as_made.
-          let has = made_holds build.plan.form kind f.bytes made.file file.bare f.is as_made in
-          let good : IsWellFormed (kind_of has.0) f.bytes = (map_of pairs, subst (λ j. Means j f.bytes (map_of pairs)) (sym has.1) f.build.1.means) in
-          record {
-            taken = λ none. opened one file.check file.bare none.0 none.2 has.0 f.bytes none.3
-                (opens_of file.check file.bare none.0 has.0 f.bytes (subst (λ x. Holds file.bare x has.0 f.bytes) (sym (back none.0 none.1)) has.2) good);
-            opened = λ got k bytes read opens.
-                let holds = subst (λ x. Holds file.bare x k bytes) (back got read) (holds_of file.check file.bare got k bytes opens) in
-                let both = held_once one file.bare made.file k has.0 bytes f.bytes holds has.2 in (
-                  both.0 ∙ has.1,
-                  subst (λ b. IsFormOf build.plan.form kind b made.file) (sym both.1) f.is,
-                  subst (λ b. Means kind b (map_of pairs)) (sym both.1) f.build.1.means,
-                );
-          },
+      λ as_made. opens_made one build.plan.form kind pairs f.bytes made.file file stdin after.files back f.is f.build.1.means as_made,
     )

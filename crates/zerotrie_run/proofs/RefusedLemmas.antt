@@ -16,7 +16,7 @@ use Rattle.zerotrie_run.specs.declared.command.Build.{Build}
 use Rattle.zerotrie_run.proofs.FileLemmas.{opened}
 
 -- what is read of a place is one list of bytes
-read_once : (place : Place) (input : List ℕ) (files : Story) (a b : List ℕ) → IsRead place (Some input) (Some files) a → IsRead place (Some input) (Some files) b → a ≡ b
+pub read_once : (place : Place) (input : List ℕ) (files : Story) (a b : List ℕ) → IsRead place (Some input) (Some files) a → IsRead place (Some input) (Some files) b → a ≡ b
 read_once (File path) input files a b h k = same_Some a b (sym h ∙ k)
 read_once Stream input files a b h k = h ∙ sym k
 

@@ -8,7 +8,7 @@ use Rattle.zerotrie_run.specs.declared.building.BuildError.{BuildError}
 use Rattle.zerotrie_run.specs.declared.building.BuildError.TheVariants as unmade
 
 -- it ends so, and nothing was touched
-pub spared_ends : (b : Build) (input : Option (List ℕ)) (files : Option Story) (printed : Option (List ℕ)) (left : Option Story) (e : BuildError) → IsNotBegun b files e → left ≡ files
+pub spared_ends : (b : Build) (input : Option (List ℕ)) (files : Option Story) (printed : Option (List ℕ)) (left : Option Story) (e : BuildError) → IsNotBegun b.to b.no_clobber files e → left ≡ files
     → EndsBuild b input (world files printed) (world left printed) (build_refusal e)
 spared_ends b input files printed left (unmade.Unread e) h same = absurd h
 spared_ends b input files printed left (unmade.NotMade e) h same = absurd h
@@ -17,7 +17,7 @@ spared_ends b input files printed left unmade.Taken h same = (h.0, h.1, (refl, s
 spared_ends b input files printed left (unmade.Unfound e) h same = inl (refl, same)
 
 -- why is so of the files
-pub spared_cause : (b : Build) (input : Option (List ℕ)) (files : Option Story) (e : BuildError) → IsNotBegun b files e → HasCause b input files e
+pub spared_cause : (b : Build) (input : Option (List ℕ)) (files : Option Story) (e : BuildError) → IsNotBegun b.to b.no_clobber files e → HasCause b input files e
 spared_cause b input files (unmade.Unread e) h = absurd h
 spared_cause b input files (unmade.NotMade e) h = absurd h
 spared_cause b input files (unmade.Unwritten e) h = absurd h

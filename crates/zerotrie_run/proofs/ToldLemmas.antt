@@ -25,7 +25,7 @@ use Rattle.zerotrie_run.specs.declared.building.BuildError.{BuildError}
 use Rattle.zerotrie_run.specs.declared.building.BuildError.TheVariants as unmade
 
 -- a text that is told after some words is told last
-told_last : (a b c : Option (List ℕ)) (text : List ℕ) → TellsMore a b → Appends b c text → ToldLast a c text
+pub told_last : (a b c : Option (List ℕ)) (text : List ℕ) → TellsMore a b → Appends b c text → ToldLast a c text
 told_last a b c text more h = (more.0, Appends-trans a b c more.0 text more.1 h)
 
 pub line_last : (a b c : Option (List ℕ)) → TellsMore a b → LineTold b c → LineTold a c
@@ -33,11 +33,11 @@ line_last a b c more line =
     let told = line.2 in
     (line.0, line.1, (more.0 ++ told.0, subst (Appends a c) (sym (append_assoc more.0 told.0 line.0)) (Appends-trans a b c more.0 (told.0 ++ line.0) more.1 told.1)))
 
-no_memory : (a b c : Option (List ℕ)) → TellsMore a b → Appends b c (codes "zerotrie: out of memory\n") → LineTold a c
+pub no_memory : (a b c : Option (List ℕ)) → TellsMore a b → Appends b c (codes "zerotrie: out of memory\n") → LineTold a c
 no_memory a b c more h = (codes "zerotrie: out of memory\n", (codes "zerotrie: out of memory", refl), told_last a b c (codes "zerotrie: out of memory\n") more h)
 
 -- a line is told of a run in which something failed
-failure_told : (command : Command) (input : Option (List ℕ)) (files : Option Story) (a b c : Option (List ℕ)) (text : List ℕ) (read write closed : Bool) → IsLine text → TellsMore a b → Appends b c text
+pub failure_told : (command : Command) (input : Option (List ℕ)) (files : Option Story) (a b c : Option (List ℕ)) (text : List ℕ) (read write closed : Bool) → IsLine text → TellsMore a b → Appends b c text
     → IsTold command input files a c (failure read write closed)
 failure_told command input files a b c text true write closed line more h = (text, line, told_last a b c text more h)
 failure_told command input files a b c text false false closed line more h = (text, line, told_last a b c text more h)

@@ -1,6 +1,10 @@
 pub mod Statuses
 pub mod Runs
+pub mod Diffs
+pub mod Combined
+pub mod Commands
 pub mod Laws
+pub mod CombinedLaws
 pub mod Streams
 pub mod Messages
 pub mod Told

@@ -16,6 +16,8 @@ use Rattle.zerotrie_run.specs.declared.asking.AskError.{AskError}
 use Rattle.zerotrie_run.specs.declared.asking.AskError.TheVariants as ask
 use Rattle.zerotrie_run.specs.declared.building.BuildError.{BuildError}
 use Rattle.zerotrie_run.specs.declared.building.BuildError.TheVariants as build
+use Rattle.zerotrie_run.specs.declared.combining.CombineError.{CombineError}
+use Rattle.zerotrie_run.specs.declared.combining.CombineError.TheVariants as combine
 
 -- words were added to a text
 abbrev pub Extends : List ℕ → List ℕ → Type 0
@@ -96,6 +98,12 @@ TellsBuild (build.NotMade e) text = IsLine text × TellsMade e text
 TellsBuild (build.Unwritten e) text = IsLine text
 TellsBuild build.Taken text = IsLine text
 TellsBuild (build.Unfound e) text = IsLine text
+
+-- a message tells why no file was made of two others, or written
+abbrev pub TellsCombine : CombineError → List ℕ → Type 0
+TellsCombine (combine.Unopened side e) text = IsLine text
+TellsCombine (combine.NoTrie side why is_text) text = IsLine text × TellsNoTrie why is_text text
+TellsCombine (combine.NotBuilt e) text = TellsBuild e text
 
 -- what is told of a step of a build: its place, what was done there, and to how many bytes
 abbrev pub step_line : List ℕ → List ℕ → ℕ → List ℕ

@@ -15,10 +15,10 @@ use Rattle.zerotrie_queries.specs.declared.file.OpenError.{OpenError}
 use Rattle.zerotrie_queries.specs.declared.file.OpenError.TheVariants as unopened
 use Rattle.zerotrie_files.specs.Parts.{AppendsPart}
 use Rattle.zerotrie_queries.specs.Answers.{AreAnswered, AreAnsweredInPart}
-use Rattle.zerotrie_queries.specs.Chosen.{chosen}
+use Rattle.zerotrie_queries.specs.Sorted.{picked}
 use Rattle.zerotrie_queries.specs.Listed.{AreListed, AreListedInPart, AreNoText}
 use Rattle.zerotrie_queries.specs.declared.lookups.Asked.{Asked}
-use Rattle.zerotrie_queries.specs.code.Code.{code}
+use Rattle.zerotrie_queries.specs.code.Code.{whole_code}
 use Rattle.zerotrie_queries.specs.views.Views.{shown}
 use Rattle.zerotrie_queries.specs.reports.Reports.{report_of}
 use Rattle.zerotrie_queries.specs.reports.Forms.{reported}
@@ -44,8 +44,6 @@ use Rattle.zerotrie_run.specs.declared.asking.AskError.{AskError}
 use Rattle.zerotrie_run.specs.declared.asking.AskError.TheVariants as ask
 use Rattle.zerotrie_run.specs.declared.building.BuildError.{BuildError}
 use Rattle.zerotrie_run.specs.declared.building.BuildError.TheVariants as build
-use Rattle.zerotrie_run.specs.declared.command.Command.{Command}
-use Rattle.zerotrie_run.specs.declared.command.Command.TheVariants as commands
 
 -- What files hold and held at each moment, and what was printed: what a stream has, and then what its buffer still holds. Each as
 -- far as it is known.
@@ -91,6 +89,14 @@ abbrev pub AreKeys : Keys → Option (List ℕ) → List (List ℕ) → Type 0
 AreKeys (Words words) input keys = keys ≡ map (λ w. w.now) words.now
 AreKeys Lines input keys = IfSome input (λ known. keys ≡ lines_of known)
 
+-- two places are both standard input
+abbrev pub AreOneStream : Place → Place → Type 0
+AreOneStream first second = (first ≡ Stream) × (second ≡ Stream)
+
+-- neither is
+abbrev pub AreFiles : Place → Place → Type 0
+AreFiles first second = (first ≡ Stream → ⊥) × (second ≡ Stream → ⊥)
+
 -- whether keys are the lines of standard input
 abbrev pub are_lines : Keys → Bool
 are_lines (Words words) = false
@@ -99,7 +105,7 @@ are_lines Lines = true
 -- whether the keys of a question are
 abbrev pub of_lines : Question → Bool
 of_lines (LookUp asked keys) = are_lines keys
-of_lines (Listing form choice limit) = false
+of_lines (Listing form choice order limit) = false
 of_lines (Code language name) = false
 of_lines (Report form) = false
 of_lines Verify = false
@@ -143,8 +149,8 @@ KeysAnswered of keys input kind bytes old new all = (ks : List (List ℕ)) × Ar
 -- what was printed, and whether all was found, belong to the question and to bytes of this kind
 abbrev pub Answers : Question → (input : Option (List ℕ)) → TrieKind → List ℕ → (old new : Option (List ℕ)) → Bool → Type 0
 Answers (LookUp asked keys) input kind bytes old new all = KeysAnswered asked keys input kind bytes old new all
-Answers (Listing form choice limit) input kind bytes old new all = (all ≡ true) × AreListed form (chosen kind choice) limit kind bytes old new
-Answers (Code language name) input kind bytes old new all = (all ≡ true) × Appends old new (code language kind name.now bytes)
+Answers (Listing form choice order limit) input kind bytes old new all = (all ≡ true) × AreListed form (picked order kind choice) limit kind bytes old new
+Answers (Code language name) input kind bytes old new all = (all ≡ true) × Appends old new (whole_code language kind name.now bytes)
 Answers Verify input kind bytes old new all = (all ≡ true) × Keeps old new
 Answers (Report form) input kind bytes old new all = (all ≡ true) × Appends old new (reported form (report_of kind bytes))
 Answers (View view) input kind bytes old new all = (all ≡ true) × Appends old new (shown view kind bytes)
@@ -156,8 +162,8 @@ KeysAnsweredInPart of keys input kind bytes old new = (ks : List (List ℕ)) × 
 -- a beginning of what belongs to the question and to bytes of this kind was printed
 abbrev pub AnswersInPart : Question → (input : Option (List ℕ)) → TrieKind → List ℕ → (old new : Option (List ℕ)) → Type 0
 AnswersInPart (LookUp asked keys) input kind bytes old new = KeysAnsweredInPart asked keys input kind bytes old new
-AnswersInPart (Listing form choice limit) input kind bytes old new = AreListedInPart form (chosen kind choice) limit kind bytes old new
-AnswersInPart (Code language name) input kind bytes old new = AppendsPart old new (code language kind name.now bytes)
+AnswersInPart (Listing form choice order limit) input kind bytes old new = AreListedInPart form (picked order kind choice) limit kind bytes old new
+AnswersInPart (Code language name) input kind bytes old new = AppendsPart old new (whole_code language kind name.now bytes)
 AnswersInPart Verify input kind bytes old new = Keeps old new
 AnswersInPart (Report form) input kind bytes old new = AppendsPart old new (reported form (report_of kind bytes))
 AnswersInPart (View view) input kind bytes old new = AppendsPart old new (shown view kind bytes)
@@ -165,7 +171,7 @@ AnswersInPart (View view) input kind bytes old new = AppendsPart old new (shown 
 -- the pairs that are asked for can't be printed so: this is the first of their keys that is not UTF-8
 abbrev pub IsUnprintable : Question → TrieKind → List ℕ → List ℕ → Type 0
 IsUnprintable (LookUp asked keys) kind bytes key = ⊥
-IsUnprintable (Listing form choice limit) kind bytes key = AreNoText form (chosen kind choice) limit kind bytes key
+IsUnprintable (Listing form choice order limit) kind bytes key = AreNoText form (picked order kind choice) limit kind bytes key
 IsUnprintable (Code language name) kind bytes key = ⊥
 IsUnprintable Verify kind bytes key = ⊥
 IsUnprintable (Report form) kind bytes key = ⊥
@@ -273,13 +279,13 @@ abbrev pub IsFree : Place → Option Story → Type 0
 IsFree (File path) files = IfSome files (λ known. known.now path.now ≡ None)
 IsFree Stream files = Unit {0}
 
--- the file to make is there already and is to be left as it is, and nothing was touched
-abbrev pub IsSpared : Build → World → World → Type 0
-IsSpared build before after = (build.no_clobber ≡ true) × IsThere build.to before.files × Untouched before after
+-- the file to make at a place is there already and is to be left as it is, and nothing was touched
+abbrev pub IsSparedAt : Place → Bool → World → World → Type 0
+IsSparedAt to no_clobber before after = (no_clobber ≡ true) × IsThere to before.files × Untouched before after
 
--- there was no file before if it was to be left as it is
-abbrev pub IsFresh : Build → Option Story → Type 0
-IsFresh build files = build.no_clobber ≡ true → IsFree build.to files
+-- there was no file at a place before if it was to be left as it is
+abbrev pub IsFreshAt : Place → Bool → Option Story → Type 0
+IsFreshAt to no_clobber files = no_clobber ≡ true → IsFree to files
 
 -- The file of a trie was made: what was read, and the file that was written.
 pub record IsMade (build : Build) (input : Option (List ℕ)) (before after : World) : Type 0 where
@@ -314,10 +320,10 @@ FailsBuild build input before after = Untouched before after ⊎ IsUnwritten bui
 
 -- How a build ends. The file was made; its keys are refused, or its input is no pairs; or something failed.
 abbrev pub RunsBuild : Build → Option (List ℕ) → World → World → Status → Type 0
-RunsBuild build input before after Done = IsMade build input before after × IsFresh build before.files
+RunsBuild build input before after Done = IsMade build input before after × IsFreshAt build.to build.no_clobber before.files
 RunsBuild build input before after Absent = ⊥
 RunsBuild build input before after Refused = IsRefused build input before after Refused
-RunsBuild build input before after Taken = IsSpared build before after
+RunsBuild build input before after Taken = IsSparedAt build.to build.no_clobber before after
 RunsBuild build input before after BadUsage = ⊥
 RunsBuild build input before after BadInput = IsRefused build input before after BadInput
 RunsBuild build input before after Unread = FailsBuild build input before after
@@ -339,12 +345,12 @@ build_refusal build.Taken = Some Taken
 build_refusal (build.Unfound e) = None
 
 -- why a build is not begun: its file is there already and is to be left as it is, or that can't be found out
-abbrev pub IsNotBegun : Build → Option Story → BuildError → Type 0
-IsNotBegun b files (build.Unread e) = ⊥
-IsNotBegun b files (build.NotMade e) = ⊥
-IsNotBegun b files (build.Unwritten e) = ⊥
-IsNotBegun b files build.Taken = (b.no_clobber ≡ true) × IsThere b.to files
-IsNotBegun b files (build.Unfound e) = Unit {0}
+abbrev pub IsNotBegun : Place → Bool → Option Story → BuildError → Type 0
+IsNotBegun to no_clobber files (build.Unread e) = ⊥
+IsNotBegun to no_clobber files (build.NotMade e) = ⊥
+IsNotBegun to no_clobber files (build.Unwritten e) = ⊥
+IsNotBegun to no_clobber files build.Taken = (no_clobber ≡ true) × IsThere to files
+IsNotBegun to no_clobber files (build.Unfound e) = Unit {0}
 
 -- whether a build failed: a file was neither made nor refused
 abbrev pub build_fails : {A : Type 0} → Result A BuildError → Bool
@@ -360,16 +366,6 @@ HasNumberToo (Some named) held = (kind : TrieKind) × (rest : List ℕ) × (held
 abbrev pub IsDoubtful : TrieFile → Option (List ℕ) → Option Story → Type 0
 IsDoubtful file input files = (held : List ℕ) × IsRead file.place input files held × HasNumberToo file.bare held
 
--- a command reads such a file, which is told
-abbrev pub TellsNumber : Command → Option (List ℕ) → Option Story → Type 0
-TellsNumber (commands.Build build) input files = ⊥
-TellsNumber (commands.Ask file question) input files = IsDoubtful file input files
-
--- the file and the keys of a command are both standard input
-abbrev pub ReadsTwice : Command → Type 0
-ReadsTwice (commands.Build build) = ⊥
-ReadsTwice (commands.Ask file question) = (file.place ≡ Stream) × (of_lines question ≡ true)
-
 -- a question that ends so doesn't read its keys from standard input, which it does not if its file has no trie
 abbrev pub LeavesKeys : Question → Option Status → Type 0
 LeavesKeys question ended = (ended ≡ Some BadInput) ⊎ (of_lines question ≡ true → ⊥)
@@ -377,18 +373,3 @@ LeavesKeys question ended = (ended ≡ Some BadInput) ⊎ (of_lines question ≡
 -- a question to a file that ends so doesn't read standard input
 abbrev pub LeavesInputOf : TrieFile → Question → Option Status → Type 0
 LeavesInputOf file question ended = (ended ≡ Some BadUsage) ⊎ ((file.place ≡ Stream → ⊥) × LeavesKeys question ended)
-
--- a command that ends so doesn't
-abbrev pub LeavesInput : Command → Status → Type 0
-LeavesInput (commands.Build build) status = build.from ≡ Stream → ⊥
-LeavesInput (commands.Ask file question) status = LeavesInputOf file question (Some status)
-
--- whether the steps of a command are told
-abbrev pub tells_steps : Command → Bool
-tells_steps (commands.Build build) = build.progress
-tells_steps (commands.Ask file question) = false
-
--- how a command ends, what it printed, and what it left in files
-abbrev pub Runs : Command → Option (List ℕ) → World → World → Status → Type 0
-Runs (commands.Build build) input before after status = RunsBuild build input before after status
-Runs (commands.Ask file question) input before after status = (after.files ≡ before.files) × RunsAsk file question input before.files before.printed after.printed status

@@ -10,6 +10,10 @@ use Rattle.zerotrie_making.specs.declared.refused.MakeError.{MakeError}
 use Rattle.zerotrie_run.specs.Statuses.{made_refusal}
 use Rattle.zerotrie_run.specs.Messages.{IsLine, Says, TellsMade, TellsNoTrie, step_line, told_key}
 use Rattle.zerotrie_run.specs.Runs.{IsRead, IsThere, IsUnopened, IsUnprinted, HasNumberToo}
+use Rattle.zerotrie_run.specs.Diffs.{IsFileOf, NotesNumbers}
+use Rattle.zerotrie_run.specs.declared.command.Diff.{Diff}
+use Rattle.zerotrie_run.specs.declared.comparing.DiffError.{DiffError}
+use Rattle.zerotrie_run.specs.Combined.{ExplainsMaps, OfFiles, file_of}
 use Rattle.zerotrie_run.specs.declared.status.Status.{Status}
 use Rattle.zerotrie_run.specs.declared.status.Status.TheVariants.{Done, Absent, Refused, Taken, BadUsage, BadInput, Unread, Unwritten, OutOfMemory, Closed}
 use Rattle.zerotrie_run.specs.declared.command.Place.{Place}
@@ -19,6 +23,8 @@ use Rattle.zerotrie_run.specs.declared.command.Command.{Command}
 use Rattle.zerotrie_run.specs.declared.command.Command.TheVariants as commands
 use Rattle.zerotrie_run.specs.declared.command.TrieFile.{TrieFile}
 use Rattle.zerotrie_run.specs.declared.command.Question.{Question}
+use Rattle.zerotrie_run.specs.declared.command.Question.TheVariants.{Verify}
+use Rattle.zerotrie_run.specs.declared.command.Side.{Side}
 use Rattle.zerotrie_run.specs.declared.asking.AskError.{AskError}
 use Rattle.zerotrie_run.specs.declared.asking.AskError.TheVariants as ask
 use Rattle.zerotrie_run.specs.declared.building.BuildError.{BuildError}
@@ -43,6 +49,10 @@ HasReason file question input files (ask.Unread e) = Unit {0}
 HasReason file question input files (ask.NoTrie why is_text) = (held : List ℕ) × IsRead file.place input files held × IsUnopened file held why × (is_text ≡ looks_like_text held)
 HasReason file question input files (ask.Unanswered e) = Unit {0}
 HasReason file question input files (ask.NotText key) = IsUnprinted file question input files key.items
+
+-- why two files were not compared is so of what was read of one of them
+abbrev pub HasDiffReason : Diff → Option (List ℕ) → Option Story → DiffError → Type 0
+HasDiffReason diff input files e = IsFileOf diff e.file × HasReason e.file Verify input files e.error
 
 -- why no file was made is so of what was read
 abbrev pub HasCause : Build → Option (List ℕ) → Option Story → BuildError → Type 0
@@ -79,19 +89,28 @@ abbrev pub TellsSteps : Build → Option (List ℕ) → Option Story → (old ne
 TellsSteps build input files old new = (all : List ℕ) × IsRead build.from input files all × (file : List ℕ) × IsFile build.plan all file
     × Appends old new (steps_told build all file)
 
+-- a line tells why a file that was read has no trie, by its first fault
+abbrev pub TellsUnopened : TrieFile → Option (List ℕ) → Option Story → (old new : Option (List ℕ)) → Type 0
+TellsUnopened file input files old new = (held : List ℕ) × IsRead file.place input files held
+    × (why : OpenError) × IsUnopened file held why × (text : List ℕ) × IsLine text × TellsNoTrie why (looks_like_text held) text × ToldLast old new text
+
 -- a line tells why what was read is refused: which pairs of an input, or which fault in a trie
 abbrev pub TellsRefusal : Command → Option (List ℕ) → Option Story → (old new : Option (List ℕ)) → Status → Type 0
 TellsRefusal (commands.Build build) input files old new status = (all : List ℕ) × IsRead build.from input files all
     × (e : MakeError) × made.Explains build.plan all e × (made_refusal e ≡ Some status)
     × (text : List ℕ) × IsLine text × TellsMade e text × ToldLast old new text
-TellsRefusal (commands.Ask file question) input files old new status = (held : List ℕ) × IsRead file.place input files held
-    × (why : OpenError) × IsUnopened file held why × (text : List ℕ) × IsLine text × TellsNoTrie why (looks_like_text held) text × ToldLast old new text
+TellsRefusal (commands.Ask file question) input files old new status = TellsUnopened file input files old new
+TellsRefusal (commands.Diff diff) input files old new status = (file : TrieFile) × IsFileOf diff file × TellsUnopened file input files old new
+TellsRefusal (commands.Combine c) input files old new status = (side : Side) × TellsUnopened (file_of c side) input files old new
 
 -- a line tells what is refused: a build, or pairs with a key that can't be printed
 abbrev pub TellsRefused : Command → Option (List ℕ) → Option Story → (old new : Option (List ℕ)) → Type 0
 TellsRefused (commands.Build build) input files old new = TellsRefusal (commands.Build build) input files old new Refused
 TellsRefused (commands.Ask file question) input files old new = (key : List ℕ) × IsUnprinted file question input files key
     × (text : List ℕ) × IsLine text × Says text (told_key key) × ToldLast old new text
+TellsRefused (commands.Diff diff) input files old new = ⊥
+TellsRefused (commands.Combine c) input files old new = (e : MakeError) × OfFiles c input files (ExplainsMaps c e) × (made_refusal e ≡ Some Refused)
+    × (text : List ℕ) × IsLine text × TellsMade e text × ToldLast old new text
 
 -- what is told last of a run that ends so; nothing if whoever reads the output has closed it
 abbrev pub IsTold : Command → Option (List ℕ) → Option Story → (old new : Option (List ℕ)) → Status → Type 0
@@ -110,6 +129,8 @@ IsTold command input files old new Closed = Unit {0}
 abbrev pub Notes : Command → Option (List ℕ) → Option Story → (old new : Option (List ℕ)) → Type 0
 Notes (commands.Build build) input files old new = TellsSteps build input files old new
 Notes (commands.Ask file question) input files old new = NotesNumber file input files old new
+Notes (commands.Diff diff) input files old new = NotesNumbers diff input files old new
+Notes (commands.Combine c) input files old new = new ≡ old
 
 -- the text of the last message: that it is out of memory if there is no memory for another
 abbrev pub last_text : {E A : Type 0} → Result (Vec ℕ A) E → List ℕ

@@ -4,7 +4,8 @@ ghost use Rattle.std.specs.Prelude.{◌≡◌, ◌↔◌, ℕ, List, true, false
 ghost use Rattle.std.specs.Io.Buffered.{writer_contents};
 ghost use Rattle.zerotrie_core.specs.declared.TrieKind.{TrieKind};
 ghost use Rattle.zerotrie_files.specs.Notes.{NothingFailed, SameNotes};
-ghost use Rattle.zerotrie_run.specs.Runs.{Opens, OpensBy, ExplainsInFull, IsUnopened, KeysAnswered, KeysAnsweredInPart, Answers, IsNoAnswer, IsAsked, EndsAsk, IsUnanswered, IsDoubtful, ReadsTwice, LeavesKeys, LeavesInputOf, HandsOn, ask_fails, ask_refusal, asked_refusal, are_lines, of_lines};
+ghost use Rattle.zerotrie_run.specs.Commands.{ReadsTwice};
+ghost use Rattle.zerotrie_run.specs.Runs.{Opens, OpensBy, ExplainsInFull, IsUnopened, KeysAnswered, KeysAnsweredInPart, Answers, IsNoAnswer, IsAsked, EndsAsk, IsUnanswered, IsDoubtful, LeavesKeys, LeavesInputOf, HandsOn, ask_fails, ask_refusal, asked_refusal, are_lines, of_lines};
 ghost use Rattle.zerotrie_run.specs.Told.{HasReason, NotesNumber, TellsMore};
 ghost use Rattle.zerotrie_run.specs.declared.command.Place.TheVariants.{Stream};
 ghost use Rattle.zerotrie_run.specs.declared.command.Check.TheVariants.{Full};
@@ -106,7 +107,11 @@ pub fn reads_twice(place: Place<'_>, question: Question<'_>) -> bool
 }
 
 /// Opens the trie in the bytes of a file, and validates its bytes, also if they are sealed.
-fn open_in_full(alloc: Global, bare: Option<TrieKind>, held: &[u8]) -> Result<Trie<'_>, OpenError>
+pub(crate) fn open_in_full(
+    alloc: Global,
+    bare: Option<TrieKind>,
+    held: &[u8],
+) -> Result<Trie<'_>, OpenError>
     ensures ok { IfOk result (λ trie. OpensBy Full bare held.now trie.kind trie.bytes.now) }
     ensures err { IfErr result (ExplainsInFull bare held.now) }
 {
@@ -179,8 +184,8 @@ fn answer<R: Read, W: Write + Drop>(
         Question::LookUp(asked, keys) => {
             Ok(answer_keys(alloc, trie, asked, keys, input, output)?)
         }
-        Question::List(form, choice, limit) => {
-            match write_list(alloc, trie, form, choice, limit, output) {
+        Question::List(form, choice, order, limit) => {
+            match write_list(alloc, trie, form, choice, order, limit, output) {
                 Ok(()) => Ok(true),
                 Err(ListError::NotText(key)) => Err(AskError::NotText(key)),
                 Err(ListError::Failed(error)) => Err(AskError::from(error)),

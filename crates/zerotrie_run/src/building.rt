@@ -2,7 +2,7 @@
 
 ghost use Rattle.std.specs.Prelude.{◌≡◌, false, IfErr, OnOk};
 ghost use Rattle.zerotrie_files.specs.Notes.{NothingFailed};
-ghost use Rattle.zerotrie_run.specs.Runs.{world, IsFresh, IsMade, IsNotBegun, EndsBuild, HandsOn, build_fails, build_refusal};
+ghost use Rattle.zerotrie_run.specs.Runs.{world, IsFreshAt, IsMade, IsNotBegun, EndsBuild, HandsOn, build_fails, build_refusal};
 ghost use Rattle.std.specs.Io.Buffered.{writer_contents};
 ghost use Rattle.zerotrie_making.specs.declared.refused.MakeError.TheVariants.{OutOfMemory};
 ghost use Rattle.zerotrie_run.specs.Told.{HasCause, TellsMore, TellsSteps};
@@ -121,16 +121,20 @@ fn make_file<D: Disk, R: Read, W: Write + Drop, M: Write>(
 }
 
 /// Refuses a build whose file is there already, if it is to be left as it is.
-fn spare<D: Disk>(build: Build<'_>, files: &mut Store<D>) -> Result<(), BuildError>
-    ensures fresh { OnOk result (IsFresh build.entry (D.story files.old.disk)) }
+pub fn spare<D: Disk>(
+    to: Place<'_>,
+    no_clobber: bool,
+    files: &mut Store<D>,
+) -> Result<(), BuildError>
+    ensures fresh { OnOk result (IsFreshAt to.entry no_clobber (D.story files.old.disk)) }
     ensures unchanged { OnOk result (files.new ≡ files.old) }
-    ensures err { IfErr result (IsNotBegun build.entry (D.story files.old.disk)) }
+    ensures err { IfErr result (IsNotBegun to.entry no_clobber (D.story files.old.disk)) }
     ensures same { files.new.disk ≡ files.old.disk }
     ensures unwritten { files.new.unwritten ≡ files.old.unwritten }
     ensures noted { build_fails result ≡ false → files.new.unread ≡ files.old.unread }
 {
-    match build.to {
-        Place::File(path) if build.no_clobber => match files.has(path) {
+    match to {
+        Place::File(path) if no_clobber => match files.has(path) {
             Ok(true) => Err(BuildError::Taken),
             Ok(false) => Ok(()),
             Err(error) => Err(BuildError::Unfound(error)),
@@ -152,7 +156,7 @@ pub fn build<D: Disk, R: Read, W: Write + Drop, M: Write>(
     ensures ok { OnOk result (IsMade build.entry (R.remaining input.old.inner)
         (world (D.story files.old.disk) (writer_contents W.contents output.old.inner))
         (world (D.story files.new.disk) (writer_contents W.contents output.new.inner))) }
-    ensures fresh { OnOk result (IsFresh build.entry (D.story files.old.disk)) }
+    ensures fresh { OnOk result (IsFreshAt build.entry.to build.entry.no_clobber (D.story files.old.disk)) }
     ensures err { IfErr result (λ e. EndsBuild build.entry (R.remaining input.old.inner)
         (world (D.story files.old.disk) (writer_contents W.contents output.old.inner))
         (world (D.story files.new.disk) (writer_contents W.contents output.new.inner)) (build_refusal e)) }
@@ -168,7 +172,7 @@ pub fn build<D: Disk, R: Read, W: Write + Drop, M: Write>(
         → NothingFailed input.old input.new output.old output.new files.old files.new }
     ensures unread { (build.entry.from ≡ Stream → ⊥) → input.new ≡ input.old }
 {
-    match spare(build, files) {
+    match spare(build.to, build.no_clobber, files) {
         Ok(()) => make_file(alloc, build, files, input, output, messages),
         Err(error) => Err(error),
     }

@@ -1,10 +1,12 @@
 //! What the program can be asked to do.
 
-ghost use Rattle.zerotrie_run.specs.Runs.{IsNamed, IsNameOf};
+ghost use Rattle.std.specs.Prelude.{◌↔◌, IsTrue};
+ghost use Rattle.zerotrie_run.specs.Runs.{AreOneStream, IsNamed, IsNameOf};
 
 use zerotrie_core::TrieKind;
-use zerotrie_making::Plan;
-use zerotrie_queries::{Asked, Choice, Form, Language, ReportForm, View};
+use zerotrie_making::{FileForm, Plan};
+use zerotrie_queries::{Asked, Choice, Form, Language, Order, ReportForm, View};
+use zerotrie_sets::Operation;
 
 /// Where bytes come from, or go to.
 #[derive(Clone, Copy, PartialEq, Eq, Debug)]
@@ -38,6 +40,16 @@ impl<'a> Place<'a> {
     }
 }
 
+/// Returns whether two places are both standard input.
+pub fn are_one_stream(first: Place<'_>, second: Place<'_>) -> bool
+    ensures { IsTrue result ↔ AreOneStream first.entry second.entry }
+{
+    match (first, second) {
+        (Place::Stream, Place::Stream) => true,
+        _ => false,
+    }
+}
+
 /// Keys or texts that are asked for.
 #[derive(Clone, Copy, Debug)]
 pub enum Keys<'a> {
@@ -52,8 +64,8 @@ pub enum Keys<'a> {
 pub enum Question<'a> {
     /// These keys or texts.
     LookUp(Asked, Keys<'a>),
-    /// The first pairs whose keys are chosen: at most this many, or all.
-    List(Form, Choice<'a>, Option<usize>),
+    /// The first pairs whose keys are chosen, in an order: at most this many, or all.
+    List(Form, Choice<'a>, Order, Option<usize>),
     /// The trie as source code, by a name.
     Code(Language, &'a str),
     /// Nothing: whether the file has a trie.
@@ -97,6 +109,38 @@ pub struct Build<'a> {
     pub progress: bool,
 }
 
+/// Two files of tries that are compared. All bytes of each are tested.
+#[derive(Clone, Copy, Debug)]
+pub struct Diff<'a> {
+    pub old: Place<'a>,
+    pub new: Place<'a>,
+    /// The kind of bare bytes, of both. If `None`, each file says which kind it has.
+    pub bare: Option<TrieKind>,
+}
+
+/// One of two files.
+#[derive(Clone, Copy, PartialEq, Eq, Debug)]
+pub enum Side {
+    First,
+    Second,
+}
+
+/// How a trie file is made of the tries of two files, and where. Each of these says its kind.
+#[derive(Clone, Copy, Debug)]
+pub struct Combine<'a> {
+    /// What is made of the pairs of both.
+    pub operation: Operation,
+    pub first: Place<'a>,
+    pub second: Place<'a>,
+    pub to: Place<'a>,
+    /// The kind of the new trie. If `None`, it is the one that a build of its pairs takes.
+    pub kind: Option<TrieKind>,
+    /// What the new file has beside the bytes of the trie.
+    pub form: FileForm,
+    /// Whether a file that is there already is left as it is, and the build refused.
+    pub no_clobber: bool,
+}
+
 /// What the program is asked to do.
 #[derive(Clone, Copy, Debug)]
 pub enum Command<'a> {
@@ -104,4 +148,8 @@ pub enum Command<'a> {
     Build(Build<'a>),
     /// Answer a question to the trie of a file.
     Ask(TrieFile<'a>, Question<'a>),
+    /// Print what changed from the trie of one file to that of another.
+    Diff(Diff<'a>),
+    /// Make a trie file of the tries of two others.
+    Combine(Combine<'a>),
 }

@@ -1,6 +1,7 @@
 //! Laws of the definitions. A law is a function that does nothing: a call of it brings its clause
 //! into the caller's proof.
 
+ghost use Rattle.zerotrie_run.specs.CombinedLaws.{CombinedOpens, CombineRefusedExactly};
 ghost use Rattle.zerotrie_run.specs.Laws.{MadeOpens, RefusedExactly, UnmadeIsRefused};
 
 use zerotrie_sealed::laws::one_trie;
@@ -25,3 +26,19 @@ pub fn refused_exactly()
 pub fn unmade_is_refused()
     ensures { UnmadeIsRefused }
 {}
+
+/// A file that was made of the tries of two others opens as the trie of the combination of their
+/// maps, if its kind is named as it was when it was made. So each question to it is answered by that.
+pub fn combined_opens()
+    ensures { CombinedOpens }
+{
+    one_trie();
+}
+
+/// A combination of the tries of two files is refused as bad input exactly if one of them has no
+/// trie, unless the new file is there already, the usage is bad, or something failed.
+pub fn combine_refused_exactly()
+    ensures { CombineRefusedExactly }
+{
+    one_trie();
+}

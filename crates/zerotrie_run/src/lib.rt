@@ -3,7 +3,10 @@
 
 mod asking;
 mod building;
+mod combining;
+mod combining_messages;
 mod command;
+mod comparing;
 pub mod laws;
 mod messages;
 mod reading;
@@ -11,6 +14,6 @@ mod running;
 mod status;
 mod stdin_lines;
 
-pub use command::{Build, Check, Command, Keys, Place, Question, TrieFile};
+pub use command::{Build, Check, Combine, Command, Diff, Keys, Place, Question, Side, TrieFile};
 pub use running::run;
 pub use status::Status;

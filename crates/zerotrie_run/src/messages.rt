@@ -146,7 +146,7 @@ fn said_on(alloc: Global, place: &str, words: &str) -> Result<Vec<u8>, AllocErro
 }
 
 /// A line that tells of a fault at a place.
-fn fault_on(alloc: Global, place: &str, error: &io::Error) -> Result<Vec<u8>, AllocError>
+pub fn fault_on(alloc: Global, place: &str, error: &io::Error) -> Result<Vec<u8>, AllocError>
     ensures { IfOk result (λ text. IsLine text.items) }
 {
     let mut text = Vec::new(alloc);
@@ -208,7 +208,7 @@ fn damaged(alloc: Global, place: &str, why: SealError) -> Result<Vec<u8>, AllocE
 }
 
 /// A line that tells why a file has no trie.
-fn no_trie(
+pub fn no_trie(
     alloc: Global,
     file: TrieFile<'_>,
     why: &OpenError,
@@ -322,6 +322,14 @@ pub fn tell_two_inputs<M: Write>(messages: &mut Noted<M>)
     let words = TWO_INPUTS.as_bytes();
     tell(messages, words);
     tell(messages, b"\n");
+}
+
+/// Tells that standard input can't be both of two files. It takes no memory.
+pub fn tell_one_stream<M: Write>(messages: &mut Noted<M>)
+    ensures { messages.new.failed ≡ false → (messages.old.failed ≡ false)
+        × LineTold (M.contents messages.old.inner) (M.contents messages.new.inner) }
+{
+    tell(messages, b"zerotrie: standard input can't be both files\n");
 }
 
 /// The bytes that tell that it is out of memory.
@@ -702,6 +710,30 @@ pub fn step_text(
     Ok(text)
 }
 
+/// A line that tells why no file is made of the pairs of a source, or why it can't be written. The
+/// places are named.
+pub fn unbuilt(
+    alloc: Global,
+    from: &str,
+    source: Source,
+    to: &str,
+    error: &BuildError,
+) -> Result<Vec<u8>, AllocError>
+    ensures { IfOk result (λ text. TellsBuild error.now text.items) }
+{
+    match error {
+        BuildError::Unread(error) => fault_on(alloc, from, error),
+        BuildError::NotMade(error) => refusal(alloc, from, source, error),
+        BuildError::Unwritten(error) => unwritten(alloc, to, error),
+        BuildError::Taken => line_on(
+            alloc,
+            to,
+            "the file is there already, and --no-clobber leaves it",
+        ),
+        BuildError::Unfound(error) => fault_on(alloc, to, error),
+    }
+}
+
 /// A line that tells why no file is made.
 pub fn build_text(
     alloc: Global,
@@ -711,15 +743,5 @@ pub fn build_text(
     ensures { IfOk result (λ text. TellsBuild error.now text.items) }
 {
     let from = source_name(build.from);
-    match error {
-        BuildError::Unread(error) => fault_on(alloc, from, error),
-        BuildError::NotMade(error) => refusal(alloc, from, build.plan.source, error),
-        BuildError::Unwritten(error) => unwritten(alloc, target_name(build.to), error),
-        BuildError::Taken => line_on(
-            alloc,
-            target_name(build.to),
-            "the file is there already, and --no-clobber leaves it",
-        ),
-        BuildError::Unfound(error) => fault_on(alloc, target_name(build.to), error),
-    }
+    unbuilt(alloc, from, build.plan.source, target_name(build.to), error)
 }

@@ -4,14 +4,17 @@ ghost use Rattle.std.specs.Prelude.{◌≡◌, ◌<◌, ◌⊎◌, ◌||◌, fal
 ghost use Rattle.std.specs.Io.KnownBytes.{Appends};
 ghost use Rattle.std.specs.Io.Buffered.{writer_contents};
 ghost use Rattle.zerotrie_files.specs.Notes.{NothingFailed};
-ghost use Rattle.zerotrie_run.specs.Runs.{Runs, TellsNumber, ReadsTwice, LeavesInput, HandsOn, tells_steps, world};
+ghost use Rattle.zerotrie_run.specs.Runs.{HandsOn, world};
+ghost use Rattle.zerotrie_run.specs.Commands.{Runs, TellsNumber, ReadsTwice, LeavesInput, tells_steps};
 ghost use Rattle.zerotrie_run.specs.Statuses.{failure, number_of};
 ghost use Rattle.zerotrie_run.specs.Told.{IsTold, Notes, ended, last_text};
 ghost use Rattle.zerotrie_run.specs.declared.status.Status.TheVariants.{Done, Absent, BadUsage, Unread, Unwritten, Closed};
 
 use crate::asking::{ask, reads_twice};
 use crate::building::build;
+use crate::combining::run_combine;
 use crate::command::Command;
+use crate::comparing::run_diff;
 use crate::messages::{NO_MEMORY, ask_text, build_text, tell, tell_two_inputs};
 use crate::status::Status;
 use std::alloc::{AllocError, Global};
@@ -43,7 +46,7 @@ fn failure<D: Disk, R: Read, W: Write + Drop>(
 }
 
 /// How a run ends that is refused so, or in which something failed.
-fn end_of<D: Disk, R: Read, W: Write + Drop>(
+pub(crate) fn end_of<D: Disk, R: Read, W: Write + Drop>(
     refusal: Option<Status>,
     files: &Store<D>,
     input: &Noted<R>,
@@ -61,7 +64,7 @@ fn end_of<D: Disk, R: Read, W: Write + Drop>(
 
 /// Tells why a run ends so, and returns how it ends: without memory for the message it is out of
 /// memory. It says nothing if whoever reads the output has closed it.
-fn end<M: Write>(
+pub(crate) fn end<M: Write>(
     messages: &mut Noted<M>,
     status: Status,
     message: Result<Vec<u8>, AllocError>,
@@ -97,11 +100,11 @@ fn end<M: Write>(
 /// If one of these did, its number is 3 or 4: otherwise nothing failed that the files and streams
 /// note. A message that can't be written changes nothing.
 ///
-/// After success, or if a key is absent, the buffer is flushed if it was empty before. The only
+/// After success, or if a key is absent or pairs differ, the buffer is flushed if it was empty before. The only
 /// messages are then the steps of a build, if they were asked for, and a warning for a file that is
-/// read as bare bytes and begins with the number of a kind. If the file and the keys are both
-/// standard input, the usage is bad. Standard input is not read unless the command needs it; keys
-/// are not read from it if the file has no trie.
+/// read as bare bytes and begins with the number of a kind. If the file and the keys, or two files,
+/// are both standard input, the usage is bad. Standard input is not read unless the command needs
+/// it; keys are not read from it if the file has no trie.
 pub fn run<D: Disk, R: Read, W: Write + Drop, M: Write>(
     alloc: Global,
     command: Command<'_>,
@@ -158,5 +161,7 @@ pub fn run<D: Disk, R: Read, W: Write + Drop, M: Write>(
                 }
             }
         }
+        Command::Diff(diff) => run_diff(alloc, diff, files, input, output, messages),
+        Command::Combine(both) => run_combine(alloc, both, files, input, output, messages),
     }
 }

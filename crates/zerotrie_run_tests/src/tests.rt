@@ -11,7 +11,7 @@ use zerotrie_core::TrieKind;
 use zerotrie_files::{Disk, Noted, Store};
 use zerotrie_lines::{Format, LineEnd};
 use zerotrie_making::{Duplicates, FileForm, Plan, Source};
-use zerotrie_queries::{Asked, Choice, Form, Language, ReportForm, Style, View};
+use zerotrie_queries::{Asked, Choice, Form, Language, Order, ReportForm, Style, View};
 use zerotrie_run::{Build, Check, Command, Keys, Place, Question, Status, TrieFile, run};
 
 /// A run of the program: the files that are there, the words that are typed in, and what is to come of it.
@@ -244,7 +244,12 @@ const SHOWN: [Row; 5] = [
         files: &[("names.trie", b"\x00a\x85")],
         command: Command::Ask(
             FILE,
-            Question::List(Form::Lines(Style::Tsv), Choice::Prefix(b"a"), None),
+            Question::List(
+                Form::Lines(Style::Tsv),
+                Choice::Prefix(b"a"),
+                Order::Stored,
+                None,
+            ),
         ),
         status: Status::Done,
         printed: b"a\t5\n",
@@ -255,7 +260,12 @@ const SHOWN: [Row; 5] = [
         files: &[("names.trie", b"\x00a\x85")],
         command: Command::Ask(
             FILE,
-            Question::List(Form::Lines(Style::Tsv), Choice::Prefix(b"b"), None),
+            Question::List(
+                Form::Lines(Style::Tsv),
+                Choice::Prefix(b"b"),
+                Order::Stored,
+                None,
+            ),
         ),
         status: Status::Done,
         printed: b"",
@@ -346,7 +356,12 @@ const NOTED: [Row; 1] = [Row {
     files: &[("names.trie", TRIE)],
     command: Command::Ask(
         BARE,
-        Question::List(Form::Lines(Style::Values), Choice::Prefix(b"\0c"), None),
+        Question::List(
+            Form::Lines(Style::Values),
+            Choice::Prefix(b"\0c"),
+            Order::Stored,
+            None,
+        ),
     ),
     status: Status::Done,
     printed: b"",
@@ -480,7 +495,12 @@ fn a_beginning_is_printed_as_far_as_there_is_room(rt: HostRuntime) -> Result<(),
         alloc,
         Command::Ask(
             FILE,
-            Question::List(Form::Lines(Style::Tsv), Choice::Prefix(b""), None),
+            Question::List(
+                Form::Lines(Style::Tsv),
+                Choice::Prefix(b""),
+                Order::Stored,
+                None,
+            ),
         ),
         &mut files,
         &mut Noted::new(b"".as_slice()),

@@ -4,8 +4,7 @@ use Rattle.std.proofs.lemmas.List.{length-drop, get_or-drop, get_or-take, take-a
 use Rattle.std.proofs.Math.Seq.{take-append-add, drop-append-add, get_or-append_seam}
 use Rattle.std.proofs.lemmas.Bool.{cases_lt}
 use Rattle.std.specs.Int.{w32, to_le_bytes, from_le_bytes}
-use Rattle.zerotrie_base.specs.Kind.{Kind}
-use Rattle.zerotrie_sealed.specs.Sealed.{IsSealed}
+use Rattle.zerotrie_sealed.specs.Sealed.{IsSealedAs}
 use Rattle.zerotrie_sealed.proofs.Headers.{bytes-append, bytes-take, bytes-drop}
 use Rattle.std.proofs.lemmas.Nat.{xor_comm, xor_lt, from_le_bytes-to_le_bytes_4}
 use Rattle.std.specs.Int.Bits.{xor_assoc, xor_self, xor_zero_l, xor_zero_r}
@@ -85,8 +84,8 @@ abbrev summed : List ℕ → List ℕ
 summed file = take 4 (drop 20 file)
 
 -- a sealed file has the checksum of what is covered
-sum-is : (kind : Kind) (trie file : List ℕ) → ((i : ℕ) → get_or file i 0 < 256) → IsSealed kind trie file → summed file ≡ to_le_bytes w32 (crc32c (covered file))
-sum-is kind trie file below is =
+sum-is : (number : ℕ) (bytes file : List ℕ) → ((i : ℕ) → get_or file i 0 < 256) → IsSealedAs number bytes file → summed file ≡ to_le_bytes w32 (crc32c (covered file))
+sum-is number bytes file below is =
     ap summed is.parts ∙ ap (λ f. to_le_bytes w32 (crc32c (covered f))) (sym is.parts)
 
 covered-bytes : (file : List ℕ) → ((i : ℕ) → get_or file i 0 < 256) → (i : ℕ) → get_or (covered file) i 0 < 256
@@ -165,13 +164,13 @@ summed-middle front behind b from below =
     let e : 20 + i ≡ length front = omega arith in
     get_or-take 4 (drop 20 file) i 0 (omega arith) ∙ get_or-drop 20 file i 0 ∙ ap (λ k. get_or file k 0) e ∙ at-place front behind b
 
-one_byte-at : (kind other : Kind) (trie second front behind : List ℕ) (b d : ℕ)
+one_byte-at : (number other : ℕ) (bytes second front behind : List ℕ) (b d : ℕ)
     → ((i : ℕ) → get_or (front ++ (b ∷ behind)) i 0 < 256) → ((i : ℕ) → get_or (front ++ (d ∷ behind)) i 0 < 256)
-    → IsSealed kind trie (front ++ (b ∷ behind)) → IsSealed other second (front ++ (d ∷ behind))
+    → IsSealedAs number bytes (front ++ (b ∷ behind)) → IsSealedAs other second (front ++ (d ∷ behind))
     → (length front < 20) ⊎ (20 ≤ length front) → (length front < 24) ⊎ (24 ≤ length front) → b ≡ d
-one_byte-at kind other trie second front behind b d p q x y (inl early) _ =
+one_byte-at number other bytes second front behind b d p q x y (inl early) _ =
     let sums : crc32c (covered (front ++ (b ∷ behind))) ≡ crc32c (covered (front ++ (d ∷ behind))) =
-    same_crc _ _ (covered-bytes _ p) (covered-bytes _ q) (sym (sum-is kind trie _ p x) ∙ summed-early front behind b d early ∙ sum-is other second _ q y) in
+    same_crc _ _ (covered-bytes _ p) (covered-bytes _ q) (sym (sum-is number bytes _ p x) ∙ summed-early front behind b d early ∙ sum-is other second _ q y) in
     let tail : (i : ℕ) → get_or behind i 0 < 256 = λ i. behind-bytes front (b ∷ behind) p (suc i) in
     let n : ℕ = 19 - length front in
     let m : ℕ = 23 - length front in
@@ -179,14 +178,14 @@ one_byte-at kind other trie second front behind b d p q x y (inl early) _ =
     (bytes-append (take n behind) (drop m behind) (bytes-take n behind tail) (bytes-drop m behind tail))
     (behind-bytes front (b ∷ behind) p 0) (behind-bytes front (d ∷ behind) q 0)
     (ap crc32c (sym (covered-early front behind b early)) ∙ sums ∙ ap crc32c (covered-early front behind d early))
-one_byte-at kind other trie second front behind b d p q x y (inr from) (inl below) =
+one_byte-at number other bytes second front behind b d p q x y (inr from) (inl below) =
     sym (summed-middle front behind b from below)
-    ∙ ap (λ l. get_or l (length front - 20) 0) (sum-is kind trie _ p x
+    ∙ ap (λ l. get_or l (length front - 20) 0) (sum-is number bytes _ p x
     ∙ ap (λ l. to_le_bytes w32 (crc32c l)) (covered-middle front behind b d from below) ∙ sym (sum-is other second _ q y))
     ∙ summed-middle front behind d from below
-one_byte-at kind other trie second front behind b d p q x y (inr from) (inr late) =
+one_byte-at number other bytes second front behind b d p q x y (inr from) (inr late) =
     let sums : crc32c (covered (front ++ (b ∷ behind))) ≡ crc32c (covered (front ++ (d ∷ behind))) =
-    same_crc _ _ (covered-bytes _ p) (covered-bytes _ q) (sym (sum-is kind trie _ p x) ∙ summed-late front behind b d late ∙ sum-is other second _ q y) in
+    same_crc _ _ (covered-bytes _ p) (covered-bytes _ q) (sym (sum-is number bytes _ p x) ∙ summed-late front behind b d late ∙ sum-is other second _ q y) in
     crc32c-one (take 20 front ++ drop 24 front) behind b d
     (bytes-append (take 20 front) (drop 24 front) (bytes-take 20 front (front-bytes front (b ∷ behind) p)) (bytes-drop 24 front (front-bytes front (b ∷ behind) p)))
     (λ i. behind-bytes front (b ∷ behind) p (suc i))
@@ -194,8 +193,8 @@ one_byte-at kind other trie second front behind b d p q x y (inr from) (inr late
     (ap crc32c (sym (covered-late front behind b late)) ∙ sums ∙ ap crc32c (covered-late front behind d late))
 
 -- two sealed files that differ at one place at most do not differ
-pub one_byte : (kind other : Kind) (trie second front behind : List ℕ) (b d : ℕ)
+pub one_byte : (number other : ℕ) (bytes second front behind : List ℕ) (b d : ℕ)
     → ((i : ℕ) → get_or (front ++ (b ∷ behind)) i 0 < 256) → ((i : ℕ) → get_or (front ++ (d ∷ behind)) i 0 < 256)
-    → IsSealed kind trie (front ++ (b ∷ behind)) → IsSealed other second (front ++ (d ∷ behind)) → b ≡ d
-one_byte kind other trie second front behind b d p q x y =
-    one_byte-at kind other trie second front behind b d p q x y (cases_lt (length front) 20) (cases_lt (length front) 24)
+    → IsSealedAs number bytes (front ++ (b ∷ behind)) → IsSealedAs other second (front ++ (d ∷ behind)) → b ≡ d
+one_byte number other bytes second front behind b d p q x y =
+    one_byte-at number other bytes second front behind b d p q x y (cases_lt (length front) 20) (cases_lt (length front) 24)

@@ -1,14 +1,15 @@
 -- The headers of sealed files.
-use Rattle.std.proofs.Common.{◌≡◌, ℕ, zero, suc, ◌+◌, ◌^◌, ◌<◌, ◌≤◌, inl, inr, List, [], ◌∷◌, ◌++◌, length, take, drop, get_or, Result, Ok, Err, IfErr, refl, sym, ap, subst, length-append, ◌∙◌, arith}
+use Rattle.std.proofs.Common.{◌≡◌, ℕ, zero, suc, ◌+◌, ◌^◌, ◌<◌, ◌≤◌, inl, inr, List, [], ◌∷◌, ◌++◌, length, take, drop, get_or, Result, Ok, Err, IfOk, IfErr, refl, sym, ap, subst, length-append, ◌∙◌, arith}
 use Rattle.std.proofs.lemmas.List.{take-append-drop, length-drop, drop-drop, get_or-drop}
 use Rattle.std.proofs.lemmas.Nat.{le_bytes_2, le_bytes_4, le_bytes_8, from_le_bytes-to_le_bytes_2, from_le_bytes-to_le_bytes_4, from_le_bytes-to_le_bytes_8}
 use Rattle.std.specs.Int.{w16, w32, w64, to_le_bytes, from_le_bytes}
+use Rattle.std.specs.Borrow.{Bor}
 use Rattle.zerotrie_base.specs.Kind.{Kind, simple_ascii, ignore_case, perfect_hash, extended_capacity, tag}
 use Rattle.zerotrie_base.specs.Kinds.{IsTag}
 use Rattle.zerotrie_base.specs.declared.kind.TrieKind.TheVariants.{Simple, Ignore, Hash, Ext}
 use Rattle.zerotrie_sealed.specs.Checksum.{crc32c}
-use Rattle.zerotrie_sealed.specs.Sealed.{magic, version, front, header, IsSealed}
-use Rattle.zerotrie_sealed.specs.Faults.{version_in, kind_in, length_in, checksum_in, IsSealFault}
+use Rattle.zerotrie_sealed.specs.Sealed.{magic, version, index_number, front_as, header_as, IsSealedAs, IsSealed, IsSealedIndex}
+use Rattle.zerotrie_sealed.specs.Faults.{version_in, kind_in, length_in, checksum_in, IsFaultBy, IsFileFault, IsSealFault, IsIndexFault}
 use Rattle.zerotrie_sealed.specs.declared.reading.SealError.{SealError}
 use Rattle.zerotrie_sealed.specs.declared.reading.SealError.TheVariants.{NoMagic, UnknownVersion, UnknownKind, CutShort, TooLong, Checksum}
 use Rattle.zerotrie_sealed.proofs.Chunks.{crc32c-lt}
@@ -77,25 +78,32 @@ fields file long below begins =
     ∙ ap (λ l. to_le_bytes w16 (kind_in file) ++ l) (cut 12 8 20 file refl ∙ ap (λ l. l ++ drop 20 file) p12
     ∙ ap (λ l. to_le_bytes w64 (length_in file) ++ l) (cut 20 4 24 file refl ∙ ap (λ l. l ++ drop 24 file) p20))))
 
-headed : (kind : Kind) (file : List ℕ) → 24 ≤ length file → ((i : ℕ) → get_or file i 0 < 256) → take 8 file ≡ magic
-    → version_in file ≡ version → kind_in file ≡ tag kind → 24 + length_in file ≡ length file
-    → file ≡ front kind (drop 24 file) ++ (to_le_bytes w32 (checksum_in file) ++ drop 24 file)
-headed kind file long below begins known has fits =
+headed : (number : ℕ) (file : List ℕ) → 24 ≤ length file → ((i : ℕ) → get_or file i 0 < 256) → take 8 file ≡ magic
+    → version_in file ≡ version → kind_in file ≡ number → 24 + length_in file ≡ length file
+    → file ≡ front_as number (drop 24 file) ++ (to_le_bytes w32 (checksum_in file) ++ drop 24 file)
+headed number file long below begins known has fits =
     let n : length_in file ≡ length (drop 24 file) = omega (arith, length-drop 24 file) in
     fields file long below begins
     ∙ ap (λ v. magic ++ (to_le_bytes w16 v ++ (to_le_bytes w16 (kind_in file) ++ (to_le_bytes w64 (length_in file) ++ (to_le_bytes w32 (checksum_in file) ++ drop 24 file))))) known
     ∙ ap (λ k. magic ++ (to_le_bytes w16 version ++ (to_le_bytes w16 k ++ (to_le_bytes w64 (length_in file) ++ (to_le_bytes w32 (checksum_in file) ++ drop 24 file))))) has
-    ∙ ap (λ m. magic ++ (to_le_bytes w16 version ++ (to_le_bytes w16 (tag kind) ++ (to_le_bytes w64 m ++ (to_le_bytes w32 (checksum_in file) ++ drop 24 file))))) n
+    ∙ ap (λ m. magic ++ (to_le_bytes w16 version ++ (to_le_bytes w16 number ++ (to_le_bytes w64 m ++ (to_le_bytes w32 (checksum_in file) ++ drop 24 file))))) n
 
-pub IsSealed-agreed : (kind : Kind) (file : List ℕ) → 24 ≤ length file → ((i : ℕ) → get_or file i 0 < 256) → take 8 file ≡ magic
-    → version_in file ≡ version → kind_in file ≡ tag kind → 24 + length_in file ≡ length file
-    → checksum_in file ≡ crc32c (take 20 file ++ drop 24 file) → IsSealed kind (drop 24 file) file
-IsSealed-agreed kind file long below begins known has fits sum =
-    let trie : List ℕ = drop 24 file in
-    let whole : file ≡ front kind trie ++ (to_le_bytes w32 (checksum_in file) ++ trie) = headed kind file long below begins known has fits in
-    let ahead : take 20 file ≡ front kind trie = ap (take 20) whole in
-    let same : checksum_in file ≡ crc32c (front kind trie ++ trie) = sum ∙ ap (λ l. crc32c (l ++ trie)) ahead in
-    record { parts = whole ∙ ap (λ c. front kind trie ++ (to_le_bytes w32 c ++ trie)) same }
+pub IsSealed-agreed : (number : ℕ) (file : List ℕ) → 24 ≤ length file → ((i : ℕ) → get_or file i 0 < 256) → take 8 file ≡ magic
+    → version_in file ≡ version → kind_in file ≡ number → 24 + length_in file ≡ length file
+    → checksum_in file ≡ crc32c (take 20 file ++ drop 24 file) → IsSealedAs number (drop 24 file) file
+IsSealed-agreed number file long below begins known has fits sum =
+    let bytes : List ℕ = drop 24 file in
+    let whole : file ≡ front_as number bytes ++ (to_le_bytes w32 (checksum_in file) ++ bytes) = headed number file long below begins known has fits in
+    let ahead : take 20 file ≡ front_as number bytes = ap (take 20) whole in
+    let same : checksum_in file ≡ crc32c (front_as number bytes ++ bytes) = sum ∙ ap (λ l. crc32c (l ++ bytes)) ahead in
+    record { parts = whole ∙ ap (λ c. front_as number bytes ++ (to_le_bytes w32 c ++ bytes)) same }
+
+-- the same of an index that is returned if its parts agree
+pub indexed : (file : List ℕ) (result : Result (Bor (List ℕ)) SealError) → 24 ≤ length file → ((i : ℕ) → get_or file i 0 < 256) → take 8 file ≡ magic → version_in file ≡ version → kind_in file ≡ index_number
+    → IfOk result (λ index. index.now ≡ drop 24 file) → IfOk result (λ _. 24 + length_in file ≡ length file) → IfOk result (λ _. checksum_in file ≡ crc32c (take 20 file ++ drop 24 file))
+    → IfOk result (λ index. IsSealedIndex index.now file)
+indexed file (Ok index) long below begins known has bytes fits sum = rw bytes (IsSealed-agreed index_number file long below begins known has fits sum)
+indexed file (Err e) long below begins known has bytes fits sum = tt
 
 -- ---- a sealed file has no fault
 
@@ -111,52 +119,80 @@ IsTag-tag ignore_case = (Ignore, refl)
 IsTag-tag perfect_hash = (Hash, refl)
 IsTag-tag extended_capacity = (Ext, refl)
 
-kind_in-header : (kind : Kind) (trie : List ℕ) → kind_in (header kind trie ++ trie) ≡ tag kind
-kind_in-header kind trie = from_le_bytes-to_le_bytes_2 (tag kind) (tag-lt kind)
+kind_in-header : (number : ℕ) (bytes : List ℕ) → number < 2 ^ 16 → kind_in (header_as number bytes ++ bytes) ≡ number
+kind_in-header number bytes low = from_le_bytes-to_le_bytes_2 number low
 
-length_in-header : (kind : Kind) (trie : List ℕ) → length trie < 2 ^ 64 → length_in (header kind trie ++ trie) ≡ length trie
-length_in-header kind trie low = from_le_bytes-to_le_bytes_8 (length trie) low
+length_in-header : (number : ℕ) (bytes : List ℕ) → length bytes < 2 ^ 64 → length_in (header_as number bytes ++ bytes) ≡ length bytes
+length_in-header number bytes low = from_le_bytes-to_le_bytes_8 (length bytes) low
 
-checksum_in-header : (kind : Kind) (trie : List ℕ) → crc32c (front kind trie ++ trie) < 2 ^ 32
-    → checksum_in (header kind trie ++ trie) ≡ crc32c (front kind trie ++ trie)
-checksum_in-header kind trie low = from_le_bytes-to_le_bytes_4 (crc32c (front kind trie ++ trie)) low
+checksum_in-header : (number : ℕ) (bytes : List ℕ) → crc32c (front_as number bytes ++ bytes) < 2 ^ 32
+    → checksum_in (header_as number bytes ++ bytes) ≡ crc32c (front_as number bytes ++ bytes)
+checksum_in-header number bytes low = from_le_bytes-to_le_bytes_4 (crc32c (front_as number bytes ++ bytes)) low
 
-length-sealed : (kind : Kind) (trie : List ℕ) → length (header kind trie ++ trie) ≡ 24 + length trie
-length-sealed kind trie = omega arith
+length-sealed : (number : ℕ) (bytes : List ℕ) → length (header_as number bytes ++ bytes) ≡ 24 + length bytes
+length-sealed number bytes = omega arith
 
-faultless : (kind : Kind) (trie : List ℕ) (e : SealError) → 24 + length trie < 2 ^ 64 → crc32c (front kind trie ++ trie) < 2 ^ 32
-    → IsSealFault (header kind trie ++ trie) e → ⊥
-faultless kind trie NoMagic short low fault = fault refl
-faultless kind trie (UnknownVersion v) short low fault = fault.1 (sym fault.0)
-faultless kind trie (UnknownKind n) short low fault = fault.1 (let P : ℕ → Type 0 = IsTag in subst P (sym (kind_in-header kind trie) ∙ fault.0) (IsTag-tag kind))
-faultless kind trie CutShort short low fault =
-    let n : length_in (header kind trie ++ trie) ≡ length trie = length_in-header kind trie (omega arith) in
-    let all : length (header kind trie ++ trie) ≡ 24 + length trie = length-sealed kind trie in
+faultless : (IsKnown : ℕ → Type 0) (number : ℕ) (bytes : List ℕ) (e : SealError) → IsKnown number → number < 2 ^ 16 → 24 + length bytes < 2 ^ 64 → crc32c (front_as number bytes ++ bytes) < 2 ^ 32
+    → IsFaultBy IsKnown (header_as number bytes ++ bytes) e → ⊥
+faultless IsKnown number bytes NoMagic known small short low fault = fault refl
+faultless IsKnown number bytes (UnknownVersion v) known small short low fault = fault.1 (sym fault.0)
+faultless IsKnown number bytes (UnknownKind n) known small short low fault = fault.1 (subst IsKnown (sym (kind_in-header number bytes small) ∙ fault.0) known)
+faultless IsKnown number bytes CutShort known small short low fault =
+    let n : length_in (header_as number bytes ++ bytes) ≡ length bytes = length_in-header number bytes (omega arith) in
+    let all : length (header_as number bytes ++ bytes) ≡ 24 + length bytes = length-sealed number bytes in
     elim fault [ inl less ↦ omega arith | inr less ↦ omega arith ]
-faultless kind trie TooLong short low fault =
-    let n : length_in (header kind trie ++ trie) ≡ length trie = length_in-header kind trie (omega arith) in
-    let all : length (header kind trie ++ trie) ≡ 24 + length trie = length-sealed kind trie in
+faultless IsKnown number bytes TooLong known small short low fault =
+    let n : length_in (header_as number bytes ++ bytes) ≡ length bytes = length_in-header number bytes (omega arith) in
+    let all : length (header_as number bytes ++ bytes) ≡ 24 + length bytes = length-sealed number bytes in
     omega arith
-faultless kind trie Checksum short low fault = fault (checksum_in-header kind trie low)
+faultless IsKnown number bytes Checksum known small short low fault = fault (checksum_in-header number bytes low)
 
--- no cause of an error holds of a sealed file
-pub no_fault : (kind : Kind) (trie file : List ℕ) (e : SealError) → length file < 2 ^ 64 → ((i : ℕ) → get_or file i 0 < 256)
-    → IsSealFault file e → IsSealed kind trie file → ⊥
-no_fault kind trie file e short below fault is =
-    let long : length file ≡ 24 + length trie = ap length is.parts ∙ length-sealed kind trie in
-    let covered : take 20 file ++ drop 24 file ≡ front kind trie ++ trie = ap (λ f. take 20 f ++ drop 24 f) is.parts in
+-- no cause of an error holds of a file that is sealed by a known number
+pub no_fault : (IsKnown : ℕ → Type 0) (number : ℕ) (bytes file : List ℕ) (e : SealError) → IsKnown number → number < 2 ^ 16 → length file < 2 ^ 64 → ((i : ℕ) → get_or file i 0 < 256)
+    → IsFaultBy IsKnown file e → IsSealedAs number bytes file → ⊥
+no_fault IsKnown number bytes file e known small short below fault is =
+    let long : length file ≡ 24 + length bytes = ap length is.parts ∙ length-sealed number bytes in
+    let covered : take 20 file ++ drop 24 file ≡ front_as number bytes ++ bytes = ap (λ f. take 20 f ++ drop 24 f) is.parts in
     let sum : crc32c (take 20 file ++ drop 24 file) < 2 ^ 32 =
     crc32c-lt (take 20 file ++ drop 24 file) (bytes-append (take 20 file) (drop 24 file) (bytes-take 20 file below) (bytes-drop 24 file below)) in
-    let low : crc32c (front kind trie ++ trie) < 2 ^ 32 = rw covered at sum in
-    faultless kind trie e (omega arith) low (let P : List ℕ → Type 0 = λ f. IsSealFault f e in subst P is.parts fault)
+    let low : crc32c (front_as number bytes ++ bytes) < 2 ^ 32 = rw covered at sum in
+    faultless IsKnown number bytes e known small (omega arith) low (let P : List ℕ → Type 0 = λ f. IsFaultBy IsKnown f e in subst P is.parts fault)
 
 -- an error whose cause holds shows that the file is not sealed
+pub no_trie : (file : List ℕ) (e : SealError) → length file < 2 ^ 64 → ((i : ℕ) → get_or file i 0 < 256) → IsSealFault file e → (kind : Kind) (trie : List ℕ) → IsSealed kind trie file → ⊥
+no_trie file e short below fault kind trie is = no_fault IsTag (tag kind) trie file e (IsTag-tag kind) (tag-lt kind) short below fault is
+
 pub no_seal : {T : Type 0} (file : List ℕ) (result : Result T SealError) → length file < 2 ^ 64 → ((i : ℕ) → get_or file i 0 < 256)
     → IfErr result (IsSealFault file) → IfErr result (λ _. (kind : Kind) (trie : List ℕ) → IsSealed kind trie file → ⊥)
 no_seal file (Ok x) short below fault = tt
-no_seal file (Err e) short below fault = λ kind trie is. no_fault kind trie file e short below fault is
+no_seal file (Err e) short below fault = no_trie file e short below fault
 
--- ---- one file is the seal of one trie
+pub none_indexed : (file : List ℕ) (e : SealError) → length file < 2 ^ 64 → ((i : ℕ) → get_or file i 0 < 256) → IsIndexFault file e → (index : List ℕ) → IsSealedIndex index file → ⊥
+none_indexed file e short below fault index is = no_fault (λ number. number ≡ index_number) index_number index file e refl (omega arith) short below fault is
+
+pub no_index : {T : Type 0} (file : List ℕ) (result : Result T SealError) → length file < 2 ^ 64 → ((i : ℕ) → get_or file i 0 < 256)
+    → IfErr result (IsIndexFault file) → IfErr result (λ _. (index : List ℕ) → IsSealedIndex index file → ⊥)
+no_index file (Ok x) short below fault = tt
+no_index file (Err e) short below fault = none_indexed file e short below fault
+
+-- an error that says nothing of the number is one whatever numbers are known
+fault_by : (IsKnown : ℕ → Type 0) (file : List ℕ) (e : SealError) → IsFileFault file e → IsFaultBy IsKnown file e
+fault_by IsKnown file NoMagic fault = fault
+fault_by IsKnown file (UnknownVersion v) fault = fault
+fault_by IsKnown file (UnknownKind n) fault = absurd (fault.1 tt)
+fault_by IsKnown file CutShort fault = fault
+fault_by IsKnown file TooLong fault = fault
+fault_by IsKnown file Checksum fault = fault
+
+pub seal_fault : {T : Type 0} (file : List ℕ) (result : Result T SealError) → IfErr result (IsFileFault file) → IfErr result (IsSealFault file)
+seal_fault file (Ok x) fault = tt
+seal_fault file (Err e) fault = fault_by IsTag file e fault
+
+pub index_fault : {T : Type 0} (file : List ℕ) (result : Result T SealError) → IfErr result (IsFileFault file) → IfErr result (IsIndexFault file)
+index_fault file (Ok x) fault = tt
+index_fault file (Err e) fault = fault_by (λ number. number ≡ index_number) file e fault
+
+-- ---- one file is the seal of one list of bytes
 
 tag_one : (kind other : Kind) → tag kind ≡ tag other → kind ≡ other
 tag_one simple_ascii simple_ascii e = refl
@@ -165,27 +201,33 @@ tag_one perfect_hash perfect_hash e = refl
 tag_one extended_capacity extended_capacity e = refl
 tag_one kind other e = absurd (omega arith)
 
+pub one_content : (number other : ℕ) (bytes second file : List ℕ) → number < 2 ^ 16 → other < 2 ^ 16
+    → IsSealedAs number bytes file → IsSealedAs other second file → (number ≡ other) × (bytes ≡ second)
+one_content number other bytes second file low small a b =
+    let both : header_as number bytes ++ bytes ≡ header_as other second ++ second = sym a.parts ∙ b.parts in
+    (sym (kind_in-header number bytes low) ∙ ap kind_in both ∙ kind_in-header other second small, ap (drop 24) both)
+
 pub one_trie : (kind other : Kind) (trie second file : List ℕ) → IsSealed kind trie file → IsSealed other second file → (kind ≡ other) × (trie ≡ second)
 one_trie kind other trie second file a b =
-    let both : header kind trie ++ trie ≡ header other second ++ second = sym a.parts ∙ b.parts in
-    (tag_one kind other (sym (kind_in-header kind trie) ∙ ap kind_in both ∙ kind_in-header other second), ap (drop 24) both)
+    let one = one_content (tag kind) (tag other) trie second file (tag-lt kind) (tag-lt other) a b in
+    (tag_one kind other one.0, one.1)
 
-length_in-more : (kind : Kind) (trie more : List ℕ) → length trie < 2 ^ 64 → length_in ((header kind trie ++ trie) ++ more) ≡ length trie
-length_in-more kind trie more low = from_le_bytes-to_le_bytes_8 (length trie) low
+length_in-more : (number : ℕ) (bytes more : List ℕ) → length bytes < 2 ^ 64 → length_in ((header_as number bytes ++ bytes) ++ more) ≡ length bytes
+length_in-more number bytes more low = from_le_bytes-to_le_bytes_8 (length bytes) low
 
 nothing : (more : List ℕ) → length more ≡ 0 → more ≡ []
 nothing [] e = refl
 nothing (x ∷ more) e = absurd (omega arith)
 
--- the length in the header of a file is that of the trie in it, and no other
-pub none_longer : (kind other : Kind) (trie second file more : List ℕ) → length (file ++ more) < 2 ^ 64
-    → IsSealed kind trie file → IsSealed other second (file ++ more) → more ≡ []
-none_longer kind other trie second file more short a b =
+-- the length in the header of a file is that of the bytes in it, and no other
+pub none_longer : (number other : ℕ) (bytes second file more : List ℕ) → length (file ++ more) < 2 ^ 64
+    → IsSealedAs number bytes file → IsSealedAs other second (file ++ more) → more ≡ []
+none_longer number other bytes second file more short a b =
     let both : length (file ++ more) ≡ length file + length more = length-append file more in
-    let one : length file ≡ 24 + length trie = ap length a.parts ∙ length-sealed kind trie in
+    let one : length file ≡ 24 + length bytes = ap length a.parts ∙ length-sealed number bytes in
     let two : length (file ++ more) ≡ 24 + length second = ap length b.parts ∙ length-sealed other second in
-    let n : length_in (file ++ more) ≡ length trie =
-    ap (λ f. length_in (f ++ more)) a.parts ∙ length_in-more kind trie more (omega arith) in
+    let n : length_in (file ++ more) ≡ length bytes =
+    ap (λ f. length_in (f ++ more)) a.parts ∙ length_in-more number bytes more (omega arith) in
     let m : length_in (file ++ more) ≡ length second = ap length_in b.parts ∙ length_in-header other second (omega arith) in
-    let same : length trie ≡ length second = sym n ∙ m in
+    let same : length bytes ≡ length second = sym n ∙ m in
     nothing more (omega arith)

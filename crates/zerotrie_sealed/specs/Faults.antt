@@ -3,7 +3,7 @@ use Rattle.std.specs.Prelude.{◌≡◌, ◌≢◌, ◌⊎◌, ℕ, ◌+◌, ◌
 use Rattle.std.specs.Int.{w16, w32, w64, from_le_bytes}
 use Rattle.zerotrie_base.specs.Kinds.{IsTag}
 use Rattle.zerotrie_sealed.specs.Checksum.{crc32c}
-use Rattle.zerotrie_sealed.specs.Sealed.{magic, version}
+use Rattle.zerotrie_sealed.specs.Sealed.{magic, version, index_number}
 use Rattle.zerotrie_sealed.specs.declared.reading.SealError.{SealError}
 use Rattle.zerotrie_sealed.specs.declared.reading.SealError.TheVariants.{NoMagic, UnknownVersion, UnknownKind, CutShort, TooLong, Checksum}
 
@@ -20,11 +20,22 @@ length_in file = from_le_bytes w64 (drop 12 file)
 abbrev pub checksum_in : List ℕ → ℕ
 checksum_in file = from_le_bytes w32 (drop 20 file)
 
--- the cause of an error, which is true of the file
+-- the cause of an error, which is true of the file, where these numbers are known
+abbrev pub IsFaultBy : (ℕ → Type 0) → List ℕ → SealError → Type 0
+IsFaultBy IsKnown file NoMagic = take 8 file ≢ magic
+IsFaultBy IsKnown file (UnknownVersion number) = (version_in file ≡ number) × (number ≢ version)
+IsFaultBy IsKnown file (UnknownKind number) = (kind_in file ≡ number) × (IsKnown number → ⊥)
+IsFaultBy IsKnown file CutShort = (length file < 24) ⊎ (length file < 24 + length_in file)
+IsFaultBy IsKnown file TooLong = 24 + length_in file < length file
+IsFaultBy IsKnown file Checksum = checksum_in file ≢ crc32c (take 20 file ++ drop 24 file)
+
+-- the same of an error that says nothing of the number
+abbrev pub IsFileFault : List ℕ → SealError → Type 0
+IsFileFault file e = IsFaultBy (λ number. Unit {0}) file e
+
+-- why a file is not taken for a trie, and why it is not taken for an index
 abbrev pub IsSealFault : List ℕ → SealError → Type 0
-IsSealFault file NoMagic = take 8 file ≢ magic
-IsSealFault file (UnknownVersion number) = (version_in file ≡ number) × (number ≢ version)
-IsSealFault file (UnknownKind number) = (kind_in file ≡ number) × (IsTag number → ⊥)
-IsSealFault file CutShort = (length file < 24) ⊎ (length file < 24 + length_in file)
-IsSealFault file TooLong = 24 + length_in file < length file
-IsSealFault file Checksum = checksum_in file ≢ crc32c (take 20 file ++ drop 24 file)
+IsSealFault file e = IsFaultBy IsTag file e
+
+abbrev pub IsIndexFault : List ℕ → SealError → Type 0
+IsIndexFault file e = IsFaultBy (λ number. number ≡ index_number) file e

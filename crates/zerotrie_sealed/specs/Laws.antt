@@ -1,16 +1,21 @@
 -- Laws of sealed files.
 use Rattle.std.specs.Prelude.{◌≡◌, ◌<◌, ◌^◌, ℕ, List, [], ◌∷◌, ◌++◌, length, slice_index}
 use Rattle.zerotrie_base.specs.Kind.{Kind}
-use Rattle.zerotrie_sealed.specs.Sealed.{IsSealed}
+use Rattle.zerotrie_sealed.specs.Sealed.{IsSealed, IsSealedAs}
 
 -- no file is the seal of two tries, or of one trie in two kinds
 abbrev pub OneTrie : Type 0
 OneTrie = (kind other : Kind) (trie second file : List ℕ) → IsSealed kind trie file → IsSealed other second file → (kind ≡ other) × (trie ≡ second)
 
+-- no file is the seal of two lists of bytes, or by two numbers; so none is that of a trie and of an index
+abbrev pub OneContent : Type 0
+OneContent = (number other : ℕ) (bytes second file : List ℕ) → number < 2 ^ 16 → other < 2 ^ 16
+    → IsSealedAs number bytes file → IsSealedAs other second file → (number ≡ other) × (bytes ≡ second)
+
 -- no sealed file is the beginning of a longer one
 abbrev pub NoneLonger : Type 0
-NoneLonger = (kind other : Kind) (trie second file more : List ℕ) → length (file ++ more) < 2 ^ 64
-    → IsSealed kind trie file → IsSealed other second (file ++ more) → more ≡ []
+NoneLonger = (number other : ℕ) (bytes second file more : List ℕ) → length (file ++ more) < 2 ^ 64
+    → IsSealedAs number bytes file → IsSealedAs other second (file ++ more) → more ≡ []
 
 -- each number in the list is a byte
 abbrev pub AreBytes : List ℕ → Type 0
@@ -18,6 +23,6 @@ AreBytes bytes = (i : ℕ) → slice_index bytes i < 256
 
 -- two sealed files that differ in one byte at most are one file
 abbrev pub OneByteShows : Type 0
-OneByteShows = (kind other : Kind) (trie second front behind : List ℕ) (b d : ℕ)
+OneByteShows = (number other : ℕ) (bytes second front behind : List ℕ) (b d : ℕ)
     → AreBytes (front ++ (b ∷ behind)) → AreBytes (front ++ (d ∷ behind))
-    → IsSealed kind trie (front ++ (b ∷ behind)) → IsSealed other second (front ++ (d ∷ behind)) → b ≡ d
+    → IsSealedAs number bytes (front ++ (b ∷ behind)) → IsSealedAs other second (front ++ (d ∷ behind)) → b ≡ d

@@ -1,4 +1,4 @@
--- Sealed files: a header, and then the bytes of a trie.
+-- Sealed files: a header, and then the bytes of a trie or of an index.
 use Rattle.std.specs.Prelude.{◌≡◌, ℕ, List, [], ◌∷◌, ◌++◌, length}
 use Rattle.std.specs.Int.{w16, w32, w64, to_le_bytes}
 use Rattle.zerotrie_base.specs.Kind.{Kind, tag}
@@ -12,14 +12,30 @@ magic = 0x7A ∷ 0x74 ∷ 0x72 ∷ 0x69 ∷ 0x89 ∷ 0x8A ∷ 0x0D ∷ 0x0A ∷ 
 abbrev pub version : ℕ
 version = 1
 
--- the header without its checksum: the magic, the version, the number of the kind, the length of the trie
-abbrev pub front : Kind → List ℕ → List ℕ
-front kind trie = magic ++ to_le_bytes w16 version ++ to_le_bytes w16 (tag kind) ++ to_le_bytes w64 (length trie)
+-- the number of an index in the header, which no kind has
+abbrev pub index_number : ℕ
+index_number = 16
 
--- the header: what is in front, and the checksum of that and the trie
+-- the header without its checksum: the magic, the version, the number of what is sealed, its length
+abbrev pub front_as : ℕ → List ℕ → List ℕ
+front_as number bytes = magic ++ to_le_bytes w16 version ++ to_le_bytes w16 number ++ to_le_bytes w64 (length bytes)
+
+-- the header: what is in front, and the checksum of that and the bytes
+abbrev pub header_as : ℕ → List ℕ → List ℕ
+header_as number bytes = front_as number bytes ++ to_le_bytes w32 (crc32c (front_as number bytes ++ bytes))
+
+-- the header of a trie of the kind
 abbrev pub header : Kind → List ℕ → List ℕ
-header kind trie = front kind trie ++ to_le_bytes w32 (crc32c (front kind trie ++ trie))
+header kind trie = header_as (tag kind) trie
 
--- the file is the trie of the kind, sealed: the header, and then the trie
-pub record IsSealed (kind : Kind) (trie file : List ℕ) : Type 0 where
-  pub parts : file ≡ header kind trie ++ trie
+-- The file is the bytes, sealed by the number: the header, and then the bytes.
+pub record IsSealedAs (number : ℕ) (bytes file : List ℕ) : Type 0 where
+  pub parts : file ≡ header_as number bytes ++ bytes
+
+-- the file is the trie of the kind, sealed
+abbrev pub IsSealed : Kind → List ℕ → List ℕ → Type 0
+IsSealed kind trie file = IsSealedAs (tag kind) trie file
+
+-- the file is the bytes of an index, sealed
+abbrev pub IsSealedIndex : List ℕ → List ℕ → Type 0
+IsSealedIndex index file = IsSealedAs index_number index file

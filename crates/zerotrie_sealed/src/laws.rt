@@ -2,11 +2,17 @@
 //!
 //! Each function does nothing: a call brings its law into a proof.
 
-ghost use Rattle.zerotrie_sealed.specs.Laws.{OneTrie, NoneLonger, OneByteShows};
+ghost use Rattle.zerotrie_sealed.specs.Laws.{OneTrie, OneContent, NoneLonger, OneByteShows};
 
 /// A file is the seal of one trie at most, in one kind.
 pub fn one_trie()
     ensures { OneTrie }
+{}
+
+/// A file is the seal of one list of bytes at most, by one number. So no file is that of a trie and
+/// of an index.
+pub fn one_content()
+    ensures { OneContent }
 {}
 
 /// No sealed file is the beginning of a longer one: neither a cut file nor one with bytes behind it

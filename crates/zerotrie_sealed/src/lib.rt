@@ -1,5 +1,5 @@
-//! Sealed files: a trie behind a header with its kind, its length and a checksum, so that damage
-//! is found.
+//! Sealed files: a trie or an index behind a header with its number, its length and a checksum, so
+//! that damage is found.
 #![tactic(auto)]
 
 mod checksum;
@@ -9,5 +9,5 @@ mod tables;
 mod writing;
 
 pub use checksum::crc32c;
-pub use reading::{SealError, Sealed, open};
-pub use writing::{HEADER_LEN, header_of, seal};
+pub use reading::{SealError, Sealed, open, open_index};
+pub use writing::{HEADER_LEN, INDEX_NUMBER, header_of, seal, seal_index};

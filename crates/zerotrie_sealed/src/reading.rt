@@ -1,14 +1,14 @@
-//! Opening: the trie of a sealed file, or what is wrong with the file.
+//! Opening: the trie or the index of a sealed file, or what is wrong with the file.
 
-ghost use Rattle.std.specs.Prelude.{◌≡◌, ℕ, ◌+◌, ◌≤◌, ◌↔◌, IsTrue, IfOk, IfErr, List, ◌++◌, length, take, drop};
+ghost use Rattle.std.specs.Prelude.{◌≡◌, ℕ, ◌+◌, ◌≤◌, ◌↔◌, IsTrue, IfOk, IfErr, IfSome, IfNone, List, ◌++◌, length, take, drop};
 ghost use Rattle.zerotrie_base.specs.Kind.{Kind, tag};
-ghost use Rattle.zerotrie_base.specs.Kinds.{kind_of};
+ghost use Rattle.zerotrie_base.specs.Kinds.{kind_of, IsTag};
 ghost use Rattle.zerotrie_sealed.specs.Checksum.{crc32c};
-ghost use Rattle.zerotrie_sealed.specs.Sealed.{version, IsSealed};
-ghost use Rattle.zerotrie_sealed.specs.Faults.{IsSealFault, version_in, kind_in, length_in, checksum_in};
+ghost use Rattle.zerotrie_sealed.specs.Sealed.{magic, version, IsSealed, IsSealedIndex};
+ghost use Rattle.zerotrie_sealed.specs.Faults.{IsFileFault, IsSealFault, IsIndexFault, version_in, kind_in, length_in, checksum_in};
 
 use crate::checksum::crc32c_of_both;
-use crate::writing::{FRONT_LEN, HEADER_LEN, MAGIC, VERSION};
+use crate::writing::{FRONT_LEN, HEADER_LEN, INDEX_NUMBER, MAGIC, VERSION};
 use thiserror::Error;
 use zerotrie_base::TrieKind;
 
@@ -21,14 +21,15 @@ pub enum SealError {
     /// The file has another version of the format, which is given.
     #[error("the file has the version {0} of the format, and only version 1 is known")]
     UnknownVersion(u16),
-    /// No kind has the number in the file, which is given.
-    #[error("no kind of trie has the number {0} that is in the file")]
+    /// The number in the file, which is given, is that of no kind; for `open_index`, it is not that
+    /// of an index.
+    #[error("the file has the number {0}, which stands for nothing that is asked for")]
     UnknownKind(u16),
     /// The file has fewer bytes than its header says, or not even a header.
     #[error("the file is cut short: get all of it")]
     CutShort,
     /// The file has more bytes than its header says.
-    #[error("bytes follow the trie: get the file alone")]
+    #[error("bytes follow what is sealed: get the file alone")]
     TooLong,
     /// The checksum in the header is not that of the rest of the file.
     #[error("the file is damaged: its bytes do not have the checksum that it was written with")]
@@ -44,47 +45,62 @@ pub struct Sealed<'a> {
     pub trie: &'a [u8],
 }
 
-/// Returns the kind in the header of a file, if its version is known.
-fn kind_in(file: &[u8]) -> Result<TrieKind, SealError>
-    requires { 24 ≤ length file.now }
+/// Returns the number in the header of a file, if it begins as a sealed one and its version is
+/// known.
+fn number_in(file: &[u8]) -> Result<u16, SealError>
+    ensures magic { IfOk result (λ _. take 8 file.now ≡ magic) }
+    ensures header { IfOk result (λ _. 24 ≤ length file.now) }
     ensures version { IfOk result (λ _. version_in file.now ≡ version) }
-    ensures kind { IfOk result (λ kind. kind_in file.now ≡ tag (kind_of kind)) }
-    ensures fault { IfErr result (IsSealFault file.now) }
+    ensures number { IfOk result (λ number. kind_in file.now ≡ number) }
+    ensures fault { IfErr result (IsFileFault file.now) }
 {
+    if !file.starts_with(&MAGIC) {
+        return Err(SealError::NoMagic);
+    }
+    if file.len() < HEADER_LEN {
+        return Err(SealError::CutShort);
+    }
     let (_, numbers) = file.split_at(8);
     let version = u16::from_le_bytes([numbers[0], numbers[1]]);
     if version != VERSION {
         return Err(SealError::UnknownVersion(version));
     }
     let (_, numbers) = file.split_at(10);
-    let number = u16::from_le_bytes([numbers[0], numbers[1]]);
+    Ok(u16::from_le_bytes([numbers[0], numbers[1]]))
+}
+
+/// Returns the kind that a number is of.
+fn kind_of(number: u16) -> Option<TrieKind>
+    ensures kind { IfSome result (λ kind. tag (kind_of kind) ≡ number) }
+    ensures none { IfNone result (IsTag number → ⊥) }
+{
     let [low, high] = number.to_le_bytes();
     match TrieKind::of_tag(low) {
-        Some(kind) if high == 0 => Ok(kind),
-        _ => Err(SealError::UnknownKind(number)),
+        Some(kind) if high == 0 => Some(kind),
+        _ => None,
     }
 }
 
 /// Returns the bytes behind the header of a file, if they are as many as it says.
-fn trie_in(file: &[u8]) -> Result<&[u8], SealError>
+fn bytes_in(file: &[u8]) -> Result<&[u8], SealError>
     requires { 24 ≤ length file.now }
-    ensures trie { IfOk result (λ trie. trie.now ≡ drop 24 file.now) }
+    ensures bytes { IfOk result (λ bytes. bytes.now ≡ drop 24 file.now) }
     ensures length { IfOk result (λ _. 24 + length_in file.now ≡ length file.now) }
-    ensures fault { IfErr result (IsSealFault file.now) }
+    ensures fault { IfErr result (IsFileFault file.now) }
 {
     let (_, numbers) = file.split_at(12);
     let length = usize::from_le_bytes([
         numbers[0], numbers[1], numbers[2], numbers[3], numbers[4], numbers[5], numbers[6],
         numbers[7],
     ]);
-    let (_, trie) = file.split_at(HEADER_LEN);
-    if trie.len() < length {
+    let (_, bytes) = file.split_at(HEADER_LEN);
+    if bytes.len() < length {
         return Err(SealError::CutShort);
     }
-    if length < trie.len() {
+    if length < bytes.len() {
         return Err(SealError::TooLong);
     }
-    Ok(trie)
+    Ok(bytes)
 }
 
 /// Returns whether the checksum in the header of a file is that of the rest of the file.
@@ -97,6 +113,22 @@ fn has_checksum(file: &[u8]) -> bool
     let (_, trie) = file.split_at(HEADER_LEN);
     let checksum = u32::from_le_bytes([numbers[0], numbers[1], numbers[2], numbers[3]]);
     checksum == crc32c_of_both(front, trie)
+}
+
+/// Returns the bytes behind the header of a file, if its length and its checksum are right.
+fn whole_in(file: &[u8]) -> Result<&[u8], SealError>
+    requires { 24 ≤ length file.now }
+    ensures bytes { IfOk result (λ bytes. bytes.now ≡ drop 24 file.now) }
+    ensures length { IfOk result (λ _. 24 + length_in file.now ≡ length file.now) }
+    ensures checksum { IfOk result (λ _.
+        checksum_in file.now ≡ crc32c (take 20 file.now ++ drop 24 file.now)) }
+    ensures fault { IfErr result (IsFileFault file.now) }
+{
+    let bytes = bytes_in(file)?;
+    if !has_checksum(file) {
+        return Err(SealError::Checksum);
+    }
+    Ok(bytes)
 }
 
 /// Returns the kind and the trie of a sealed file. Does not copy or validate the trie, and does not
@@ -124,16 +156,37 @@ pub fn open(file: &[u8]) -> Result<Sealed<'_>, SealError>
     ensures none { IfErr result (λ _.
         (kind : Kind) (trie : List ℕ) → IsSealed kind trie file.now → ⊥) }
 {
-    if !file.starts_with(&MAGIC) {
-        return Err(SealError::NoMagic);
-    }
-    if file.len() < HEADER_LEN {
-        return Err(SealError::CutShort);
-    }
-    let kind = kind_in(file)?;
-    let trie = trie_in(file)?;
-    if !has_checksum(file) {
-        return Err(SealError::Checksum);
-    }
+    let number = number_in(file)?;
+    let Some(kind) = kind_of(number) else {
+        return Err(SealError::UnknownKind(number));
+    };
+    let trie = whole_in(file)?;
     Ok(Sealed { kind, trie })
+}
+
+/// Returns the index in a sealed file: the bytes that `seal_index` was given. Does not copy or
+/// validate them, and does not allocate.
+///
+/// ```
+/// let file = seal_index(rt.alloc(), b"an index")?;
+/// assert_eq!(rt; open_index(file.as_slice())?, b"an index".as_slice());
+/// assert!(rt; open(file.as_slice()).err() == Some(SealError::UnknownKind(INDEX_NUMBER)));
+///
+/// let trie = seal(rt.alloc(), TrieKind::Hash, b"a\x85")?;
+/// assert!(rt; open_index(trie.as_slice()).err() == Some(SealError::UnknownKind(3)));
+/// ```
+///
+/// A file is taken exactly if it is what `seal_index` returns for some bytes, and these are what is
+/// returned. What an error says is true of the file, and the parts are looked at in the order of
+/// `open`; `UnknownKind` says that it is sealed as no index.
+pub fn open_index(file: &[u8]) -> Result<&[u8], SealError>
+    ensures ok { IfOk result (λ index. IsSealedIndex index.now file.now) }
+    ensures fault { IfErr result (IsIndexFault file.now) }
+    ensures none { IfErr result (λ _. (index : List ℕ) → IsSealedIndex index file.now → ⊥) }
+{
+    let number = number_in(file)?;
+    if number != INDEX_NUMBER {
+        return Err(SealError::UnknownKind(number));
+    }
+    whole_in(file)
 }

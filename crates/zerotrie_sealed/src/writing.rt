@@ -1,9 +1,9 @@
-//! Sealing: the header of a trie, and a trie behind its header.
+//! Sealing: the header of a trie or an index, and each behind its header.
 
 ghost use Rattle.std.specs.Prelude.{◌≡◌, IfOk, ◌++◌};
 ghost use Rattle.std.specs.Int.{w32, to_le_bytes};
 ghost use Rattle.zerotrie_base.specs.Kinds.{kind_of};
-ghost use Rattle.zerotrie_sealed.specs.Sealed.{front, header, IsSealed};
+ghost use Rattle.zerotrie_sealed.specs.Sealed.{front_as, header_as, header, IsSealedAs, IsSealed, IsSealedIndex};
 
 use crate::checksum::crc32c_of_both;
 use std::alloc::{AllocError, Global};
@@ -18,22 +18,44 @@ pub(crate) const VERSION: u16 = 1;
 /// The number of bytes in front of the checksum.
 pub(crate) const FRONT_LEN: usize = 20;
 
-/// The number of bytes in front of the trie in a sealed file.
+/// The number of bytes in front of the trie or the index in a sealed file.
 pub const HEADER_LEN: usize = 24;
 
-/// Returns the header of this trie, with this checksum.
-fn header_with(kind: TrieKind, trie: &[u8], checksum: u32) -> [u8; HEADER_LEN]
-    ensures { result ≡ front (kind_of kind) trie.now ++ to_le_bytes w32 checksum }
+/// The number in the header of the sealed file of an index. No kind of trie has it.
+pub const INDEX_NUMBER: u16 = 16;
+
+/// Returns the header of these bytes, with this number and this checksum.
+fn header_with(number: u16, bytes: &[u8], checksum: u32) -> [u8; HEADER_LEN]
+    ensures { result ≡ front_as number bytes.now ++ to_le_bytes w32 checksum }
 {
     let [m0, m1, m2, m3, m4, m5, m6, m7] = MAGIC;
     let [v0, v1] = VERSION.to_le_bytes();
-    let [k0, k1] = u16::from(kind.tag()).to_le_bytes();
-    let [l0, l1, l2, l3, l4, l5, l6, l7] = trie.len().to_le_bytes();
+    let [k0, k1] = number.to_le_bytes();
+    let [l0, l1, l2, l3, l4, l5, l6, l7] = bytes.len().to_le_bytes();
     let [c0, c1, c2, c3] = checksum.to_le_bytes();
     [
         m0, m1, m2, m3, m4, m5, m6, m7, v0, v1, k0, k1, l0, l1, l2, l3, l4, l5, l6, l7, c0, c1, c2,
         c3,
     ]
+}
+
+/// Returns the header of these bytes, with this number.
+fn header_as(number: u16, bytes: &[u8]) -> [u8; HEADER_LEN]
+    ensures { result ≡ header_as number bytes.now }
+{
+    let unchecked = header_with(number, bytes, 0);
+    let checksum = crc32c_of_both(&unchecked[..FRONT_LEN], bytes);
+    header_with(number, bytes, checksum)
+}
+
+/// Returns the sealed file of these bytes, with this number.
+fn seal_as(alloc: Global, number: u16, bytes: &[u8]) -> Result<Vec<u8>, AllocError>
+    ensures { IfOk result (λ file. IsSealedAs number bytes.now file.items) }
+{
+    let mut file = Vec::new(alloc);
+    file.extend_from_slice(&header_as(number, bytes))?;
+    file.extend_from_slice(bytes)?;
+    Ok(file)
 }
 
 /// Returns the header of the sealed file of this trie: the file is the header, followed by the
@@ -46,9 +68,7 @@ fn header_with(kind: TrieKind, trie: &[u8], checksum: u32) -> [u8; HEADER_LEN]
 pub fn header_of(kind: TrieKind, trie: &[u8]) -> [u8; HEADER_LEN]
     ensures { result ≡ header (kind_of kind) trie.now }
 {
-    let unchecked = header_with(kind, trie, 0);
-    let checksum = crc32c_of_both(&unchecked[..FRONT_LEN], trie);
-    header_with(kind, trie, checksum)
+    header_as(u16::from(kind.tag()), trie)
 }
 
 /// Returns the sealed file of this trie, which `open` reads.
@@ -63,8 +83,19 @@ pub fn header_of(kind: TrieKind, trie: &[u8]) -> [u8; HEADER_LEN]
 pub fn seal(alloc: Global, kind: TrieKind, trie: &[u8]) -> Result<Vec<u8>, AllocError>
     ensures { IfOk result (λ file. IsSealed (kind_of kind) trie.now file.items) }
 {
-    let mut file = Vec::new(alloc);
-    file.extend_from_slice(&header_of(kind, trie))?;
-    file.extend_from_slice(trie)?;
-    Ok(file)
+    seal_as(alloc, u16::from(kind.tag()), trie)
+}
+
+/// Returns the sealed file of this index, which `open_index` reads, and `open` does not.
+///
+/// ```
+/// let file = seal_index(rt.alloc(), b"an index")?;
+/// assert_eq!(rt; file[8..12], b"\x01\x00\x10\x00"[..]);
+/// ```
+///
+/// The bytes need not be an index. An error means that an allocation failed.
+pub fn seal_index(alloc: Global, index: &[u8]) -> Result<Vec<u8>, AllocError>
+    ensures { IfOk result (λ file. IsSealedIndex index.now file.items) }
+{
+    seal_as(alloc, INDEX_NUMBER, index)
 }

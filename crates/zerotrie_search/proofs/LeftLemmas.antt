@@ -28,11 +28,11 @@ use Rattle.zerotrie_search.proofs.OrderLemmas.{one_from}
 same_as_order : (p q : List ℕ) → same_key simple_ascii p q ≡ eq_by_cmp (slice_cmp nat_cmp) q p
 same_as_order p q = lists_ties nat_cmp unsigned_ties p q ∙ (eq_by_cmp_equiv nat_list_cmp_total).symm p q
 
-value_find : (pairs : Pairs) (key : List ℕ) → value_at simple_ascii pairs key ≡ find (slice_cmp nat_cmp) key pairs
+pub value_find : (pairs : Pairs) (key : List ℕ) → value_at simple_ascii pairs key ≡ find (slice_cmp nat_cmp) key pairs
 value_find [] key = refl
 value_find (e ∷ pairs) key = rw (same_as_order e.0 key, value_find pairs key) refl
 
-alike_keys : (x y : List ℕ) → slice_cmp nat_cmp x y ≡ Equal → x ≡ y
+pub alike_keys : (x y : List ℕ) → slice_cmp nat_cmp x y ≡ Equal → x ≡ y
 alike_keys = slice_cmp-IsAntisymmetric nat_cmp-IsAntisymmetric
 
 found_where : (p : List ℕ → Bool) (q : List ℕ) (es : Pairs) → find (slice_cmp nat_cmp) q (filter (λ e. p e.0) es) ≡ cond (p q) (find (slice_cmp nat_cmp) q es) None
@@ -111,7 +111,7 @@ one_first : (t : Bool) (v : ℕ) (p r : Bool) (x : Option ℕ) → (t ≡ true �
 one_first true v p r x h g = let a = h refl in ap (λ b. cond b x None) a.1 ∙ a.0
 one_first false v p r x h g = cond_same p r x (g refl)
 
-tied_same : (q key : List ℕ) → eq_by_cmp (slice_cmp nat_cmp) q key ≡ true → key ≡ q
+pub tied_same : (q key : List ℕ) → eq_by_cmp (slice_cmp nat_cmp) q key ≡ true → key ≡ q
 tied_same q key e = exact_same key q (same_as_order key q ∙ e)
 
 not_tied : (q key : List ℕ) → eq_by_cmp (slice_cmp nat_cmp) q key ≡ false → key ≡ q → ⊥
@@ -136,7 +136,7 @@ first_left m p r key v here passes others above =
     ∙ ap (λ x. cond (eq_by_cmp (slice_cmp nat_cmp) q key) (Some v) x) (sym (found_where r q (entries m))))
 
 -- an end that is past a key is past the keys below it
-le_more : (a b c : List ℕ) → is_le (slice_cmp nat_cmp a b) ≡ true → is_le (slice_cmp nat_cmp b c) ≡ true → is_le (slice_cmp nat_cmp a c) ≡ true
+pub le_more : (a b c : List ℕ) → is_le (slice_cmp nat_cmp a b) ≡ true → is_le (slice_cmp nat_cmp b c) ≡ true → is_le (slice_cmp nat_cmp a c) ≡ true
 le_more a b c = by (slice_cmp nat_cmp a b) (slice_cmp nat_cmp b c) refl refl
   where
     by : (o s : Ordering) → slice_cmp nat_cmp a b ≡ o → slice_cmp nat_cmp b c ≡ s → is_le o ≡ true → is_le s ≡ true → is_le (slice_cmp nat_cmp a c) ≡ true
@@ -148,7 +148,7 @@ le_more a b c = by (slice_cmp nat_cmp a b) (slice_cmp nat_cmp b c) refl refl
     by Equal Greater e f h g = absurd (cc)
     by Greater s e f h g = absurd (cc)
 
-lt_more : (a b c : List ℕ) → is_le (slice_cmp nat_cmp a b) ≡ true → is_lt (slice_cmp nat_cmp b c) ≡ true → is_lt (slice_cmp nat_cmp a c) ≡ true
+pub lt_more : (a b c : List ℕ) → is_le (slice_cmp nat_cmp a b) ≡ true → is_lt (slice_cmp nat_cmp b c) ≡ true → is_lt (slice_cmp nat_cmp a c) ≡ true
 lt_more a b c = by (slice_cmp nat_cmp a b) (slice_cmp nat_cmp b c) refl refl
   where
     by : (o s : Ordering) → slice_cmp nat_cmp a b ≡ o → slice_cmp nat_cmp b c ≡ s → is_le o ≡ true → is_lt s ≡ true → is_lt (slice_cmp nat_cmp a c) ≡ true
@@ -235,11 +235,11 @@ less_is Less h = refl
 less_is Equal h = absurd h
 less_is Greater h = absurd h
 
-first_T : (a b : Bool) → T (a && b) → T a
+pub first_T : (a b : Bool) → T (a && b) → T a
 first_T true b h = tt
 first_T false b h = absurd h
 
-second_T : (a b : Bool) → T (a && b) → T b
+pub second_T : (a b : Bool) → T (a && b) → T b
 second_T true b h = h
 second_T false b h = absurd h
 

@@ -8,5 +8,7 @@ mod CharLemmas
 mod TableLemmas
 mod PlaceLemmas
 mod OrderLemmas
-mod PathLemmas
+pub mod PathLemmas
 mod LeftLemmas
+mod LastLemmas
+mod TurnLemmas

@@ -62,7 +62,7 @@ met_filter p [] c keep j l is = absurd (omega arith)
 met_filter p (x ∷ es) c keep zero l is = rw (ap p is ∙ keep) (0, omega arith, is)
 met_filter p (x ∷ es) c keep (suc j) l is = met_kept p x es c (p x) refl (met_filter p es c keep j (omega arith) is)
 
-met_key : (pairs : Pairs) (c : ℕ) (key : List ℕ) (v : ℕ) → value_at simple_ascii pairs (c ∷ key) ≡ Some v → Met (met pairs) c
+pub met_key : (pairs : Pairs) (c : ℕ) (key : List ℕ) (v : ℕ) → value_at simple_ascii pairs (c ∷ key) ≡ Some v → Met (met pairs) c
 met_key [] c key v e = absurd (some_none v (sym e))
 met_key (([], w) ∷ pairs) c key v e = met_key pairs c key v e
 met_key ((d ∷ k, w) ∷ pairs) c key v e = elim (cases_eq d c) [

@@ -12,3 +12,4 @@ pub mod Laws
 pub mod Sorted
 pub mod Paths
 pub mod SortedLaws
+pub mod Lasts

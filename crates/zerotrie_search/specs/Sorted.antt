@@ -1,14 +1,15 @@
 -- The pairs of a map in the order of bytes.
-use Rattle.std.specs.Prelude.{ℕ, List, [], ◌∷◌, Bool, true, false, Option, Some, None, Result, Ok, Err, filter}
+use Rattle.std.specs.Prelude.{◌≡◌, ◌<◌, ◌+◌, ℕ, List, [], ◌∷◌, Bool, true, false, Option, Some, None, Result, Ok, Err, filter, if◌then◌else◌}
 use Rattle.std.specs.FinMap.{entries}
 use Rattle.std.specs.Range.Bound.{bounds_contain}
 use Rattle.std.specs.declared.alloc.AllocError.{AllocError}
 use Rattle.std.specs.declared.ops.Bound.{Bound}
 use Rattle.zerotrie_base.specs.Kind.{Kind}
 use Rattle.zerotrie_base.specs.Maps.{Pairs, Map}
-use Rattle.zerotrie_core.specs.Listings.{Left}
+use Rattle.zerotrie_core.specs.Listings.{Left, ListsOne, MemoryOnly}
 use Rattle.zerotrie_core.specs.declared.listing.ListError.{ListError}
 use Rattle.zerotrie_core.specs.declared.listing.ListError.TheVariants.{OutOfMemory}
+use Rattle.zerotrie_core.specs.WellFormed.{IsWellFormed}
 use Rattle.zerotrie_search.specs.Sets.{by_bytes}
 
 -- the pairs of a map whose keys are between two bounds, in ascending order of their keys
@@ -42,6 +43,22 @@ abbrev pub sorted_item : Result Bool AllocError → Sorting → Option (Result (
 sorted_item (Ok true) after = Some (Ok (after.key, after.value))
 sorted_item (Ok false) after = None
 sorted_item (Err e) after = Some (Err OutOfMemory)
+
+-- at most how many items are to come on any bytes: each pair, or an error
+abbrev pub sorted_turns : Sorting → ℕ
+sorted_turns s = if s.left.ended then 0 else 1 + s.most
+
+-- a call of `advance` takes one of so many turns if it finds a pair, and else leaves none
+abbrev pub Spends : Result Bool AllocError → ℕ → ℕ → Type 0
+Spends (Ok true) before after = before ≡ 1 + after
+Spends (Ok false) before after = after ≡ 0
+Spends (Err e) before after = (0 < before) × (after ≡ 0)
+
+-- One call of `next` of a sorted iterator. Over bytes that mean a map it is that of a listing.
+pub record SortsOne {K : Type 0} (key : K → List ℕ) (before : Sorting) (item : Option (Result (K × ℕ) ListError)) (after : Sorting) : Type 0 where
+  pub lists : IsWellFormed before.kind before.bytes → ListsOne key MemoryOnly before.left item after.left
+  pub kind : after.kind ≡ before.kind
+  pub bytes : after.bytes ≡ before.bytes
 
 -- to how many pairs a call of `advance` moved
 abbrev pub moved : Result Bool AllocError → ℕ

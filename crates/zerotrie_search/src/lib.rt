@@ -27,6 +27,6 @@ pub use levenshtein::{CharsState, Levenshtein, LevenshteinChars};
 pub use prefix::StartsWith;
 pub use range::KeyRange;
 pub use search::ZeroTrieSearch;
-pub use sorted::ZeroTrieSorted;
+pub use sorted::{ZeroTrieSorted, ZeroTrieSortedIterator};
 pub use subsequence::Subsequence;
 pub use tries::Search;

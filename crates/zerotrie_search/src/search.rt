@@ -9,7 +9,7 @@ use crate::automaton::Automaton;
 use crate::trail::{Verdict, read};
 use std::alloc::{AllocError, Allocator, Global};
 use std::marker::Model;
-use zerotrie_core::{Reached, ZeroTrieStream};
+use zerotrie_core::{PairStream, Reached, ZeroTrieStream};
 
 /// Lists the pairs of a stream whose keys an automaton accepts, in the stream's order, each key
 /// borrowed from one buffer.
@@ -66,7 +66,8 @@ impl<'a, T: Automaton, A: Allocator> ZeroTrieSearch<'a, T, A> {
     /// The only error is a failed allocation for a longer key or a deeper branch.
     pub fn advance(&mut self) -> Result<bool, AllocError>
         ensures lists { ListsOne (λ key. key) MemoryOnly self.old.left
-            (item_of result self.new.stream) self.new.left }
+            (item_of result (self.new.stream.key, self.new.stream.value))
+            self.new.left }
         ensures automaton { self.new.automaton ≡ self.old.automaton }
         ensures state { IfOk result (λ found. found ≡ true
             → T.IsAfter self.new.automaton self.new.stream.key self.new.state) }
@@ -131,6 +132,24 @@ impl<'a, T: Automaton, A: Allocator + Copy> ZeroTrieSearch<'a, T, A> {
     }
 }
 
+impl<'a, T: Automaton, A: Allocator> PairStream for ZeroTrieSearch<'a, T, A> {
+    ghost left = { λ s. s.left };
+
+    ghost current = { λ s. (s.stream.key, s.stream.value) };
+
+    fn advance(&mut self) -> Result<bool, AllocError> {
+        ZeroTrieSearch::advance(self)
+    }
+
+    fn key(&self) -> &[u8] {
+        ZeroTrieSearch::key(self)
+    }
+
+    fn value(&self) -> usize {
+        ZeroTrieSearch::value(self)
+    }
+}
+
 /// Moves a stream to the next pair whose key is accepted.
 fn next_accepted<'a, T: Automaton, A: Allocator>(
     automaton: &T,
@@ -148,7 +167,8 @@ fn next_accepted<'a, T: Automaton, A: Allocator>(
         → IsFront (trail_bytes trail.new.items) pairs.new.key }
     ensures lists { ListsOne (λ key. key) MemoryOnly
         (accepted_left (T.accepts automaton.now) pairs.old.left)
-        (item_of result pairs.new) (accepted_left (T.accepts automaton.now) pairs.new.left) }
+        (item_of result (pairs.new.key, pairs.new.value))
+        (accepted_left (T.accepts automaton.now) pairs.new.left) }
     ensures state { IfOk result (λ found. found ≡ true
         → T.IsAfter automaton.now pairs.new.key state.new) }
 {

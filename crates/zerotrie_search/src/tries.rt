@@ -11,12 +11,12 @@ ghost use Rattle.zerotrie_core.specs.Listings.{rest_after, to_come};
 ghost use Rattle.zerotrie_any.specs.Flavors.{flavor_kind};
 ghost use Rattle.zerotrie_search.specs.Searches.{IsSearch};
 ghost use Rattle.zerotrie_search.specs.Sets.{by_bytes};
-ghost use Rattle.zerotrie_search.specs.Sorted.{within, first_of};
+ghost use Rattle.zerotrie_search.specs.Sorted.{within, first_of, last_of};
 
 use crate::automaton::Automaton;
 use crate::range::KeyRange;
 use crate::search::ZeroTrieSearch;
-use crate::sorted::ZeroTrieSorted;
+use crate::sorted::{ZeroTrieSorted, ZeroTrieSortedIterator, last_between};
 use std::alloc::{AllocError, Global};
 use std::ops::Bound;
 use zerotrie_any::{ZeroTrie, ZeroTrieFlavor};
@@ -165,6 +165,40 @@ pub trait Search {
         Ok(sorted)
     }
 
+    /// Returns an iterator over the pairs whose keys are between two bounds, in ascending order of
+    /// bytes. Each key is in memory of its own.
+    ///
+    /// ```
+    /// use std::ops::Bound;
+    ///
+    /// let words = [("trial", 1), ("trie", 2), ("trio", 3)];
+    /// let trie = ZeroTriePerfectHash::try_from_iter(rt.alloc(), words)?;
+    /// let mut sum = 0usize;
+    /// for item in trie.iter_sorted(rt.alloc(), Bound::Unbounded, Bound::Included(b"trie"))? {
+    ///     sum = sum.wrapping_mul(10).wrapping_add(item?.1);
+    /// }
+    /// assert_eq!(rt; sum, 12);
+    /// ```
+    ///
+    /// `stream_sorted` lists the same pairs without allocating each key. An error means that an
+    /// allocation failed.
+    fn iter_sorted<'p>(
+        &self,
+        alloc: Global,
+        from: Bound<&[u8]>,
+        to: Bound<&'p [u8]>,
+    ) -> Result<ZeroTrieSortedIterator<'_, 'p>, AllocError>
+        ensures pairs { IfOk result (λ s. (m : Map) → Means (kind self.now) (bytes self.now) m
+            → s.left ≡ to_come (within (bound_map (λ b. b.now) from.entry)
+            (bound_map (λ b. b.now) to.entry) m)) }
+        ensures most { IfOk result (λ s. s.most ≤ length (bytes self.now)) }
+        ensures kind { IfOk result (λ s. s.kind ≡ kind self.now) }
+        ensures bytes { IfOk result (λ s. s.bytes ≡ bytes self.now) }
+    {
+        let sorted = self.stream_sorted(alloc, from, to)?;
+        Ok(ZeroTrieSortedIterator::new(sorted))
+    }
+
     /// Returns the least pair, by the bytes of its key, whose key is at least this one, or `None` if
     /// there is none.
     ///
@@ -207,6 +241,60 @@ pub trait Search {
         let sorted = self.stream_sorted(alloc, Bound::Excluded(key), Bound::Unbounded)?;
         let first = sorted.first()?;
         Ok(first)
+    }
+
+    /// Returns the greatest pair, by the bytes of its key, whose key is below this one, or `None` if
+    /// there is none.
+    ///
+    /// ```
+    /// let words = [("trial", 1), ("trie", 2), ("trio", 3)];
+    /// let trie = ZeroTriePerfectHash::try_from_iter(rt.alloc(), words)?;
+    /// let (key, value) = trie.last_before(rt.alloc(), b"trie")?.ok_or("none")?;
+    /// assert_eq!(rt; (key.as_slice(), value), (b"trial".as_slice(), 1));
+    /// assert!(rt; trie.last_before(rt.alloc(), b"trial")?.is_none());
+    /// ```
+    ///
+    /// It costs what `first_from` does. On malformed bytes the result is unspecified. An error means
+    /// that an allocation failed.
+    fn last_before(&self, alloc: Global, key: &[u8]) -> Result<Option<(Vec<u8>, usize)>, AllocError>
+        ensures { IfOk result (λ r. (m : Map) → Means (kind self.now) (bytes self.now) m
+            → option_map {U = List ℕ × ℕ} (λ p. (p.0.items, p.1)) r
+            ≡ last_of (within Unbounded (Excluded key.now) m)) }
+    {
+        self.last_within(alloc, Bound::Unbounded, Bound::Excluded(key))
+    }
+
+    /// Returns the greatest pair, by the bytes of its key, whose key is between two bounds, or `None`
+    /// if there is none.
+    ///
+    /// ```
+    /// use std::ops::Bound;
+    ///
+    /// let words = [("trial", 1), ("trie", 2), ("trio", 3)];
+    /// let trie = ZeroTriePerfectHash::try_from_iter(rt.alloc(), words)?;
+    /// let last = trie.last_within(rt.alloc(), Bound::Unbounded, Bound::Unbounded)?;
+    /// assert_eq!(rt; last.map(|pair| pair.1), Some(3));
+    /// let to = Bound::Included(b"tribe".as_slice());
+    /// let last = trie.last_within(rt.alloc(), Bound::Unbounded, to)?;
+    /// assert_eq!(rt; last.map(|pair| pair.1), Some(1));
+    /// assert!(rt; trie.last_within(rt.alloc(), Bound::Excluded(b"trial"), to)?.is_none());
+    /// ```
+    ///
+    /// It compares the edges at one place for each byte that it goes back or down. On malformed bytes
+    /// the result is unspecified. An error means that an allocation failed.
+    fn last_within(
+        &self,
+        alloc: Global,
+        from: Bound<&[u8]>,
+        to: Bound<&[u8]>,
+    ) -> Result<Option<(Vec<u8>, usize)>, AllocError>
+        ensures { IfOk result (λ r. (m : Map) → Means (kind self.now) (bytes self.now) m
+            → option_map {U = List ℕ × ℕ} (λ p. (p.0.items, p.1)) r
+            ≡ last_of (within (bound_map (λ b. b.now) from.entry)
+            (bound_map (λ b. b.now) to.entry) m)) }
+    {
+        let (options, bytes) = self.parts();
+        last_between(alloc, options, bytes, from, to)
     }
 }
 

@@ -23,13 +23,6 @@ left_of false pairs = to_come pairs
 abbrev pub pair_at : Items → ℕ → List ℕ × ℕ
 pair_at items i = option_map_or {U = List ℕ × ℕ} (λ e. (e.0.now, e.1)) (slice_get items i) ([], 0)
 
--- the result of a call of `advance` as an item of the listing: the current pair after it, or the
--- error, or the end
-abbrev pub item_of : Result Bool AllocError → List ℕ × ℕ → Option (Result (List ℕ × ℕ) ListError)
-item_of (Ok true) current = Some (Ok current)
-item_of (Ok false) current = None
-item_of (Err e) current = Some (Err OutOfMemory)
-
 -- What is left of a listing of anything: the items to come, in this order, and whether it has ended.
 pub record Coming (X : Type 0) : Type 0 where
   pub items : List X

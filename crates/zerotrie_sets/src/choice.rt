@@ -4,8 +4,8 @@ ghost use Rattle.std.specs.Prelude.{◌≡◌, ℕ, Option};
 ghost use Rattle.zerotrie_sets.specs.Choices.{Finds, chosen_left};
 
 use crate::merge::Merge;
-use crate::stream::SortedStream;
 use std::alloc::AllocError;
+use zerotrie_core::PairStream;
 
 /// Chooses a value of what two streams have for a key, or passes over the key.
 pub trait Choice {
@@ -19,7 +19,7 @@ pub trait Choice {
 }
 
 /// Moves a merge to the next row of which something is chosen, and returns that.
-pub fn next_chosen<S: SortedStream, T: SortedStream, C: Choice>(
+pub fn next_chosen<S: PairStream, T: PairStream, C: Choice>(
     choice: &C,
     rows: &mut Merge<S, T>,
 ) -> Result<Option<C::Value>, AllocError>

@@ -8,9 +8,9 @@ ghost use Rattle.zerotrie_sets.specs.Operations.{choose, IsCombined};
 
 use crate::choice::{Choice, next_chosen};
 use crate::merge::Merge;
-use crate::stream::SortedStream;
 use std::alloc::AllocError;
 use std::marker::Model;
+use zerotrie_core::PairStream;
 
 /// Which of two values of a key is kept.
 #[derive(Clone, Copy, Debug, PartialEq, Eq)]
@@ -82,13 +82,13 @@ impl Choice for Operation {
 /// It is a stream itself, so a union of many is a union of unions. It does not allocate, apart from
 /// what the streams do.
 #[derive(Drop)]
-pub struct Combined<S: SortedStream, T: SortedStream> {
+pub struct Combined<S: PairStream, T: PairStream> {
     rows: Merge<S, T>,
     operation: Operation,
     value: usize,
 }
 
-impl<S: SortedStream, T: SortedStream> Model for Combined<S, T> {
+impl<S: PairStream, T: PairStream> Model for Combined<S, T> {
     ghost use Rattle.zerotrie_sets.specs.Streams.{Stand};
     ghost use Rattle.zerotrie_sets.specs.Operations.{combined_left};
 
@@ -100,7 +100,7 @@ impl<S: SortedStream, T: SortedStream> Model for Combined<S, T> {
     } };
 }
 
-impl<S: SortedStream, T: SortedStream> Combined<S, T> {
+impl<S: PairStream, T: PairStream> Combined<S, T> {
     /// Combines two streams. Does nothing before the first call of `advance`.
     pub fn new(first: S, second: T, operation: Operation) -> Self
         ensures always { result.left ≡ to_come
@@ -117,7 +117,7 @@ impl<S: SortedStream, T: SortedStream> Combined<S, T> {
     }
 }
 
-impl<S: SortedStream, T: SortedStream> SortedStream for Combined<S, T> {
+impl<S: PairStream, T: PairStream> PairStream for Combined<S, T> {
     ghost left = { λ s. s.left };
 
     ghost current = { λ s. s.current };

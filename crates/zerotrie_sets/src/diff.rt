@@ -7,9 +7,9 @@ ghost use Rattle.zerotrie_sets.specs.Changes.{change, changes, IsDiff};
 
 use crate::choice::{Choice, next_chosen};
 use crate::merge::Merge;
-use crate::stream::SortedStream;
 use std::alloc::AllocError;
 use std::marker::Model;
+use zerotrie_core::PairStream;
 
 /// How a key changed from the first stream to the second.
 #[derive(Clone, Copy, Debug, PartialEq, Eq)]
@@ -65,12 +65,12 @@ impl Choice for Changes {
 ///
 /// It does not allocate, apart from what the streams do.
 #[derive(Drop)]
-pub struct Diff<S: SortedStream, T: SortedStream> {
+pub struct Diff<S: PairStream, T: PairStream> {
     rows: Merge<S, T>,
     change: Change,
 }
 
-impl<S: SortedStream, T: SortedStream> Model for Diff<S, T> {
+impl<S: PairStream, T: PairStream> Model for Diff<S, T> {
     ghost use Rattle.zerotrie_sets.specs.Changes.{Differing, changes_left};
 
     ghost Value = { Differing };
@@ -81,7 +81,7 @@ impl<S: SortedStream, T: SortedStream> Model for Diff<S, T> {
     } };
 }
 
-impl<S: SortedStream, T: SortedStream> Diff<S, T> {
+impl<S: PairStream, T: PairStream> Diff<S, T> {
     /// Compares two streams. Does nothing before the first call of `advance`.
     pub fn new(first: S, second: T) -> Self
         ensures always { result.left

@@ -6,9 +6,9 @@ ghost use Rattle.zerotrie_sets.specs.Inputs.{pending, listed, Fetches};
 ghost use Rattle.zerotrie_sets.specs.ManyInputs.{after_key, held_after, waiting_key};
 ghost use Rattle.zerotrie_sets.specs.declared.input.Held.TheVariants.{Listed};
 
-use crate::stream::SortedStream;
 use std::alloc::AllocError;
 use std::cmp::Ordering;
+use zerotrie_core::PairStream;
 
 /// What became of the current pair of an input.
 #[derive(Clone, Copy, Debug, PartialEq, Eq)]
@@ -42,7 +42,7 @@ fn held_after(held: Held, this: &[u8], key: &[u8]) -> Held
     }
 }
 
-impl<S: SortedStream> Input<S> {
+impl<S: PairStream> Input<S> {
     /// Returns an input of which nothing is listed.
     pub fn new(stream: S) -> Self
         ensures { pending (S.left result.stream) (S.current result.stream) result.held

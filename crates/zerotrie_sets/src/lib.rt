@@ -10,7 +10,6 @@ mod merge;
 mod merge_all;
 mod slice;
 mod sorted;
-mod stream;
 
 pub use combined::{Combined, Keep, Operation};
 pub use diff::{Change, Diff};
@@ -18,4 +17,4 @@ pub use merge::Merge;
 pub use merge_all::MergeAll;
 pub use slice::SortedSlice;
 pub use sorted::SortedTrie;
-pub use stream::{SimpleStream, SortedStream};
+pub use zerotrie_core::PairStream;

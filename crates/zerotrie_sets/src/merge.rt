@@ -6,10 +6,10 @@ ghost use Rattle.zerotrie_sets.specs.Merges.{joined};
 ghost use Rattle.zerotrie_sets.specs.Inputs.{pending, row_of, lesser, MergesOne};
 
 use crate::input::{Held, Input};
-use crate::stream::SortedStream;
 use std::alloc::AllocError;
 use std::cmp::Ordering;
 use std::marker::Model;
+use zerotrie_core::PairStream;
 
 /// Lists the keys of two streams in the order of bytes, each key once, with the value that each
 /// stream has for it.
@@ -30,13 +30,13 @@ use std::marker::Model;
 /// It does not allocate, apart from what the streams do. If the pairs of a stream do not ascend, it
 /// takes the lesser of the two first keys at each step.
 #[derive(Drop)]
-pub struct Merge<S: SortedStream, T: SortedStream> {
+pub struct Merge<S: PairStream, T: PairStream> {
     first: Input<S>,
     second: Input<T>,
     ended: bool,
 }
 
-impl<S: SortedStream, T: SortedStream> Model for Merge<S, T> {
+impl<S: PairStream, T: PairStream> Model for Merge<S, T> {
     ghost use Rattle.zerotrie_sets.specs.Streams.{coming};
     ghost use Rattle.zerotrie_sets.specs.Merges.{Merging, joined};
     ghost use Rattle.zerotrie_sets.specs.Inputs.{pending, row_of};
@@ -51,7 +51,7 @@ impl<S: SortedStream, T: SortedStream> Model for Merge<S, T> {
     } };
 }
 
-impl<S: SortedStream, T: SortedStream> Merge<S, T> {
+impl<S: PairStream, T: PairStream> Merge<S, T> {
     /// Merges two streams. Does nothing before the first call of `advance`.
     pub fn new(first: S, second: T) -> Self
         ensures { result.left ≡ coming false (joined (S.left first).pairs (T.left second).pairs) }
@@ -104,7 +104,7 @@ impl<S: SortedStream, T: SortedStream> Merge<S, T> {
 }
 
 /// Returns which of two inputs has the lesser key, or `None` if no pair waits.
-fn lesser<S: SortedStream, T: SortedStream>(first: &Input<S>, second: &Input<T>) -> Option<Ordering>
+fn lesser<S: PairStream, T: PairStream>(first: &Input<S>, second: &Input<T>) -> Option<Ordering>
     ensures { result ≡ lesser (S.current first.now.stream) first.now.held
         (T.current second.now.stream) second.now.held }
 {
@@ -117,7 +117,7 @@ fn lesser<S: SortedStream, T: SortedStream>(first: &Input<S>, second: &Input<T>)
 }
 
 /// Moves to the next row, and returns whether there is one.
-fn next_row<S: SortedStream, T: SortedStream>(
+fn next_row<S: PairStream, T: PairStream>(
     first: &mut Input<S>,
     second: &mut Input<T>,
 ) -> Result<bool, AllocError>

@@ -9,10 +9,10 @@ ghost use Rattle.zerotrie_sets.specs.Rows.{all_joined, first_of, last_of, EachAs
 ghost use Rattle.zerotrie_sets.specs.ManyInputs.{pendings, after_key, least_key, lesser_key, listed_all, AllFetched};
 
 use crate::input::Input;
-use crate::stream::SortedStream;
 use std::alloc::{AllocError, Allocator, Global};
 use std::cmp::Ordering;
 use std::marker::Model;
+use zerotrie_core::PairStream;
 
 /// Lists the keys of any number of streams in the order of bytes, each key once, with the value
 /// that each stream has for it.
@@ -32,13 +32,13 @@ use std::marker::Model;
 /// It allocates for the streams at first, and then for the longest key alone. A step costs a
 /// comparison of keys for each stream.
 #[derive(Drop)]
-pub struct MergeAll<S: SortedStream, A: Allocator = Global> {
+pub struct MergeAll<S: PairStream, A: Allocator = Global> {
     inputs: Vec<Input<S>, A>,
     key: Vec<u8, A>,
     ended: bool,
 }
 
-impl<S: SortedStream, A: Allocator> Model for MergeAll<S, A> {
+impl<S: PairStream, A: Allocator> Model for MergeAll<S, A> {
     ghost use Rattle.zerotrie_sets.specs.Streams.{coming};
     ghost use Rattle.zerotrie_sets.specs.Rows.{MergingAll, all_joined};
     ghost use Rattle.zerotrie_sets.specs.ManyInputs.{pendings, listed_all};
@@ -51,7 +51,7 @@ impl<S: SortedStream, A: Allocator> Model for MergeAll<S, A> {
     } };
 }
 
-impl<S: SortedStream + Drop, A: Allocator + Copy> MergeAll<S, A> {
+impl<S: PairStream + Drop, A: Allocator + Copy> MergeAll<S, A> {
     /// Merges streams. Does not advance them before the first call of `advance`.
     pub fn new(alloc: A, streams: Vec<S, A>) -> Result<Self, AllocError>
         ensures always { IfOk result (λ rows. rows.left
@@ -72,7 +72,7 @@ impl<S: SortedStream + Drop, A: Allocator + Copy> MergeAll<S, A> {
     }
 }
 
-impl<S: SortedStream, A: Allocator> MergeAll<S, A> {
+impl<S: PairStream, A: Allocator> MergeAll<S, A> {
     /// Moves to the next key, and returns whether there is one. An error ends the merge. The only
     /// error is a failed allocation for a longer key or in a stream.
     pub fn advance(&mut self) -> Result<bool, AllocError>
@@ -124,7 +124,7 @@ impl<S: SortedStream, A: Allocator> MergeAll<S, A> {
 }
 
 /// Returns the first value that was listed.
-fn first_listed<S: SortedStream>(inputs: &[Input<S>]) -> Option<usize>
+fn first_listed<S: PairStream>(inputs: &[Input<S>]) -> Option<usize>
     ensures { result ≡ first_of (listed_all S.current inputs.now) }
 {
     for input in inputs {
@@ -137,7 +137,7 @@ fn first_listed<S: SortedStream>(inputs: &[Input<S>]) -> Option<usize>
 }
 
 /// Returns the last value that was listed.
-fn last_listed<S: SortedStream>(inputs: &[Input<S>]) -> Option<usize>
+fn last_listed<S: PairStream>(inputs: &[Input<S>]) -> Option<usize>
     ensures { result ≡ last_of (listed_all S.current inputs.now) }
 {
     let mut last = None;
@@ -148,7 +148,7 @@ fn last_listed<S: SortedStream>(inputs: &[Input<S>]) -> Option<usize>
 }
 
 /// Moves each input to its first pair that is still to be listed.
-fn fetch_all<S: SortedStream>(inputs: &mut [Input<S>]) -> Result<(), AllocError>
+fn fetch_all<S: PairStream>(inputs: &mut [Input<S>]) -> Result<(), AllocError>
     ensures { IfOk result (λ _. AllFetched inputs.new
         × (pendings S.left S.current inputs.new ≡ pendings S.left S.current inputs.old)) }
 {
@@ -174,7 +174,7 @@ fn lesser_key<'k>(least: Option<&'k [u8]>, waiting: Option<&'k [u8]>) -> Option<
 }
 
 /// Returns the least key that waits.
-fn least<S: SortedStream>(inputs: &[Input<S>]) -> Option<&[u8]>
+fn least<S: PairStream>(inputs: &[Input<S>]) -> Option<&[u8]>
     ensures { option_map (λ k. k.now) result ≡ least_key S.current None inputs.now }
 {
     let mut least: Option<&[u8]> = None;
@@ -185,7 +185,7 @@ fn least<S: SortedStream>(inputs: &[Input<S>]) -> Option<&[u8]>
 }
 
 /// Copies the least key that waits, and returns whether there is one.
-fn take_least<S: SortedStream, A: Allocator>(
+fn take_least<S: PairStream, A: Allocator>(
     inputs: &[Input<S>],
     key: &mut Vec<u8, A>,
 ) -> Result<bool, AllocError>
@@ -201,7 +201,7 @@ fn take_least<S: SortedStream, A: Allocator>(
 }
 
 /// Lists the pairs that wait with this key.
-fn list_all<S: SortedStream>(inputs: &mut [Input<S>], key: &[u8])
+fn list_all<S: PairStream>(inputs: &mut [Input<S>], key: &[u8])
     ensures { inputs.new ≡ map (after_key S.current key.now) inputs.old }
 {
     for input in inputs.iter_mut() {
@@ -210,7 +210,7 @@ fn list_all<S: SortedStream>(inputs: &mut [Input<S>], key: &[u8])
 }
 
 /// Moves to the next row, and returns whether there is one.
-fn next_row<S: SortedStream, A: Allocator>(
+fn next_row<S: PairStream, A: Allocator>(
     inputs: &mut [Input<S>],
     key: &mut Vec<u8, A>,
 ) -> Result<bool, AllocError>

@@ -5,9 +5,9 @@ ghost use Rattle.zerotrie_core.specs.Items.{pairs_of};
 ghost use Rattle.zerotrie_core.specs.Maps.{Ascends};
 ghost use Rattle.zerotrie_core.specs.Listings.{to_come};
 
-use crate::stream::SortedStream;
 use std::alloc::AllocError;
 use std::marker::Model;
+use zerotrie_core::PairStream;
 
 /// Lists the pairs of a slice whose keys ascend by bytes.
 ///
@@ -71,7 +71,7 @@ impl<'a, 'k> SortedSlice<'a, 'k> {
     }
 }
 
-impl<'a, 'k> SortedStream for SortedSlice<'a, 'k> {
+impl<'a, 'k> PairStream for SortedSlice<'a, 'k> {
     ghost left = { λ s. s.left };
 
     ghost current = { λ s. s.current };

@@ -7,10 +7,10 @@ ghost use Rattle.zerotrie_core.specs.Texts.{Means};
 ghost use Rattle.zerotrie_core.specs.Listings.{to_come};
 ghost use Rattle.zerotrie_core.specs.WellFormed.{IsWellFormed};
 
-use crate::stream::SortedStream;
 use std::alloc::{AllocError, Allocator, Global};
 use std::marker::Model;
 use std::ops::Bound;
+use zerotrie_core::PairStream;
 use zerotrie_search::laws::sorted_listing_ascends;
 use zerotrie_search::{Search, ZeroTrieSorted};
 
@@ -100,7 +100,7 @@ impl<'a> SortedTrie<'a, 'a> {
     }
 }
 
-impl<'a, 'p, A: Allocator> SortedStream for SortedTrie<'a, 'p, A> {
+impl<'a, 'p, A: Allocator> PairStream for SortedTrie<'a, 'p, A> {
     ghost left = { λ s. s.left };
 
     ghost current = { λ s. s.current };

@@ -100,6 +100,10 @@ extern "C" {
         prefix_len: usize, search: *const Search, goes_on: bool, last: *const u8, last_len: usize,
         keys: *mut u8, keys_len: usize, ends: *mut usize, ends_len: usize, values: *mut usize,
         values_len: usize, count: *mut usize, next_len: *mut usize) -> u32;
+    pub fn zerotrie_sorted_some(kind: u32, bytes: *const u8, len: usize, from_bound: u32,
+        from: *const u8, from_len: usize, to_bound: u32, to: *const u8, to_len: usize,
+        keys: *mut u8, keys_len: usize, ends: *mut usize, ends_len: usize, values: *mut usize,
+        values_len: usize, count: *mut usize, next_len: *mut usize) -> u32;
     pub fn zerotrie_index_get(bytes: *const u8, len: usize, key: *const u8, key_len: usize,
         value: *mut usize) -> bool;
     pub fn zerotrie_index_is_valid(bytes: *const u8, len: usize) -> bool;

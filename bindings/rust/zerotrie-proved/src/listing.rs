@@ -1,7 +1,7 @@
 //! Cursors and listings.
 
 use crate::error::Error;
-use crate::search::Search;
+use crate::search::{Search, EXCLUDED};
 use crate::{ffi, Kind};
 use alloc::{vec, vec::Vec};
 use core::fmt;
@@ -252,9 +252,22 @@ impl Items {
         search: &Search,
         room: usize,
     ) -> (u32, usize) {
-        let (raw, prefix) = (search.raw(), search.prefix());
         let (from, at) = (self.keys.len(), self.ends.len());
         let places = room / (from / at.max(1)).max(4) + 1;
+        self.list_places(kind, bytes, search, room, places)
+    }
+
+    /// Lists the next part, of at most this many pairs.
+    pub(crate) fn list_places(
+        &mut self,
+        kind: Kind,
+        bytes: &[u8],
+        search: &Search,
+        room: usize,
+        places: usize,
+    ) -> (u32, usize) {
+        let (raw, prefix) = (search.raw(), search.prefix());
+        let (from, at) = (self.keys.len(), self.ends.len());
         let last_from = if at < 2 { 0 } else { self.ends[at - 2] };
         self.keys.resize(from + room, 0);
         self.ends.resize(at + places, 0);
@@ -266,6 +279,30 @@ impl Items {
         // search points to slices that it owns.
         let status = unsafe {
             match &raw {
+                Some(range) if search.is_sorted() => {
+                    let low = ffi::Bytes { ptr: last.as_ptr(), len: last.len() };
+                    let (bound, low) =
+                        if at > 0 { (EXCLUDED, low) } else { (range.from_bound, range.text) };
+                    ffi::zerotrie_sorted_some(
+                        kind.number(),
+                        bytes.as_ptr(),
+                        bytes.len(),
+                        bound,
+                        low.ptr,
+                        low.len,
+                        range.to_bound,
+                        range.to.ptr,
+                        range.to.len,
+                        keys.as_mut_ptr(),
+                        keys.len(),
+                        self.ends[at..].as_mut_ptr(),
+                        places,
+                        self.values[at..].as_mut_ptr(),
+                        places,
+                        &mut count,
+                        &mut next_len,
+                    )
+                }
                 None => ffi::zerotrie_list_some(
                     kind.number(),
                     bytes.as_ptr(),

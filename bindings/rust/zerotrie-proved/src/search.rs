@@ -76,6 +76,7 @@ pub struct Search {
     to: Vec<u8>,
     prefix: Vec<u8>,
     beginnings: bool,
+    sorted: bool,
 }
 
 const BY_RANGE: u32 = 0;
@@ -85,6 +86,8 @@ const BY_EDITS: u32 = 3;
 const BY_CHAR_EDITS: u32 = 4;
 
 const UNBOUNDED: u32 = 0;
+const INCLUDED: u32 = 1;
+pub(crate) const EXCLUDED: u32 = 2;
 
 impl Search {
     fn new(by: u32, text: &[u8], edits: u32) -> Self {
@@ -97,6 +100,7 @@ impl Search {
             to: Vec::new(),
             prefix: Vec::new(),
             beginnings: false,
+            sorted: false,
         }
     }
 
@@ -112,6 +116,17 @@ impl Search {
         let (from, to) = bounds.key_bounds();
         let ((from_bound, from), (to_bound, to)) = (bound_of(from), bound_of(to));
         Search { from_bound, to_bound, to: to.to_vec(), ..Search::new(BY_RANGE, from, 0) }
+    }
+
+    /// The keys within these bounds, which are listed in the order of bytes in every kind.
+    #[allow(clippy::needless_pass_by_value)] // a range is written where it is passed
+    pub(crate) fn sorted(bounds: impl KeyBounds) -> Self {
+        Search { sorted: true, ..Search::range(bounds) }
+    }
+
+    /// Whether it lists in the order of bytes, which it does without a prefix.
+    pub(crate) fn is_sorted(&self) -> bool {
+        self.sorted
     }
 
     /// The keys that a pattern matches, as `s*ing`: `*` is any number of bytes, `?` one byte, and
@@ -170,7 +185,9 @@ impl Search {
 
     /// The search as the library has it. `None` if it finds all keys.
     pub(crate) fn raw(&self) -> Option<ffi::Search> {
-        if (self.by, self.from_bound, self.to_bound) == (BY_RANGE, UNBOUNDED, UNBOUNDED) {
+        let finds_all =
+            (self.by, self.from_bound, self.to_bound) == (BY_RANGE, UNBOUNDED, UNBOUNDED);
+        if finds_all && !self.sorted {
             return None;
         }
         let bytes = |text: &[u8]| ffi::Bytes { ptr: text.as_ptr(), len: text.len() };
@@ -199,12 +216,12 @@ impl Search {
 fn bound_of(bound: Bound<&[u8]>) -> (u32, &[u8]) {
     match bound {
         Bound::Unbounded => (UNBOUNDED, &[]),
-        Bound::Included(key) => (1, key),
-        Bound::Excluded(key) => (2, key),
+        Bound::Included(key) => (INCLUDED, key),
+        Bound::Excluded(key) => (EXCLUDED, key),
     }
 }
 
-/// The pairs whose keys a search finds, in the order of the bytes. It lists a part of them at a
+/// The pairs whose keys a search finds, or all pairs in the order of their keys. It lists a part of them at a
 /// time, so the first few cost little.
 ///
 /// A part is listed by the library, which allocates. If that fails the program ends, as if a `Vec`
@@ -230,6 +247,20 @@ impl<'a> Found<'a> {
         Found { kind, bytes, search, part, room: 256, listed: 0, is_done: false }
     }
 
+    /// The first pair alone.
+    pub(crate) fn first(mut self) -> Option<(Vec<u8>, usize)> {
+        let mut room = 64;
+        loop {
+            let (status, next_len) =
+                self.part.list_places(self.kind, self.bytes, &self.search, room, 1);
+            check_memory(status);
+            if status != TOO_SMALL || self.part.len() > 0 {
+                return self.part.next();
+            }
+            room = next_len;
+        }
+    }
+
     /// The next pair, as `next`, but its key is borrowed and not copied.
     pub fn next_lent(&mut self) -> Option<(&[u8], usize)> {
         while self.part.len() == 0 && !self.is_done {
@@ -243,9 +274,7 @@ impl<'a> Found<'a> {
         self.part.keep_last();
         let (status, next_len) =
             self.part.list_part(self.kind, self.bytes, &self.search, self.room);
-        if status == OUT_OF_MEMORY {
-            alloc::alloc::handle_alloc_error(Layout::new::<Kind>());
-        }
+        check_memory(status);
         self.listed += self.part.len();
         // a trie has no more pairs than bytes: these bytes are malformed, and their parts may come
         // round
@@ -256,6 +285,13 @@ impl<'a> Found<'a> {
 
 const TOO_SMALL: u32 = 8;
 const OUT_OF_MEMORY: u32 = 11;
+
+/// Ends the program if an allocation of the library failed.
+fn check_memory(status: u32) {
+    if status == OUT_OF_MEMORY {
+        alloc::alloc::handle_alloc_error(Layout::new::<Kind>());
+    }
+}
 
 impl Iterator for Found<'_> {
     type Item = (Vec<u8>, usize);

@@ -8,6 +8,7 @@ use crate::{ffi, Kind};
 use alloc::{vec, vec::Vec};
 use core::fmt;
 use core::hash::{Hash, Hasher};
+use core::ops::Bound;
 
 /// A map from byte strings to numbers, read from bytes in place. The bytes are borrowed, as in
 /// `ZeroTrie<&[u8]>`, or owned, as in `ZeroTrie<Vec<u8>>`.
@@ -469,17 +470,60 @@ impl<D: AsRef<[u8]>> ZeroTrie<D> {
         Found::new(self.kind, self.as_bytes(), search)
     }
 
-    /// The pairs whose keys are within these bounds, in the order of the bytes.
+    /// The pairs whose keys are within these bounds, in the order of their bytes in every kind.
     ///
     /// ```
     /// # use zerotrie_proved::{Kind, ZeroTrie};
-    /// let trie = ZeroTrie::build(Kind::SimpleAscii, [("bar", 2), ("bazaar", 3), ("foo", 1)])?;
-    /// assert!(trie.range("bar".."foo").eq(trie.prefix_iter("ba")));
+    /// let trie = ZeroTrie::build(Kind::PerfectHash, [("bar", 2), ("bazaar", 3), ("foo", 1)])?;
+    /// assert!(trie.range("bar".."foo").map(|(_, value)| value).eq([2, 3]));
+    /// # Ok::<(), zerotrie_proved::Error>(())
+    /// ```
+    ///
+    /// In `IgnoreCase` upper case comes before lower case, as bytes are compared as they are
+    /// stored. A search for [`Search::range`] lists in the order of the trie's bytes.
+    #[must_use]
+    pub fn range(&self, bounds: impl KeyBounds) -> Found<'_> {
+        self.search(Search::sorted(bounds))
+    }
+
+    /// All pairs in the order of the bytes of their keys, in every kind.
+    ///
+    /// ```
+    /// # use zerotrie_proved::{Kind, ZeroTrie};
+    /// let trie = ZeroTrie::build(Kind::PerfectHash, (b'a'..=b'z').map(|b| ([b], b.into())))?;
+    /// assert!(trie.sorted().map(|(_, value)| value).eq(97..=122));
     /// # Ok::<(), zerotrie_proved::Error>(())
     /// ```
     #[must_use]
-    pub fn range(&self, bounds: impl KeyBounds) -> Found<'_> {
-        self.search(Search::range(bounds))
+    pub fn sorted(&self) -> Found<'_> {
+        self.range(..)
+    }
+
+    /// The first pair, in the order of bytes, whose key is not below this one.
+    ///
+    /// ```
+    /// # use zerotrie_proved::{Kind, ZeroTrie};
+    /// let trie = ZeroTrie::build(Kind::PerfectHash, [("trial", 1), ("trie", 2), ("trio", 3)])?;
+    /// assert_eq!(trie.first_from("tribe"), Some((b"trie".to_vec(), 2)));
+    /// assert_eq!(trie.first_from("true"), None);
+    /// # Ok::<(), zerotrie_proved::Error>(())
+    /// ```
+    #[must_use]
+    pub fn first_from(&self, key: impl AsRef<[u8]>) -> Option<(Vec<u8>, usize)> {
+        self.range(key.as_ref()..).first()
+    }
+
+    /// The first pair, in the order of bytes, whose key is after this one.
+    ///
+    /// ```
+    /// # use zerotrie_proved::{Kind, ZeroTrie};
+    /// let trie = ZeroTrie::build(Kind::PerfectHash, [("trial", 1), ("trie", 2), ("trio", 3)])?;
+    /// assert_eq!(trie.first_after("trie"), Some((b"trio".to_vec(), 3)));
+    /// # Ok::<(), zerotrie_proved::Error>(())
+    /// ```
+    #[must_use]
+    pub fn first_after(&self, key: impl AsRef<[u8]>) -> Option<(Vec<u8>, usize)> {
+        self.range((Bound::Excluded(key.as_ref()), Bound::Unbounded)).first()
     }
 
     /// The pairs whose keys a pattern matches, as `s*ing`: see [`Search::glob`].

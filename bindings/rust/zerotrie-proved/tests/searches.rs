@@ -1,5 +1,6 @@
 //! Searches against a scan of all keys by brute force, sealed files and indexes.
 use std::collections::BTreeMap;
+use std::ops::{Bound, RangeBounds};
 use zerotrie_proved::{Error, ErrorKind, Kind, Search, ZeroIndex, ZeroTrie};
 
 const KINDS: [Kind; 4] =
@@ -30,7 +31,9 @@ impl Random {
 }
 
 fn map_of(random: &mut Random) -> BTreeMap<String, usize> {
-    let (count, letters) = (random.below(400), 1 + random.byte_below(8));
+    // from 16 letters on tables are hashed, if the kind does that
+    let most = if random.below(2) == 0 { 8 } else { 26 };
+    let (count, letters) = (random.below(400), 1 + random.byte_below(most));
     (0..count).map(|n| (random.word(letters, 9), n)).collect()
 }
 
@@ -91,14 +94,35 @@ fn compare(trie: &ZeroTrie<Vec<u8>>, search: &Search, wanted: impl Fn(&[u8]) -> 
     assert_eq!(found(search.clone().within("ab")), scan(&inside), "{search:?}");
 }
 
+/// Compares sorted listings with those of a map: all, between bounds, and the first pairs.
+fn compare_sorted(trie: &ZeroTrie<Vec<u8>>, map: &BTreeMap<String, usize>, from: &str, to: &str) {
+    type Bounds<'a> = (Bound<&'a str>, Bound<&'a str>);
+    let listed = |bounds: Bounds| -> Vec<(Vec<u8>, usize)> {
+        let within = map.iter().filter(|(key, _)| bounds.contains(&key.as_str()));
+        within.map(|(key, value)| (key.clone().into_bytes(), *value)).collect()
+    };
+    let all: Bounds = (Bound::Unbounded, Bound::Unbounded);
+    assert!(trie.sorted().eq(listed(all)) && trie.range(..).eq(listed(all)));
+    let bounds = |key| [Bound::Unbounded, Bound::Included(key), Bound::Excluded(key)];
+    for low in bounds(from) {
+        for high in bounds(to) {
+            assert!(trie.range((low, high)).eq(listed((low, high))), "{low:?} {high:?}");
+        }
+    }
+    let first = |low| listed((low, Bound::Unbounded)).into_iter().next();
+    assert_eq!(trie.first_from(from), first(Bound::Included(from)));
+    assert_eq!(trie.first_after(from), first(Bound::Excluded(from)));
+}
+
 #[test]
 fn searches_find_what_a_scan_finds() -> Result<(), Error> {
     let mut random = Random(5);
     for round in 0..200 {
         let map = map_of(&mut random);
-        let trie = ZeroTrie::build(KINDS[round % 4], map)?;
+        let trie = ZeroTrie::build(KINDS[round % 4], map.clone())?;
         let (from, to) = (random.word(8, 5), random.word(8, 5));
         let (low, high) = (from.as_bytes(), to.as_bytes());
+        compare_sorted(&trie, &map, &from, &to);
         compare(&trie, &Search::range(from.clone()..to.clone()), |key| low <= key && key < high);
         compare(&trie, &Search::range(&from..=&to), |key| low <= key && key <= high);
         compare(&trie, &Search::range(&from..), |key| low <= key);
@@ -154,6 +178,14 @@ fn large_listings_come_in_parts() -> Result<(), Error> {
     let long = "x".repeat(5000);
     let keys = ZeroTrie::build(Kind::SimpleAscii, [(&long[..], 1), (&long[..4000], 2), ("y", 3)])?;
     assert_eq!(keys.glob("x*")?.map(|(key, value)| (key.len(), value)).max(), Some((5000, 1)));
+    assert!(keys.sorted().map(|(_, value)| value).eq([2, 1, 3]));
+    assert_eq!(
+        keys.first_after(&long[..4000]).map(|(key, value)| (key.len(), value)),
+        Some((5000, 1))
+    );
+    let mut numbers: Vec<_> = (0..30_000usize).map(|n| (n.to_string().into_bytes(), n)).collect();
+    numbers.sort();
+    assert!(trie.sorted().eq(numbers));
     Ok(())
 }
 
@@ -182,6 +214,8 @@ fn searches_of_any_bytes_end() -> Result<(), Error> {
             let trie = ZeroTrie::from_bytes(kind, &bytes);
             let found = trie.fuzzy(&word, 2)?.count() + trie.glob("*a*")?.count();
             assert!(found + trie.range(&word..).count() <= 6 * bytes.len() + 6);
+            assert!(trie.sorted().count() <= 2 * bytes.len() + 2);
+            let _ = trie.first_from(&word);
         }
     }
     Ok(())

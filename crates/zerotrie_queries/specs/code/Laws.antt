@@ -1,8 +1,8 @@
 -- What is written as code is read back.
-use Rattle.std.specs.Prelude.{◌≡◌, ℕ, ◌+◌, ◌<◌, ◌==◌, List, [], ◌∷◌, length, All, true, Option, Some, None, bytes_eq, cond, codes, if◌then◌else◌}
+use Rattle.std.specs.Prelude.{◌≡◌, ℕ, ◌+◌, ◌<◌, ◌==◌, List, [], ◌∷◌, length, All, true, Option, Some, None, bytes_eq, cond, codes, decimal, if◌then◌else◌}
 use Rattle.zerotrie_core.specs.Kind.{tag}
 use Rattle.zerotrie_core.specs.Kinds.{kind_of}
-use Rattle.zerotrie_queries.specs.code.Texts.{c_kind}
+use Rattle.zerotrie_queries.specs.code.Texts.{c_kind, kind_number}
 use Rattle.zerotrie_core.specs.declared.TrieKind.{TrieKind}
 use Rattle.zerotrie_queries.specs.declared.code.Language.{Language}
 use Rattle.zerotrie_queries.specs.declared.code.Language.TheVariants as lang
@@ -26,9 +26,16 @@ header_kinds =
     (codes "ZEROTRIE_SIMPLE_ASCII", 0) ∷ (codes "ZEROTRIE_PERFECT_HASH", 3) ∷ (codes "ZEROTRIE_EXTENDED_CAPACITY", 7)
     ∷ (codes "ZEROTRIE_IGNORE_CASE", 8) ∷ []
 
--- the constant that the code of C names is the number of the kind
+-- the constant that the code of C names is the number of the kind, and so is the number beside the reader
 abbrev pub CodeNamesKind : Type 0
-CodeNamesKind = (kind : TrieKind) → number_at header_kinds (c_kind kind) ≡ Some (tag (kind_of kind))
+CodeNamesKind = (kind : TrieKind) → (number_at header_kinds (c_kind kind) ≡ Some (tag (kind_of kind))) × (kind_number kind ≡ decimal (tag (kind_of kind)))
+
+-- a language over an array of C
+abbrev pub IsC : Language → Type 0
+IsC lang.Rust = ⊥
+IsC lang.C = Unit
+IsC lang.CAlone = Unit
+IsC lang.Rattle = ⊥
 
 -- how many items stand before the brace that ends a list: those with a comma after them, and the last
 abbrev pub items_before_end : List ℕ → ℕ
@@ -42,4 +49,5 @@ items_in_braces (c ∷ text) = if c == 123 then items_before_end text else items
 
 -- the array in the code of C has one item more than there are bytes, so its size less one, which is the length in the code, is their number
 abbrev pub CodeCountsBytes : Type 0
-CodeCountsBytes = (kind : TrieKind) (name bytes : List ℕ) → is_name name ≡ true → All (λ b. b < 256) bytes → items_in_braces (code lang.C kind name bytes) ≡ length bytes + 1
+CodeCountsBytes = (language : Language) (kind : TrieKind) (name bytes : List ℕ) → IsC language → is_name name ≡ true → All (λ b. b < 256) bytes
+    → items_in_braces (code language kind name bytes) ≡ length bytes + 1

@@ -26,10 +26,18 @@ rattle_type Ignore = codes "ZeroAsciiIgnoreCaseTrie"
 rattle_type Hash = codes "ZeroTriePerfectHash"
 rattle_type Ext = codes "ZeroTrieExtendedCapacity"
 
+-- its number
+abbrev pub kind_number : TrieKind → List ℕ
+kind_number Simple = codes "0"
+kind_number Ignore = codes "8"
+kind_number Hash = codes "3"
+kind_number Ext = codes "7"
+
 -- the name that code has if no other is asked for
 abbrev pub usual_name : Language → List ℕ
 usual_name lang.Rust = codes "TRIE"
 usual_name lang.C = codes "trie"
+usual_name lang.CAlone = codes "trie"
 usual_name lang.Rattle = codes "get"
 
 -- what Rust has in front of the bytes, for a kind and a name
@@ -40,13 +48,17 @@ rust_front kind name =
     ++ (codes ": zerotrie_proved::ZeroTrie<&'static [u8]> =\n    zerotrie_proved::ZeroTrie::from_bytes(zerotrie_proved::Kind::" ++ (rust_kind kind
     ++ codes ", &[")))))
 
--- what C has
-abbrev pub c_front : TrieKind → List ℕ → List ℕ
-c_front kind name =
-    codes "#include \"zerotrie.h\"\n\n/* The kind of the trie. */\nstatic const uint32_t " ++ (name
-    ++ (codes "_kind = " ++ (c_kind kind
+-- what C has, with the text of the kind
+abbrev pub c_constants : List ℕ → List ℕ → List ℕ
+c_constants kind name =
+    codes "\n/* The kind of the trie. */\nstatic const uint32_t " ++ (name
+    ++ (codes "_kind = " ++ (kind
     ++ (codes ";\n\n/* Its bytes, and a zero. */\nstatic const uint8_t " ++ (name
     ++ codes "_bytes[] = {")))))
+
+-- what C has over the library
+abbrev pub c_front : TrieKind → List ℕ → List ℕ
+c_front kind name = codes "#include \"zerotrie.h\"\n" ++ c_constants (c_kind kind) name
 
 -- what Rattle has
 abbrev pub rattle_front : List ℕ → List ℕ
@@ -61,18 +73,26 @@ c_len name =
     ++ (codes "_len = sizeof " ++ (name
     ++ codes "_bytes - 1;\n")))
 
--- the function of C
-abbrev pub c_get : List ℕ → List ℕ
-c_get name =
+-- the parameters of the function of C, and the call in it: of the library
+abbrev pub c_call : List ℕ
+c_call = codes "_get(const uint8_t *key, size_t key_len, size_t *value) {\n    return zerotrie_get("
+
+-- and of the reader
+abbrev pub alone_call : List ℕ
+alone_call = codes "_get(const uint8_t *key, size_t key_len, uint64_t *value) {\n    return zerotrie_read_get("
+
+-- the function of C, with its parameters and the call in it
+abbrev pub c_get : List ℕ → List ℕ → List ℕ
+c_get call name =
     codes "\n/* Whether the trie has the key. If so, writes its value. */\nstatic inline bool " ++ (name
-    ++ (codes "_get(const uint8_t *key, size_t key_len, size_t *value) {\n    return zerotrie_get(" ++ (name
+    ++ (call ++ (name
     ++ (codes "_kind, " ++ (name
     ++ (codes "_bytes, " ++ (name
     ++ codes "_len, key, key_len, value);\n}\n")))))))
 
 -- what C has after the bytes
-abbrev pub c_end : List ℕ → List ℕ
-c_end name = c_len name ++ c_get name
+abbrev pub c_end : List ℕ → List ℕ → List ℕ
+c_end call name = c_len name ++ c_get call name
 
 -- what Rattle has
 abbrev pub rattle_end : TrieKind → List ℕ
@@ -82,10 +102,12 @@ rattle_end kind = codes "\n    ];\n    zerotrie::" ++ (rattle_type kind ++ codes
 abbrev pub front : Language → TrieKind → List ℕ → List ℕ
 front lang.Rust kind name = rust_front kind name
 front lang.C kind name = c_front kind name
+front lang.CAlone kind name = c_constants (kind_number kind) name
 front lang.Rattle kind name = rattle_front name
 
 -- what stands after the bytes
 abbrev pub end : Language → TrieKind → List ℕ → List ℕ
 end lang.Rust kind name = codes "\n]);\n"
-end lang.C kind name = c_end name
+end lang.C kind name = c_end c_call name
+end lang.CAlone kind name = c_end alone_call name
 end lang.Rattle kind name = rattle_end kind

@@ -4,17 +4,26 @@ ghost use Rattle.std.specs.Prelude.{◌≡◌, ◌++◌, OnOk, OnErr};
 ghost use Rattle.std.specs.Io.KnownBytes.{Appends};
 ghost use Rattle.zerotrie_files.specs.Faults.{IsNoted};
 ghost use Rattle.zerotrie_files.specs.Parts.{AppendsPart};
-ghost use Rattle.zerotrie_queries.specs.code.Texts.{rust_front, c_front, rattle_front, c_len, c_get, c_end, rattle_end, front, end};
-ghost use Rattle.zerotrie_queries.specs.code.Code.{code};
+ghost use Rattle.zerotrie_queries.specs.code.Texts.{rust_front, c_constants, c_front, rattle_front, c_len, c_get, c_end, rattle_end, front, end};
+ghost use Rattle.zerotrie_queries.specs.code.Code.{code, reader_of, whole_code};
 
+use crate::code::c_reader::READER;
 use crate::code::items::write_items;
-use crate::code::{Language, c_kind, rattle_type, rust_kind};
+use crate::code::{Language, c_kind, kind_number, rattle_type, rust_kind};
 use crate::trie::Trie;
 use std::alloc::{AllocError, Global};
 use std::io;
 use std::io::Write;
 use zerotrie_core::TrieKind;
 use zerotrie_files::Noted;
+
+/// The parameters of the function of C, and the call of the library in it.
+const C_CALL: &str =
+    "_get(const uint8_t *key, size_t key_len, size_t *value) {\n    return zerotrie_get(";
+
+/// The same with the call of the reader.
+const ALONE_CALL: &str =
+    "_get(const uint8_t *key, size_t key_len, uint64_t *value) {\n    return zerotrie_read_get(";
 
 /// Adds the Rust code before the bytes.
 fn add_rust_front(text: &mut Vec<u8>, kind: TrieKind, name: &str) -> Result<(), AllocError>
@@ -30,15 +39,13 @@ pub static {name}: zerotrie_proved::ZeroTrie<&'static [u8]> =
     .map_err(|_| AllocError)
 }
 
-/// Adds the C code before the bytes.
-fn add_c_front(text: &mut Vec<u8>, kind: TrieKind, name: &str) -> Result<(), AllocError>
-    ensures { OnOk result (text.new.items ≡ text.old.items ++ c_front kind name.now) }
+/// Adds the constants of C before the bytes, with the text of the kind.
+fn add_c_constants(text: &mut Vec<u8>, kind: &str, name: &str) -> Result<(), AllocError>
+    ensures { OnOk result (text.new.items ≡ text.old.items ++ c_constants kind.now name.now) }
 {
-    let kind = c_kind(kind);
     write!(
         text,
-        "#include \"zerotrie.h\"
-
+        "
 /* The kind of the trie. */
 static const uint32_t {name}_kind = {kind};
 
@@ -46,6 +53,14 @@ static const uint32_t {name}_kind = {kind};
 static const uint8_t {name}_bytes[] = {{"
     )
     .map_err(|_| AllocError)
+}
+
+/// Adds the C code over the library before the bytes.
+fn add_c_front(text: &mut Vec<u8>, kind: TrieKind, name: &str) -> Result<(), AllocError>
+    ensures { OnOk result (text.new.items ≡ text.old.items ++ c_front kind name.now) }
+{
+    text.extend_from_slice(b"#include \"zerotrie.h\"\n")?;
+    add_c_constants(text, c_kind(kind), name)
 }
 
 /// Adds what C has right after the bytes: a zero, since an array of C can't be empty, and the
@@ -66,16 +81,15 @@ static const size_t {name}_len = sizeof {name}_bytes - 1;
     .map_err(|_| AllocError)
 }
 
-/// Adds the function of C.
-fn add_c_get(text: &mut Vec<u8>, name: &str) -> Result<(), AllocError>
-    ensures { OnOk result (text.new.items ≡ text.old.items ++ c_get name.now) }
+/// Adds the function of C, with its parameters and the call in it.
+fn add_c_get(text: &mut Vec<u8>, call: &str, name: &str) -> Result<(), AllocError>
+    ensures { OnOk result (text.new.items ≡ text.old.items ++ c_get call.now name.now) }
 {
     write!(
         text,
         "
 /* Whether the trie has the key. If so, writes its value. */
-static inline bool {name}_get(const uint8_t *key, size_t key_len, size_t *value) {{
-    return zerotrie_get({name}_kind, {name}_bytes, {name}_len, key, key_len, value);
+static inline bool {name}{call}{name}_kind, {name}_bytes, {name}_len, key, key_len, value);
 }}
 "
     )
@@ -83,11 +97,11 @@ static inline bool {name}_get(const uint8_t *key, size_t key_len, size_t *value)
 }
 
 /// Adds the C code after the bytes.
-fn add_c_end(text: &mut Vec<u8>, name: &str) -> Result<(), AllocError>
-    ensures { OnOk result (text.new.items ≡ text.old.items ++ c_end name.now) }
+fn add_c_end(text: &mut Vec<u8>, call: &str, name: &str) -> Result<(), AllocError>
+    ensures { OnOk result (text.new.items ≡ text.old.items ++ c_end call.now name.now) }
 {
     add_c_len(text, name)?;
-    add_c_get(text, name)
+    add_c_get(text, call, name)
 }
 
 /// Adds the Rattle code before the bytes.
@@ -131,6 +145,7 @@ fn add_front(
     match language {
         Language::Rust => add_rust_front(text, kind, name),
         Language::C => add_c_front(text, kind, name),
+        Language::CAlone => add_c_constants(text, kind_number(kind), name),
         Language::Rattle => add_rattle_front(text, name),
     }
 }
@@ -146,16 +161,15 @@ fn add_end(
 {
     match language {
         Language::Rust => text.extend_from_slice(b"\n]);\n"),
-        Language::C => add_c_end(text, name),
+        Language::C => add_c_end(text, C_CALL, name),
+        Language::CAlone => add_c_end(text, ALONE_CALL, name),
         Language::Rattle => add_rattle_end(text, kind),
     }
 }
 
-/// Writes the bytes of a trie as source code: a constant, and the call that reads it, by this name.
-/// They may be any bytes, and the name must be an identifier (`is_name`) that is no keyword of the
-/// language. It allocates the code around the bytes before it writes. If it fails, a beginning of
-/// the code was written.
-pub fn write_trie_code<W: Write>(
+/// Writes the bytes of a trie as a constant, and the call that reads it, by this name. It allocates
+/// the code around the bytes before it writes. If it fails, a beginning of the code was written.
+fn write_constant<W: Write>(
     alloc: Global,
     trie: &Trie<'_>,
     language: Language,
@@ -175,4 +189,38 @@ pub fn write_trie_code<W: Write>(
     output.write_bytes(front.as_slice())?;
     write_items(trie.bytes, output)?;
     output.write_bytes(end.as_slice())
+}
+
+/// Writes what a program needs in front of the code. If it fails, a beginning of it was written.
+fn write_reader<W: Write>(language: Language, output: &mut Noted<W>) -> io::Result<()>
+    ensures all { OnOk result (Appends (W.contents output.old.inner) (W.contents output.new.inner)
+        (reader_of language)) }
+    ensures part { OnErr result (AppendsPart (W.contents output.old.inner) (W.contents output.new.inner)
+        (reader_of language)) }
+    ensures noted { IsNoted result output.old.failed output.new.failed }
+{
+    match language {
+        Language::CAlone => output.write_bytes(READER.as_bytes()),
+        Language::Rust | Language::C | Language::Rattle => Ok(()),
+    }
+}
+
+/// Writes the bytes of a trie as source code: a constant, and the call that reads it, by this name.
+/// They may be any bytes, and the name must be an identifier (`is_name`) that is no keyword of the
+/// language. If it fails, a beginning of the code was written.
+pub fn write_trie_code<W: Write>(
+    alloc: Global,
+    trie: &Trie<'_>,
+    language: Language,
+    name: &str,
+    output: &mut Noted<W>,
+) -> io::Result<()>
+    ensures all { OnOk result (Appends (W.contents output.old.inner) (W.contents output.new.inner)
+        (whole_code language trie.now.kind name.now trie.now.bytes.now)) }
+    ensures part { OnErr result (AppendsPart (W.contents output.old.inner) (W.contents output.new.inner)
+        (whole_code language trie.now.kind name.now trie.now.bytes.now)) }
+    ensures noted { IsNoted result output.old.failed output.new.failed }
+{
+    write_reader(language, output)?;
+    write_constant(alloc, trie, language, name, output)
 }

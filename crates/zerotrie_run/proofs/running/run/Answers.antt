@@ -1,4 +1,4 @@
-use Rattle.std.proofs.Common.{◌||◌, ap}
+use Rattle.std.proofs.Common.{◌||◌, ap, refl}
 use Rattle.std.specs.Io.Buffered.{writer_contents}
 use Rattle.zerotrie_run.specs.Runs.{ask_refusal, build_refusal}
 use Rattle.zerotrie_run.proofs.AskLemmas.{is_not}
@@ -71,3 +71,6 @@ returns-in-Ok-true-clause-notes g c = λ done ok. rw c.in-Ask.is (c.in-Ok-true.e
 
 pub returns-in-Ok-false-clause-notes : goal.returns-in-Ok-false-clause-notes
 returns-in-Ok-false-clause-notes g c = λ done ok. rw c.in-Ask.is (c.in-Ok-false.ensures.notes ok)
+
+pub returns-in-Diff-clause-quiet : goal.returns-in-Diff-clause-quiet
+returns-in-Diff-clause-quiet g c = λ steps none done. c.run_diff.ensures.quiet refl (λ doubt. none (rw c.in-Diff.is doubt)) done

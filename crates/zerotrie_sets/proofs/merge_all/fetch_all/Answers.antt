@@ -6,8 +6,8 @@ use Rattle.zerotrie_sets.proofs.merge_all.fetch_all.Goals as goal
 pub loop-input-preserved : goal.loop-input-preserved
 loop-input-preserved g c =
     let l = c.loop-input in
-    let left = g.S.SortedStream.left in
-    let current = g.S.SortedStream.current in
+    let left = g.S.PairStream.left in
+    let current = g.S.PairStream.current in
     let d = c.input-item.result in
     let x = get_or l.inputs l.input-index d in
     let y = c.fetch.new.self in

@@ -5,4 +5,4 @@ use Rattle.zerotrie_sets.proofs.merge_all.first_listed.Given as goal
 
 abbrev pub invariant-loop-input : goal.invariant-loop-input
 invariant-loop-input g l =
-    first_of (listed_all g.S.SortedStream.current (drop l.input-index l.inputs)) ≡ first_of (listed_all g.S.SortedStream.current l.inputs)
+    first_of (listed_all g.S.PairStream.current (drop l.input-index l.inputs)) ≡ first_of (listed_all g.S.PairStream.current l.inputs)

@@ -7,7 +7,7 @@ use Rattle.zerotrie_sets.proofs.merge_all.least.Goals as goal
 pub loop-input-preserved : goal.loop-input-preserved
 loop-input-preserved g c =
     let l = c.loop-input in
-    let current = g.S.SortedStream.current in
+    let current = g.S.PairStream.current in
     let x = c.input-item.result in
     let n = l.input-index in
     let least = option_map (λ k. k.now) l.least in

@@ -5,4 +5,4 @@ use Rattle.zerotrie_sets.proofs.merge_all.least.Given as goal
 
 abbrev pub invariant-loop-input : goal.invariant-loop-input
 invariant-loop-input g l =
-    least_key g.S.SortedStream.current (option_map (λ k. k.now) l.least) (drop l.input-index l.inputs) ≡ least_key g.S.SortedStream.current None l.inputs
+    least_key g.S.PairStream.current (option_map (λ k. k.now) l.least) (drop l.input-index l.inputs) ≡ least_key g.S.PairStream.current None l.inputs

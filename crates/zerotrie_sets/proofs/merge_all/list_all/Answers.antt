@@ -7,7 +7,7 @@ use Rattle.zerotrie_sets.proofs.merge_all.list_all.Goals as goal
 pub loop-input-preserved : goal.loop-input-preserved
 loop-input-preserved g c =
     let l = c.loop-input in
-    let f = after_key g.S.SortedStream.current c.args.key.now in
+    let f = after_key g.S.PairStream.current c.args.key.now in
     let d = c.input-item.result in
     let xs = c.args.inputs.now in
     let n = l.input-index in

@@ -4,4 +4,4 @@ use Rattle.zerotrie_sets.proofs.merge_all.list_all.Given as goal
 
 abbrev pub invariant-loop-input : goal.invariant-loop-input
 invariant-loop-input g l =
-    l.inputs ≡ map (after_key g.S.SortedStream.current l.key) (take l.input-index l.initial.inputs) ++ drop l.input-index l.initial.inputs
+    l.inputs ≡ map (after_key g.S.PairStream.current l.key) (take l.input-index l.initial.inputs) ++ drop l.input-index l.initial.inputs

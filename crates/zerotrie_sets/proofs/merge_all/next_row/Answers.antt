@@ -6,16 +6,16 @@ use Rattle.zerotrie_sets.proofs.merge_all.next_row.Goals as goal
 
 pub returns-then-not-branch : goal.returns-then-not-branch
 returns-then-not-branch g c =
-    let left = g.S.SortedStream.left in
-    let current = g.S.SortedStream.current in
+    let left = g.S.PairStream.left in
+    let current = g.S.PairStream.current in
     let least : least_key current None c.fetch_all.new.inputs ≡ None =
     c.in_ok-take_least.ensures ∙ ap (λ b. if b then Some c.take_least.new.key.items else None) c.if-not-branch.true in
     ends_from left current _ c.fetch_all.new.inputs c.in_ok-fetch_all.ensures least
 
 pub returns : goal.returns
 returns g c =
-    let left = g.S.SortedStream.left in
-    let current = g.S.SortedStream.current in
+    let left = g.S.PairStream.left in
+    let current = g.S.PairStream.current in
     let key = c.take_least.new.key.items in
     let least : least_key current None c.fetch_all.new.inputs ≡ Some key =
     c.in_ok-take_least.ensures ∙ ap (λ b. if b then Some key else None) c.if-not-branch.false in

@@ -6,5 +6,5 @@ use Rattle.zerotrie_sets.proofs.merge_all.MergeAll.new.Given as goal
 
 abbrev pub invariant-loop-stream : goal.invariant-loop-stream
 invariant-loop-stream g l =
-    pendings g.S.SortedStream.left g.S.SortedStream.current l.inputs.items ++ map {B = Pairs} (λ s. (g.S.SortedStream.left s).pairs) (into_iter_items l.stream-iterator)
-    ≡ map (λ s. (g.S.SortedStream.left s).pairs) l.fn.streams.items
+    pendings g.S.PairStream.left g.S.PairStream.current l.inputs.items ++ map {B = Pairs} (λ s. (g.S.PairStream.left s).pairs) (into_iter_items l.stream-iterator)
+    ≡ map (λ s. (g.S.PairStream.left s).pairs) l.fn.streams.items

@@ -1,0 +1,22 @@
+use Rattle.std.proofs.Common.{◌≡◌, ◌-◌, ◌+◌, ◌≤◌, length, []}
+use Rattle.zerotrie_core.specs.Maps.{Pairs}
+use Rattle.zerotrie_core.specs.WellFormed.{IsWellFormed}
+use Rattle.zerotrie_c.proofs.Parts.{Going}
+use Rattle.zerotrie_c.proofs.sorted.write_sorted.Given as goal
+
+abbrev pub invariant-loop-next_len : goal.invariant-loop-next_len
+invariant-loop-next_len l = record {
+  within : l.used ≤ length l.keys;
+  few : l.count ≤ l.room;
+  untold : l.next_len ≡ l.initial.next_len;
+  kind_is : l.pairs.kind ≡ l.fn.pairs.kind;
+  bytes_are : l.pairs.bytes ≡ l.fn.pairs.bytes;
+  valid : IsWellFormed l.fn.pairs.kind l.fn.pairs.bytes
+      → Going l.fn.pairs.left.pairs l.pairs.left.pairs l.initial.keys l.keys l.initial.ends l.ends l.initial.values l.values l.count l.used;
+  found : Pairs;
+  most : length found + l.pairs.most ≤ l.fn.pairs.most;
+  going : Going found [] l.initial.keys l.keys l.initial.ends l.ends l.initial.values l.values l.count l.used;
+}
+
+abbrev pub decreases-loop-next_len : goal.decreases-loop-next_len
+decreases-loop-next_len l = l.room - l.count

@@ -1,0 +1,38 @@
+-- Which file is made of the combination of two maps, and why none is.
+use Rattle.std.specs.Prelude.{◌≡◌, ◌⊎◌, ℕ, List, Option, None, false}
+use Rattle.std.specs.FinMap.{entries}
+use Rattle.zerotrie_core.specs.Kind.{Kind}
+use Rattle.zerotrie_core.specs.Maps.{Pairs, Map}
+use Rattle.zerotrie_core.specs.Texts.{Means}
+use Rattle.zerotrie_core.specs.declared.TrieKind.{TrieKind}
+use Rattle.zerotrie_sets.specs.Operations.{IsCombined}
+use Rattle.zerotrie_sets.specs.declared.combined.Operation.{Operation}
+use Rattle.zerotrie_making.specs.Kept.{number_of}
+use Rattle.zerotrie_making.specs.Made.{IsFileOf, ExplainsOf}
+use Rattle.zerotrie_making.specs.declared.duplicates.Duplicates.TheVariants.{Refuse}
+use Rattle.zerotrie_making.specs.declared.making.FileForm.{FileForm}
+use Rattle.zerotrie_making.specs.declared.making.Plan.{Plan}
+use Rattle.zerotrie_making.specs.declared.making.Source.TheVariants.{Json}
+use Rattle.zerotrie_making.specs.declared.refused.MakeError.{MakeError}
+use Rattle.zerotrie_making.specs.declared.refused.MakeError.TheVariants.{OutOfMemory}
+
+-- how the file of pairs is made that are there already: they may have any order, and each is kept as it is
+abbrev pub plan_of : Option TrieKind → FileForm → Plan
+plan_of kind form = record { source = Json; kind = kind; sorted = false; lower_case = false; duplicates = Refuse; form = form }
+
+-- the fact holds of the pairs of a combination of two maps
+abbrev pub OfBoth : Operation → Map → Map → (Pairs → Type 0) → Type 0
+OfBoth operation first second Fact = (pairs : Pairs) × IsCombined operation (entries first) (entries second) pairs × Fact pairs
+
+-- the file is that of a trie of a combination of two maps
+abbrev pub IsFileOfBoth : Operation → Option TrieKind → FileForm → Map → Map → List ℕ → Type 0
+IsFileOfBoth operation kind form first second file = OfBoth operation first second (λ pairs. IsFileOf (plan_of kind form) pairs file)
+
+-- why no file is made of a combination of two maps: an allocation failed, or a build of its pairs is refused
+abbrev pub ExplainsBoth : Operation → Option TrieKind → FileForm → Map → Map → MakeError → Type 0
+ExplainsBoth operation kind form first second e =
+    (e ≡ OutOfMemory) ⊎ OfBoth operation first second (λ pairs. ExplainsOf (plan_of kind form) (number_of None) pairs e)
+
+-- the fact holds of the maps that two tries mean
+abbrev pub OfMeant : Kind → List ℕ → Kind → List ℕ → (Map → Map → Type 0) → Type 0
+OfMeant kind bytes other more Fact = (first second : Map) → Means kind bytes first → Means other more second → Fact first second

@@ -1,0 +1,181 @@
+-- Sorted listings of the pairs that are chosen.
+use Rattle.std.proofs.Common.{◌≡◌, ℕ, zero, suc, ◌+◌, ◌<◌, ◌≤◌, ◌^◌, take, drop, List, [], ◌∷◌, ◌++◌, Bool, true, false, cond, not, length, refl, sym, ◌∙◌, ap, subst, arith, Option, Some, None, Vec, inl, inr, Ordering, Less, Equal, Greater}
+use Rattle.std.proofs.Math.Seq.{split_at}
+use Rattle.std.specs.Prelude.{slice_index, is_some, IfSome, IsTrue, ◌==◌, ◌&&◌, ◌≢◌, ◌↔◌}
+use Rattle.std.specs.Option.{option_map}
+use Rattle.std.specs.FinMap.{entries}
+use Rattle.std.specs.Ordering.{nat_cmp, is_le, is_lt}
+use Rattle.std.specs.Cmp.{nat_cmp_is}
+use Rattle.std.specs.Cmp.Lexicographic.{slice_cmp}
+use Rattle.std.specs.Range.Bound.{bounds_contain, is_up_to_end}
+use Rattle.std.specs.declared.ops.Bound.{Bound}
+use Rattle.std.specs.declared.ops.Bound.TheVariants.{Included, Excluded, Unbounded}
+use Rattle.std.specs.Borrow.{Bor}
+use Rattle.std.proofs.lemmas.Bool.{cases_eq, ne_eqb, eq-eqb}
+use Rattle.zerotrie_base.proofs.CanonicalLemmas.Bounds.{entries_count}
+use Rattle.zerotrie_core.specs.Kind.{Kind, fold_byte, same_byte}
+use Rattle.zerotrie_core.specs.Kinds.{kind_of}
+use Rattle.zerotrie_core.specs.Maps.{Pairs, Map, map_of, after_run, begins_with}
+use Rattle.zerotrie_core.specs.Listings.{Left, to_come}
+use Rattle.zerotrie_core.specs.Texts.{Lists, Means}
+use Rattle.zerotrie_core.specs.WellFormed.{IsWellFormed}
+use Rattle.zerotrie_core.specs.declared.TrieKind.{TrieKind}
+use Rattle.zerotrie_core.specs.declared.TrieKind.TheVariants.{Simple, Ignore, Hash, Ext}
+use Rattle.zerotrie_search.specs.Searches.{accepted, accepted_left}
+use Rattle.zerotrie_search.specs.Sets.{by_bytes}
+use Rattle.zerotrie_search.specs.Sorted.{within}
+use Rattle.zerotrie_search.proofs.PathLemmas.{lists_few}
+use Rattle.zerotrie_queries.specs.Chosen.{chosen}
+use Rattle.zerotrie_queries.specs.Sorted.{is_chosen, picked, below_some, AreWithin}
+use Rattle.zerotrie_queries.specs.declared.source.Order.TheVariants.{ByBytes}
+use Rattle.zerotrie_queries.specs.declared.source.Choice.{Choice}
+use Rattle.zerotrie_queries.specs.declared.source.Choice.TheVariants as choice
+use Rattle.zerotrie_queries.proofs.ChoiceLemmas.{few_accepted}
+
+-- the pairs that are chosen are those whose keys are
+pub chosen_is : (kind : TrieKind) (c : Choice) (pairs : Pairs) → accepted (is_chosen kind c) pairs ≡ chosen kind c pairs
+chosen_is kind (choice.Prefix prefix) pairs = refl
+chosen_is kind (choice.Glob g) pairs = refl
+chosen_is kind (choice.Fuzzy word) pairs = refl
+chosen_is kind (choice.Subsequence s) pairs = refl
+chosen_is kind (choice.Range r) pairs = refl
+
+-- of the pairs within bounds those are accepted that are accepted of all, if each accepted key is within
+pub accepted_within : (p q : List ℕ → Bool) (pairs : Pairs) → ((key : List ℕ) → p key ≡ true → q key ≡ true) → accepted p (accepted q pairs) ≡ accepted p pairs
+accepted_within p q [] h = refl
+accepted_within p q (e ∷ pairs) h = go (p e.0) (q e.0) refl refl (accepted_within p q pairs h)
+  where
+    go : (a b : Bool) → p e.0 ≡ a → q e.0 ≡ b → accepted p (accepted q pairs) ≡ accepted p pairs → accepted p (cond b (e ∷ accepted q pairs) (accepted q pairs)) ≡ cond a (e ∷ accepted p pairs) (accepted p pairs)
+    go true true is inside rest = rw is (ap (λ l. e ∷ l) rest)
+    go false true is inside rest = rw is rest
+    go true false is inside rest = absurd (let no : false ≡ true = sym inside ∙ h e.0 is in cc)
+    go false false is inside rest = rest
+
+-- the pairs that are chosen between bounds are all that are chosen, if each key that is chosen is between them
+pub chosen_within : (kind : TrieKind) (c : Choice) (from to : Bound (List ℕ)) (m : Map) → AreWithin kind c from to → accepted (is_chosen kind c) (within from to m) ≡ chosen kind c (entries m)
+chosen_within kind c from to m h = accepted_within (is_chosen kind c) (bounds_contain by_bytes from to) (entries m) h ∙ chosen_is kind c (entries m)
+
+-- a pair whose key is not accepted is passed over
+pub passed_out : (accepts : List ℕ → Bool) (key : List ℕ) (value : ℕ) (before after : Left) → before ≡ to_come ((key, value) ∷ after.pairs) → after ≡ to_come after.pairs → accepts key ≡ false
+    → accepted_left accepts after ≡ accepted_left accepts before
+passed_out accepts key value before after is going out =
+    ap (accepted_left accepts) going ∙ sym (ap (accepted_left accepts) is ∙ without accepts key value after.pairs out)
+  where
+    without : (accepts : List ℕ → Bool) (key : List ℕ) (value : ℕ) (pairs : Pairs) → accepts key ≡ false → accepted_left accepts (to_come ((key, value) ∷ pairs)) ≡ accepted_left accepts (to_come pairs)
+    without accepts key value pairs out = rw out refl
+
+-- they are fewer than bytes can be
+pub few_within : (kind : Kind) (bytes : List ℕ) (accepts : List ℕ → Bool) (from to : Bound (List ℕ)) (m : Map) → Means kind bytes m → length (accepted accepts (within from to m)) < 2 ^ 64
+few_within kind bytes accepts from to m means =
+    let chosen = few_accepted accepts (within from to m) in
+    let between = few_accepted (bounds_contain by_bytes from to) (entries m) in
+    let is = ap (λ n. length (entries n)) means.is in
+    let each = entries_count means.pairs in
+    let few = lists_few means.lists in
+    let short = means.short in
+    omega (arith, chosen, between, is, each, few, short)
+
+tied : (x : ℕ) → nat_cmp x x ≡ Equal
+tied x = sym (nat_cmp_is x x Equal refl)
+
+below : (x : ℕ) → nat_cmp x (suc x) ≡ Less
+below x = sym (nat_cmp_is x (suc x) Less (omega arith))
+
+-- the byte with which a key begins that begins with a run
+begun : (x c : ℕ) (r : Option (List ℕ)) → is_some (cond (x == c) r None) ≡ true → (c ≡ x) × (is_some r ≡ true)
+begun x c r h = elim (cases_eq x c) [
+  | inl same ↦ (sym same, subst (λ t. is_some (cond t r None) ≡ true) (eq-eqb x c same) h)
+  | inr other ↦ absurd (let no = subst (λ t. is_some (cond t r None) ≡ true) (ne_eqb x c other) h in cc)
+]
+
+-- a key that begins with a run is not below it
+run_from : (front key : List ℕ) → is_some (after_run front key) ≡ true → is_le (slice_cmp nat_cmp front key) ≡ true
+run_from [] [] h = refl
+run_from [] (c ∷ key) h = refl
+run_from (x ∷ front) [] h = absurd (cc)
+run_from (x ∷ front) (c ∷ key) h =
+    let b = begun x c (after_run front key) h in
+    rw (b.0, tied x) (run_from front key b.1)
+
+-- and it is below the run whose byte after a front is the next one
+pub run_below : (front : List ℕ) (b : ℕ) (rest key : List ℕ) → is_some (after_run (front ++ b ∷ rest) key) ≡ true → slice_cmp nat_cmp key (front ++ suc b ∷ []) ≡ Less
+run_below [] b rest [] h = absurd (cc)
+run_below [] b rest (c ∷ key) h =
+    let is = begun b c (after_run rest key) h in
+    rw (is.0, below b) refl
+run_below (x ∷ front) b rest [] h = absurd (cc)
+run_below (x ∷ front) b rest (c ∷ key) h =
+    let is = begun x c (after_run (front ++ b ∷ rest) key) h in
+    rw (is.0, tied x) (run_below front b rest key is.1)
+
+-- a key begins with a prefix if it has the first byte and what follows begins with the rest
+pub begins_more : (kind : Kind) (c b : ℕ) (front more left rest : List ℕ) → front ≡ c ∷ more → left ≡ b ∷ rest → fold_byte kind b ≡ fold_byte kind c → begins_with kind more rest ≡ begins_with kind front left
+begins_more kind c b front more left rest f l same = rw (f, l) (sym (ap (λ t. t && begins_with kind more rest) (eq-eqb (fold_byte kind b) (fold_byte kind c) same)))
+
+-- and not if it has another one, or none
+pub begins_not : (kind : Kind) (c b : ℕ) (front more left rest : List ℕ) → front ≡ c ∷ more → left ≡ b ∷ rest → (fold_byte kind b ≡ fold_byte kind c → ⊥) → begins_with kind front left ≡ false
+begins_not kind c b front more left rest f l other = rw (f, l) (ap (λ t. t && begins_with kind more rest) (ne_eqb (fold_byte kind b) (fold_byte kind c) other))
+
+-- so all keys that begin with some bytes are below these bytes up to a place, with the next byte there
+pub prefix_below : (prefix : List ℕ) (place : ℕ) (bound : List ℕ) → place < length prefix → bound ≡ take place prefix ++ (slice_index prefix place + 1) ∷ []
+    → (key : List ℕ) → is_some (after_run prefix key) ≡ true → slice_cmp nat_cmp key bound ≡ Less
+prefix_below prefix place bound inside is key begins =
+    let one : suc (slice_index prefix place) ≡ slice_index prefix place + 1 = omega arith in
+    subst (λ l. slice_cmp nat_cmp key l ≡ Less) (ap (λ n. take place prefix ++ n ∷ []) one ∙ sym is)
+    (run_below (take place prefix) (slice_index prefix place) (drop (suc place) prefix) key
+    (subst (λ p. is_some (after_run p key) ≡ true) (split_at prefix place 0 inside) begins))
+
+-- where case counts, bytes are the same if they are equal
+same_is : (kind : TrieKind) → kind ≢ Ignore → (a b : ℕ) → same_byte (kind_of kind) a b ≡ (a == b)
+same_is Simple h a b = refl
+same_is Ignore h a b = absurd (h refl)
+same_is Hash h a b = refl
+same_is Ext h a b = refl
+
+-- a key that begins with a prefix there begins with its bytes
+as_run : (kind : TrieKind) → kind ≢ Ignore → (front key : List ℕ) → begins_with (kind_of kind) front key ≡ true → is_some (after_run front key) ≡ true
+as_run kind exact [] key h = refl
+as_run kind exact (c ∷ front) [] h = absurd (cc)
+as_run kind exact (c ∷ front) (b ∷ key) h =
+    elim (cases_eq b c) [
+      | inl same ↦ rw (eq-eqb c b (sym same)) (as_run kind exact front key (subst (λ t. (t && begins_with (kind_of kind) front key) ≡ true) (same_is kind exact b c ∙ eq-eqb b c same) h))
+      | inr other ↦ absurd (let no = subst (λ t. (t && begins_with (kind_of kind) front key) ≡ true) (same_is kind exact b c ∙ ne_eqb b c other) h in cc)
+    ]
+
+is_below : (key bytes : List ℕ) → slice_cmp nat_cmp key bytes ≡ Less → is_up_to_end by_bytes (Excluded bytes) key ≡ true
+is_below key bytes is = rw is refl
+
+ends : (prefix key : List ℕ) (above : Option (List ℕ)) → IfSome above (λ bound. (key : List ℕ) → is_some (after_run prefix key) ≡ true → slice_cmp nat_cmp key bound ≡ Less)
+    → is_some (after_run prefix key) ≡ true → is_up_to_end by_bytes (below_some above) key ≡ true
+ends prefix key None h begins = refl
+ends prefix key (Some bytes) h begins = is_below key bytes (h key begins)
+
+both : (a b : Bool) → a ≡ true → b ≡ true → (a && b) ≡ true
+both true true p q = refl
+both true false p q = q
+both false b p q = p
+
+-- the keys that begin with a prefix are between it and the bytes above them
+pub prefix_within : (kind : TrieKind) (prefix : Bor (List ℕ)) (above : Option (List ℕ)) → kind ≢ Ignore
+    → IfSome above (λ bound. (key : List ℕ) → is_some (after_run prefix.now key) ≡ true → slice_cmp nat_cmp key bound ≡ Less)
+    → AreWithin kind (choice.Prefix prefix) (Included prefix.now) (below_some above)
+prefix_within kind prefix above exact h key begins =
+    let run = as_run kind exact prefix.now key begins in
+    both (is_le (slice_cmp nat_cmp prefix.now key)) (is_up_to_end by_bytes (below_some above) key) (run_from prefix.now key run) (ends prefix.now key above h run)
+
+-- what a sorted listing lists is what is picked of the pairs that the bytes list
+pub picked_sorted : (kind : TrieKind) (c : Choice) (from to : Bound (List ℕ)) (bytes : List ℕ) (left : Left) → length bytes < 2 ^ 64 → AreWithin kind c from to
+    → ((m : Map) → Means (kind_of kind) bytes m → left ≡ to_come (accepted (is_chosen kind c) (within from to m)))
+    → (pairs : Pairs) → Lists (kind_of kind) bytes pairs → left.pairs ≡ picked ByBytes kind c pairs
+picked_sorted kind c from to bytes left short inside listed pairs lists =
+    ap (λ l. l.pairs) (listed (map_of pairs) (record { short = short; pairs = pairs; lists = lists; is = refl }))
+    ∙ chosen_within kind c from to (map_of pairs) inside
+
+-- malformed bytes list no pairs
+pub lists_none : {P : Type 0} (kind : TrieKind) (bytes : List ℕ) (valid : Bool) → length bytes < 2 ^ 64 → valid ≡ false → IsTrue valid ↔ IsWellFormed (kind_of kind) bytes → (pairs : Pairs) → Lists (kind_of kind) bytes pairs → P
+lists_none kind bytes valid short fails is pairs lists = absurd (let yes = is.1 (map_of pairs, record { short = short; pairs = pairs; lists = lists; is = refl }) in cc)
+
+-- what holds of the bytes of a vector, if there is one, holds of the bytes
+pub if_some_items : {A : Type 0} (P : List ℕ → Type 0) (o : Option (Vec ℕ A)) → IfSome o (λ v. P v.items) → IfSome (option_map (λ v. v.items) o) P
+if_some_items P None h = h
+if_some_items P (Some v) h = h

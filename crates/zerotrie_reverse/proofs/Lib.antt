@@ -1,0 +1,3 @@
+mod DescentLemmas
+mod TableLemmas
+mod FirstLemmas

@@ -1,0 +1,115 @@
+//! The places of the values of a trie.
+
+ghost use Rattle.std.specs.Prelude.{◌≡◌, ◌<◌, ◌≤◌, ◌==◌, ℕ, length, find, IfOk, IfSome, IsTrue, vec_len};
+ghost use Rattle.std.specs.List.Sorted.{IsNonDecreasingBy, IsPartitionPoint};
+ghost use Rattle.zerotrie_core.specs.Maps.{Pairs};
+ghost use Rattle.zerotrie_core.specs.Texts.{Lists};
+ghost use Rattle.zerotrie_reverse.specs.Descent.{value_at};
+ghost use Rattle.zerotrie_reverse.specs.Tables.{pair_at, pairs_at, IsTable};
+
+use crate::descent::{read_key_at, value_at};
+use std::alloc::{AllocError, Global};
+use zerotrie_core::{CursorPlace, ZeroTrieStream, ZeroTrieWithOptions, count_pairs};
+
+/// Returns where the value of a key is. If the trie has no such key, the result is unspecified.
+fn place_of<K: ZeroTrieWithOptions>(bytes: &[u8], key: &[u8]) -> usize {
+    let mut place = CursorPlace::new(bytes);
+    for byte in key {
+        place.step::<K>(bytes, *byte);
+    }
+    place.trie
+}
+
+/// Returns whether a descent to a place reads this pair. Writes the key that it reads.
+fn has_pair<K: ZeroTrieWithOptions>(
+    bytes: &[u8],
+    place: u32,
+    key: &[u8],
+    value: usize,
+    read: &mut Vec<u8>,
+) -> Result<bool, AllocError>
+    ensures { IfOk result (λ has.
+        IsTrue has → pair_at K.kind bytes.now place ≡ (key.now, value)) }
+{
+    read_key_at::<K, Global>(bytes, place as usize, read)?;
+    Ok(read.as_slice() == key && value_at(bytes, place as usize) == value)
+}
+
+/// Returns the place of the value of each pair, in the order of the pairs. Returns `None` if a
+/// descent to a place reads another pair than the one whose value is there, or if a place is 2^32 or
+/// more.
+pub(crate) fn places_of<K: ZeroTrieWithOptions>(
+    alloc: Global,
+    bytes: &[u8],
+) -> Result<Option<Vec<u32>>, AllocError>
+    ensures pairs { IfOk result (λ r. IfSome r (λ places. (pairs : Pairs)
+        → Lists K.kind bytes.now pairs → pairs_at K.kind bytes.now places.items ≡ pairs)) }
+    ensures most { IfOk result (λ r. IfSome r (λ places. vec_len places ≤ length bytes.now)) }
+{
+    let mut places = Vec::with_capacity(alloc, count_pairs::<K>(bytes))?;
+    let mut key = Vec::new(alloc);
+    let mut pairs = ZeroTrieStream::new::<K>(alloc, bytes);
+    while pairs.advance()? {
+        let Ok(place) = u32::try_from(place_of::<K>(bytes, pairs.key())) else {
+            return Ok(None);
+        };
+        if !has_pair::<K>(bytes, place, pairs.key(), pairs.value(), &mut key)? {
+            return Ok(None);
+        }
+        places.push(place)?;
+    }
+    Ok(Some(places))
+}
+
+/// Puts places into the order of their values. Places of one value keep their order.
+pub(crate) fn sort_by_value(bytes: &[u8], places: &mut Vec<u32>) -> Result<(), AllocError>
+    ensures ascends { IfOk result (λ _. IsNonDecreasingBy (value_at bytes.now) places.new.items) }
+    ensures firsts { IfOk result (λ _. (v : ℕ)
+        → find (λ place. value_at bytes.now place == v) places.new.items
+        ≡ find (λ place. value_at bytes.now place == v) places.old.items) }
+    ensures len { vec_len places.new ≡ vec_len places.old }
+{
+    places.sort_by_key(|place| value_at(bytes, *place as usize))?;
+    Ok(())
+}
+
+/// Returns the places of the values of a trie in the order of the values. Returns `None` as
+/// `places_of` does.
+pub(crate) fn sorted_places<K: ZeroTrieWithOptions>(
+    alloc: Global,
+    bytes: &[u8],
+) -> Result<Option<Vec<u32>>, AllocError>
+    ensures table { IfOk result (λ r. IfSome r (λ places.
+        IsTable K.kind bytes.now places.items)) }
+    ensures all { IfOk result (λ r. IfSome r (λ places. (pairs : Pairs)
+        → Lists K.kind bytes.now pairs → vec_len places ≡ length pairs)) }
+    ensures most { IfOk result (λ r. IfSome r (λ places. vec_len places ≤ length bytes.now)) }
+{
+    let Some(mut places) = places_of::<K>(alloc, bytes)? else {
+        return Ok(None);
+    };
+    sort_by_value(bytes, &mut places)?;
+    Ok(Some(places))
+}
+
+/// Returns how many places have lower values, of places in the order of their values.
+fn first_from(bytes: &[u8], places: &[u32], value: usize) -> usize
+    requires { IsNonDecreasingBy (value_at bytes.now) places.now }
+    ensures { IsPartitionPoint (λ place. value_at bytes.now place < value)
+        (λ place. value ≤ value_at bytes.now place) places.now result }
+{
+    places.partition_point(|place| value_at(bytes, *place as usize) < value)
+}
+
+/// Returns the first place that has this value, of places in the order of their values.
+pub(crate) fn first_place_of(bytes: &[u8], places: &[u32], value: usize) -> Option<u32>
+    requires { IsNonDecreasingBy (value_at bytes.now) places.now }
+    ensures { result ≡ find (λ place. value_at bytes.now place == value) places.now }
+{
+    let place = places.get(first_from(bytes, places, value))?;
+    if value_at(bytes, *place as usize) == value {
+        Some(*place)
+    } else {
+        None
+    }
+}

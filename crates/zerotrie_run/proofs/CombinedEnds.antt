@@ -1,0 +1,73 @@
+-- How a run ends in which no trie file is made of two others.
+use Rattle.std.proofs.Common.{◌≡◌, ℕ, List, Option, Some, None, Bool, true, false, Result, Ok, Err, Vec, Global, inl, inr}
+use Rattle.std.specs.Prelude.{unwrap_or}
+use Rattle.std.specs.declared.alloc.AllocError.{AllocError}
+use Rattle.zerotrie_queries.specs.declared.file.OpenError.TheVariants as unopened
+use Rattle.zerotrie_making.specs.declared.refused.MakeError.{MakeError}
+use Rattle.zerotrie_making.specs.declared.refused.MakeError.TheVariants as made
+use Rattle.zerotrie_run.specs.Combined.{EndsCombine, FailsCombine, RunsCombine, combine_refusal}
+use Rattle.zerotrie_run.specs.Runs.{World}
+use Rattle.zerotrie_run.specs.Statuses.{failure, made_refusal}
+use Rattle.zerotrie_run.specs.Told.{ended}
+use Rattle.zerotrie_run.specs.declared.building.BuildError.TheVariants as build
+use Rattle.zerotrie_run.specs.declared.combining.CombineError.{CombineError}
+use Rattle.zerotrie_run.specs.declared.combining.CombineError.TheVariants.{Unopened, NoTrie, NotBuilt}
+use Rattle.zerotrie_run.specs.declared.command.Combine.{Combine}
+use Rattle.zerotrie_run.specs.declared.status.Status.{Status}
+use Rattle.zerotrie_run.specs.declared.status.Status.TheVariants.{Done, Absent, Refused, Taken, BadUsage, BadInput, Unread, Unwritten, OutOfMemory, Closed}
+
+-- what is known of the end, by whether the command is refused
+data Ends : Option Status → Type 0 where
+  failed : Ends None
+  refused : Ends (Some Refused)
+  taken : Ends (Some Taken)
+  input : Ends (Some BadInput)
+
+made_ends : (e : MakeError) → Ends (made_refusal e)
+made_ends (made.Line number bad) = input
+made_ends (made.NotJson line column) = input
+made_ends made.NotPairs = input
+made_ends (made.NotPair bad) = input
+made_ends (made.Keys shown) = refused
+made_ends (made.Refused why) = refused
+made_ends made.OutOfMemory = failed
+
+ends_of : (e : CombineError) → Ends (combine_refusal e)
+ends_of (Unopened side e) = failed
+ends_of (NoTrie side (unopened.BadTag why) t) = input
+ends_of (NoTrie side (unopened.Damaged why) t) = input
+ends_of (NoTrie side (unopened.NotWellFormed k f) t) = input
+ends_of (NoTrie side unopened.OutOfMemory t) = failed
+ends_of (NotBuilt (build.Unread e)) = failed
+ends_of (NotBuilt (build.NotMade e)) = made_ends e
+ends_of (NotBuilt (build.Unwritten e)) = failed
+ends_of (NotBuilt build.Taken) = taken
+ends_of (NotBuilt (build.Unfound e)) = failed
+
+fails : (c : Combine) (i : Option (List ℕ)) (before after : World) (read write closed : Bool) → FailsCombine c i before after → RunsCombine c i before after (failure read write closed)
+fails c i before after true write closed h = h
+fails c i before after false false closed h = h
+fails c i before after false true true h = h
+fails c i before after false true false h = h
+
+ends_by : (c : Combine) (i : Option (List ℕ)) (before after : World) (read write closed : Bool) (refusal : Option Status) (r : Result (Vec ℕ Global) AllocError) → Ends refusal
+    → EndsCombine c i before after refusal → RunsCombine c i before after (ended (unwrap_or refusal (failure read write closed)) r)
+ends_by c i before after read write closed None (Ok text) failed h = fails c i before after read write closed h
+ends_by c i before after read write closed None (Err x) failed h = h
+ends_by c i before after read write closed (Some Refused) (Ok text) refused h = h
+ends_by c i before after read write closed (Some Refused) (Err x) refused h = inl h.3
+ends_by c i before after read write closed (Some Taken) (Ok text) taken h = h
+ends_by c i before after read write closed (Some Taken) (Err x) taken h = inl h.2
+ends_by c i before after read write closed (Some BadInput) (Ok text) input h = h
+ends_by c i before after read write closed (Some BadInput) (Err x) input h = inl h.2
+ends_by c i before after read write closed (Some Done) r ends h = elim ends [ ]
+ends_by c i before after read write closed (Some Absent) r ends h = elim ends [ ]
+ends_by c i before after read write closed (Some BadUsage) r ends h = elim ends [ ]
+ends_by c i before after read write closed (Some Unread) r ends h = elim ends [ ]
+ends_by c i before after read write closed (Some Unwritten) r ends h = elim ends [ ]
+ends_by c i before after read write closed (Some OutOfMemory) r ends h = elim ends [ ]
+ends_by c i before after read write closed (Some Closed) r ends h = elim ends [ ]
+
+pub combine_ends : (c : Combine) (i : Option (List ℕ)) (before after : World) (read write closed : Bool) (e : CombineError) (status result : Status) (r : Result (Vec ℕ Global) AllocError)
+    → EndsCombine c i before after (combine_refusal e) → status ≡ unwrap_or (combine_refusal e) (failure read write closed) → result ≡ ended status r → RunsCombine c i before after result
+combine_ends c i before after read write closed e status result r h is ends = rw (ends, is) (ends_by c i before after read write closed (combine_refusal e) r (ends_of e) h)

@@ -1,0 +1,252 @@
+-- Two files that are compared.
+use Rattle.std.proofs.Common.{◌≡◌, ◌⊎◌, ◌||◌, ◌++◌, ◌∙◌, ℕ, List, Option, Some, None, Bool, true, false, Result, Ok, Err, Vec, refl, sym, subst, ap, inl, inr}
+use Rattle.std.specs.Prelude.{unwrap_or, IfOk, IsTrue}
+use Rattle.std.specs.Global.{Global}
+use Rattle.std.specs.declared.alloc.AllocError.{AllocError}
+use Rattle.std.specs.Io.KnownBytes.{Appends, Keeps}
+use Rattle.std.proofs.KnownBytes.{Appends-kept, Appends-trans}
+use Rattle.zerotrie_core.specs.declared.TrieKind.{TrieKind}
+use Rattle.zerotrie_files.specs.Disks.{Story}
+use Rattle.zerotrie_files.specs.Faults.{Watched}
+use Rattle.zerotrie_queries.specs.Diffs.{change_lines}
+use Rattle.zerotrie_queries.specs.declared.file.OpenError.TheVariants.{BadTag, Damaged, NotWellFormed}
+use Rattle.zerotrie_queries.specs.declared.file.OpenError.TheVariants as unopened
+use Rattle.zerotrie_queries.proofs.PartLemmas.{part_all}
+use Rattle.zerotrie_run.specs.Runs.{HasNumberToo, IsDoubtful, IsRead, IsUnopened, HasNoTrie, ask_refusal}
+use Rattle.zerotrie_run.specs.Statuses.{failure}
+use Rattle.zerotrie_run.specs.Messages.{TellsAsk}
+use Rattle.zerotrie_run.specs.Told.{HasReason, HasDiffReason, IsTold, TellsMore, ended, last_text}
+use Rattle.zerotrie_run.specs.Diffs.{old_file, new_file, IsFileOf, IsDiffed, IsDiffedInPart, FailsDiff, RunsDiff, EndsDiff, HasNoTrieIn, IsEitherDoubtful, IsUnread, IsUnanswered, IsOneUnopened, NotesNumbers, TellsIfDoubtful, AreHeldCompared, AreHeldComparedInPart, AreUncompared}
+use Rattle.zerotrie_run.specs.declared.asking.AskError.{AskError}
+use Rattle.zerotrie_run.specs.declared.asking.AskError.TheVariants as ask
+use Rattle.zerotrie_run.specs.declared.comparing.DiffError.{DiffError}
+use Rattle.zerotrie_run.specs.declared.command.Command.TheVariants as commands
+use Rattle.zerotrie_run.specs.declared.command.Diff.{Diff}
+use Rattle.zerotrie_run.specs.declared.command.Place.{Place}
+use Rattle.zerotrie_run.specs.declared.command.Place.TheVariants.{File, Stream}
+use Rattle.zerotrie_run.specs.declared.command.Question.TheVariants.{Verify}
+use Rattle.zerotrie_run.specs.declared.command.TrieFile.{TrieFile}
+use Rattle.zerotrie_run.specs.declared.status.Status.{Status}
+use Rattle.zerotrie_run.specs.declared.status.Status.TheVariants.{Done, Absent, Refused, Taken, BadUsage, BadInput, Unread, Unwritten, OutOfMemory, Closed}
+use Rattle.zerotrie_run.proofs.ToldLemmas.{ask_told}
+
+-- a flush leaves what was told of two files
+pub kept_compared : (diff : Diff) (held other : List ℕ) (a b c : Option (List ℕ)) (same : Bool) → AreHeldCompared diff held other a b same → Keeps b c → AreHeldCompared diff held other a c same
+kept_compared diff held other a b c same h k = record {
+  kind = h.kind;
+  bytes = h.bytes;
+  opens = h.opens;
+  other_kind = h.other_kind;
+  others = h.others;
+  opens_other = h.opens_other;
+  compared = λ m n p q. let t = h.compared m n p q in record { changes = t.changes; is = t.is; printed = Appends-kept a b c (change_lines t.changes) t.printed k; equal = t.equal };
+}
+
+-- what was told of them is a beginning of itself
+pub compared_in_part : (diff : Diff) (held other : List ℕ) (a b : Option (List ℕ)) (same : Bool) → AreHeldCompared diff held other a b same → AreHeldComparedInPart diff held other a b
+compared_in_part diff held other a b same h = record {
+  kind = h.kind;
+  bytes = h.bytes;
+  opens = h.opens;
+  other_kind = h.other_kind;
+  others = h.others;
+  opens_other = h.opens_other;
+  begun = λ m n p q. let t = h.compared m n p q in record { changes = t.changes; is = t.is; printed = part_all a b (change_lines t.changes) t.printed };
+}
+
+-- a file that is no stream is read so whatever standard input has
+other_read : (place : Place) (i j : Option (List ℕ)) (files : Option Story) (held : List ℕ) → (place ≡ Stream → ⊥) → IsRead place i files held → IsRead place j files held
+other_read (File path) i j files held apart h = h
+other_read Stream i j files held apart h = absurd (apart refl)
+
+-- the second file is read as if the first were not, as not both are standard input
+pub second_read : {R : Type 0} (first second : Place) (remaining : R → Option (List ℕ)) (old new : Watched R) (files : Option Story) (held : List ℕ)
+    → ((first ≡ Stream) × (second ≡ Stream) → ⊥) → (first ≡ Stream) ⊎ (new ≡ old) → IsRead second (remaining new.inner) files held → IsRead second (remaining old.inner) files held
+second_read first second remaining old new files held apart (inl is) h = other_read second (remaining new.inner) (remaining old.inner) files held (λ s. apart (is, s)) h
+second_read first second remaining old new files held apart (inr is) h = subst (λ r. IsRead second (remaining r.inner) files held) is h
+
+-- what two files hold was compared, and so they were
+pub are_diffed : (diff : Diff) (input : Option (List ℕ)) (files : Option Story) (held other : List ℕ) (a b : Option (List ℕ)) (same : Bool) → IsRead diff.old input files held → IsRead diff.new input files other
+    → AreHeldCompared diff held other a b same → IsDiffed diff input files a b same
+are_diffed diff input files held other a b same r s h = record {
+  kind = h.kind;
+  bytes = h.bytes;
+  first = record { held = held; read = r; opens = h.opens };
+  other = h.other_kind;
+  others = h.others;
+  second = record { held = other; read = s; opens = h.opens_other };
+  compared = h.compared;
+}
+
+are_diffed_in_part : (diff : Diff) (input : Option (List ℕ)) (files : Option Story) (held other : List ℕ) (a b : Option (List ℕ)) → IsRead diff.old input files held → IsRead diff.new input files other
+    → AreHeldComparedInPart diff held other a b → IsDiffedInPart diff input files a b
+are_diffed_in_part diff input files held other a b r s h = record {
+  kind = h.kind;
+  bytes = h.bytes;
+  first = record { held = held; read = r; opens = h.opens };
+  other = h.other_kind;
+  others = h.others;
+  second = record { held = other; read = s; opens = h.opens_other };
+  begun = h.begun;
+}
+
+-- a file has no trie, and so the comparison ends
+ends_unopened : (diff : Diff) (file : TrieFile) (input : Option (List ℕ)) (files : Option Story) (held : List ℕ) (a b : Option (List ℕ)) (e : AskError) → IsFileOf diff file → IsRead file.place input files held
+    → HasNoTrieIn file held e → b ≡ a → EndsDiff diff input files a b (ask_refusal e)
+ends_unopened diff file input files held a b ask.TwoInputs of r h same = absurd h
+ends_unopened diff file input files held a b (ask.Unread e) of r h same = absurd h
+ends_unopened diff file input files held a b (ask.NoTrie (BadTag why) t) of r h same = ((file, of, (held, r, BadTag why, h.0)), same)
+ends_unopened diff file input files held a b (ask.NoTrie (Damaged why) t) of r h same = ((file, of, (held, r, Damaged why, h.0)), same)
+ends_unopened diff file input files held a b (ask.NoTrie (NotWellFormed k f) t) of r h same = ((file, of, (held, r, NotWellFormed k f, h.0)), same)
+ends_unopened diff file input files held a b (ask.NoTrie unopened.OutOfMemory t) of r h same = inl same
+ends_unopened diff file input files held a b (ask.NotText key) of r h same = absurd h
+ends_unopened diff file input files held a b (ask.Unanswered e) of r h same = absurd h
+
+-- a beginning was printed, and so it ends
+ends_begun : (diff : Diff) (input : Option (List ℕ)) (files : Option Story) (a b : Option (List ℕ)) (e : AskError) → IsUnanswered e → IsDiffedInPart diff input files a b → EndsDiff diff input files a b (ask_refusal e)
+ends_begun diff input files a b ask.TwoInputs is h = absurd is
+ends_begun diff input files a b (ask.Unread e) is h = absurd is
+ends_begun diff input files a b (ask.NoTrie why t) is h = absurd is
+ends_begun diff input files a b (ask.NotText key) is h = absurd is
+ends_begun diff input files a b (ask.Unanswered e) is h = inr h
+
+pub ends_uncompared : (diff : Diff) (input : Option (List ℕ)) (files : Option Story) (held other : List ℕ) (a b : Option (List ℕ)) (e : DiffError) → IsRead diff.old input files held → IsRead diff.new input files other
+    → AreUncompared diff held other a b e → EndsDiff diff input files a b (ask_refusal e.error)
+ends_uncompared diff input files held other a b e r s (inl (inl h, same)) = ends_unopened diff (old_file diff) input files held a b e.error (inl refl) r h.1 same
+ends_uncompared diff input files held other a b e r s (inl (inr h, same)) = ends_unopened diff (new_file diff) input files other a b e.error (inr refl) s h.1 same
+ends_uncompared diff input files held other a b e r s (inr h) = ends_begun diff input files a b e.error h.1 (are_diffed_in_part diff input files held other a b r s h.2)
+
+-- the reasons why
+reason_unopened : (file : TrieFile) (input : Option (List ℕ)) (files : Option Story) (held : List ℕ) (e : AskError) → IsRead file.place input files held → HasNoTrieIn file held e → HasReason file Verify input files e
+reason_unopened file input files held ask.TwoInputs r h = absurd h
+reason_unopened file input files held (ask.Unread e) r h = absurd h
+reason_unopened file input files held (ask.NoTrie why t) r h = (held, r, h.0, h.1)
+reason_unopened file input files held (ask.NotText key) r h = absurd h
+reason_unopened file input files held (ask.Unanswered e) r h = absurd h
+
+reason_unanswered : (file : TrieFile) (input : Option (List ℕ)) (files : Option Story) (e : AskError) → IsUnanswered e → HasReason file Verify input files e
+reason_unanswered file input files ask.TwoInputs h = absurd h
+reason_unanswered file input files (ask.Unread e) h = absurd h
+reason_unanswered file input files (ask.NoTrie why t) h = absurd h
+reason_unanswered file input files (ask.NotText key) h = absurd h
+reason_unanswered file input files (ask.Unanswered e) h = tt
+
+pub reason_uncompared : (diff : Diff) (input : Option (List ℕ)) (files : Option Story) (held other : List ℕ) (a b : Option (List ℕ)) (e : DiffError) → IsRead diff.old input files held → IsRead diff.new input files other
+    → AreUncompared diff held other a b e → HasDiffReason diff input files e
+reason_uncompared diff input files held other a b e r s (inl (inl h, same)) =
+    (inl h.0, subst (λ file. HasReason file Verify input files e.error) (sym h.0) (reason_unopened (old_file diff) input files held e.error r h.1))
+reason_uncompared diff input files held other a b e r s (inl (inr h, same)) =
+    (inr h.0, subst (λ file. HasReason file Verify input files e.error) (sym h.0) (reason_unopened (new_file diff) input files other e.error s h.1))
+reason_uncompared diff input files held other a b e r s (inr h) = (h.0, reason_unanswered e.file input files e.error h.1)
+
+-- how a comparison ends after its message
+fails : (diff : Diff) (i : Option (List ℕ)) (files : Option Story) (a b : Option (List ℕ)) (read write closed : Bool) → FailsDiff diff i files a b → RunsDiff diff i files a b (failure read write closed)
+fails diff i files a b true write closed h = h
+fails diff i files a b false false closed h = h
+fails diff i files a b false true true h = h
+fails diff i files a b false true false h = h
+
+ends_by : (diff : Diff) (i : Option (List ℕ)) (files : Option Story) (a b : Option (List ℕ)) (read write closed : Bool) (e : AskError) (r : Result (Vec ℕ Global) AllocError) → EndsDiff diff i files a b (ask_refusal e)
+    → RunsDiff diff i files a b (ended (unwrap_or (ask_refusal e) (failure read write closed)) r)
+ends_by diff i files a b read write closed ask.TwoInputs (Ok text) h = h
+ends_by diff i files a b read write closed ask.TwoInputs (Err x) h = inl h.1
+ends_by diff i files a b read write closed (ask.Unread e) (Ok text) h = fails diff i files a b read write closed h
+ends_by diff i files a b read write closed (ask.Unread e) (Err x) h = h
+ends_by diff i files a b read write closed (ask.NoTrie (BadTag why) t) (Ok text) h = h
+ends_by diff i files a b read write closed (ask.NoTrie (BadTag why) t) (Err x) h = inl h.1
+ends_by diff i files a b read write closed (ask.NoTrie (Damaged why) t) (Ok text) h = h
+ends_by diff i files a b read write closed (ask.NoTrie (Damaged why) t) (Err x) h = inl h.1
+ends_by diff i files a b read write closed (ask.NoTrie (NotWellFormed k f) t) (Ok text) h = h
+ends_by diff i files a b read write closed (ask.NoTrie (NotWellFormed k f) t) (Err x) h = inl h.1
+ends_by diff i files a b read write closed (ask.NoTrie unopened.OutOfMemory t) (Ok text) h = fails diff i files a b read write closed h
+ends_by diff i files a b read write closed (ask.NoTrie unopened.OutOfMemory t) (Err x) h = h
+ends_by diff i files a b read write closed (ask.NotText key) r h = absurd h
+ends_by diff i files a b read write closed (ask.Unanswered e) (Ok text) h = fails diff i files a b read write closed h
+ends_by diff i files a b read write closed (ask.Unanswered e) (Err x) h = h
+
+pub diff_ends : (diff : Diff) (i : Option (List ℕ)) (files : Option Story) (a b : Option (List ℕ)) (read write closed : Bool) (e : AskError) (status result : Status) (r : Result (Vec ℕ Global) AllocError)
+    → EndsDiff diff i files a b (ask_refusal e) → status ≡ unwrap_or (ask_refusal e) (failure read write closed) → result ≡ ended status r → RunsDiff diff i files a b result
+diff_ends diff i files a b read write closed e status result r h is ends = rw (ends, is) (ends_by diff i files a b read write closed e r h)
+
+-- what is told of a file is told of the comparison
+pub told_of : (diff : Diff) (file : TrieFile) (i : Option (List ℕ)) (files : Option Story) (a b : Option (List ℕ)) (s : Status) → IsFileOf diff file → IsTold (commands.Ask file Verify) i files a b s
+    → IsTold (commands.Diff diff) i files a b s
+told_of diff file i files a b Done of h = h
+told_of diff file i files a b Absent of h = h
+told_of diff file i files a b Refused of h = absurd h.1.shows
+told_of diff file i files a b Taken of h = h
+told_of diff file i files a b BadUsage of h = h
+told_of diff file i files a b BadInput of h = (file, of, h)
+told_of diff file i files a b Unread of h = h
+told_of diff file i files a b Unwritten of h = h
+told_of diff file i files a b OutOfMemory of h = h
+told_of diff file i files a b Closed of h = h
+
+-- what is false is not so
+pub never : (b : Bool) → b ≡ false → IsTrue b → ⊥
+never b is so = absurd (cc)
+
+-- a file can't be read, and so it ends, and that is why
+pub ends_unread : (diff : Diff) (input : Option (List ℕ)) (files : Option Story) (a : Option (List ℕ)) (e : AskError) → IsUnread e → EndsDiff diff input files a a (ask_refusal e)
+ends_unread diff input files a ask.TwoInputs is = absurd is
+ends_unread diff input files a (ask.Unread e) is = inl refl
+ends_unread diff input files a (ask.NoTrie why t) is = absurd is
+ends_unread diff input files a (ask.NotText key) is = absurd is
+ends_unread diff input files a (ask.Unanswered e) is = absurd is
+
+reason_of_unread : (file : TrieFile) (input : Option (List ℕ)) (files : Option Story) (e : AskError) → IsUnread e → HasReason file Verify input files e
+reason_of_unread file input files ask.TwoInputs is = absurd is
+reason_of_unread file input files (ask.Unread e) is = tt
+reason_of_unread file input files (ask.NoTrie why t) is = absurd is
+reason_of_unread file input files (ask.NotText key) is = absurd is
+reason_of_unread file input files (ask.Unanswered e) is = absurd is
+
+pub reason_unread : (diff : Diff) (input : Option (List ℕ)) (files : Option Story) (e : DiffError) → IsFileOf diff e.file → IsUnread e.error → HasDiffReason diff input files e
+reason_unread diff input files e of is = (of, reason_of_unread e.file input files e.error is)
+
+as_at_first : {R S : Type 0} (diff : Diff) (first second : TrieFile) (remaining : R → Option (List ℕ)) (old new : Watched R) (story : S → Option Story) (d e : S) (other : List ℕ)
+    → ((diff.old ≡ Stream) × (diff.new ≡ Stream) → ⊥) → first ≡ old_file diff → second ≡ new_file diff → e ≡ d → (first.place ≡ Stream) ⊎ (new ≡ old)
+    → IsRead second.place (remaining new.inner) (story e) other → IsRead diff.new (remaining old.inner) (story d) other
+as_at_first diff first second remaining old new story d e other apart f s same untouched q =
+    let un : (diff.old ≡ Stream) ⊎ (new ≡ old) = subst (λ x. (x.place ≡ Stream) ⊎ (new ≡ old)) f untouched in
+    let at : IsRead diff.new (remaining new.inner) (story e) other = subst (λ x. IsRead x.place (remaining new.inner) (story e) other) s q in
+    second_read diff.old diff.new remaining old new (story d) other apart un (subst (λ x. IsRead diff.new (remaining new.inner) (story x) other) same at)
+
+-- what was read of two files, as they were at first
+pub both_read : {R S : Type 0} (diff : Diff) (first second : TrieFile) (remaining : R → Option (List ℕ)) (old new : Watched R) (story : S → Option Story) (d e : S) (held other bytes others : List ℕ)
+    → ((diff.old ≡ Stream) × (diff.new ≡ Stream) → ⊥) → first ≡ old_file diff → second ≡ new_file diff → e ≡ d → (first.place ≡ Stream) ⊎ (new ≡ old) → bytes ≡ held → others ≡ other
+    → IsRead first.place (remaining old.inner) (story d) held → IsRead second.place (remaining new.inner) (story e) other
+    → IsRead diff.old (remaining old.inner) (story d) bytes × IsRead diff.new (remaining old.inner) (story d) others
+both_read diff first second remaining old new story d e held other bytes others apart f s same untouched b o r q =
+    let read : IsRead diff.old (remaining old.inner) (story d) held = subst (λ x. IsRead x.place (remaining old.inner) (story d) held) f r in
+    (subst (λ x. IsRead diff.old (remaining old.inner) (story d) x) (sym b) read, subst (λ x. IsRead diff.new (remaining old.inner) (story d) x) (sym o) (as_at_first diff first second remaining old new story d e other apart f s same untouched q))
+
+-- what was told of both files
+pub numbers_noted : (diff : Diff) (first second : TrieFile) (input : Option (List ℕ)) (files : Option Story) (held other : List ℕ) (a b c : Option (List ℕ)) → first ≡ old_file diff → second ≡ new_file diff
+    → IsRead diff.old input files held × IsRead diff.new input files other → TellsIfDoubtful first held a b → TellsIfDoubtful second other b c → NotesNumbers diff input files a c
+numbers_noted diff first second input files held other a b c f s read one two = record {
+  held = held;
+  read = read.0;
+  other = other;
+  read_other = read.1;
+  between = b;
+  first = subst (λ x. TellsIfDoubtful x held a b) f one;
+  second = subst (λ x. TellsIfDoubtful x other b c) s two;
+}
+
+pub told_twice : (f g h : Bool) (a b c : Option (List ℕ)) → (g ≡ false → (f ≡ false) × TellsMore a b) → (h ≡ false → (g ≡ false) × TellsMore b c) → h ≡ false → (f ≡ false) × TellsMore a c
+told_twice f g h a b c p q ok = let two = q ok in let one = p two.0 in (one.0, (one.1.0 ++ two.1.0, Appends-trans a b c one.1.0 two.1.0 one.1.1 two.1.1))
+
+pub quiet_twice : {R S M : Type 0} (diff : Diff) (first second : TrieFile) (remaining : R → Option (List ℕ)) (old new : Watched R) (story : S → Option Story) (d e : S) (l m n : M)
+    → ((diff.old ≡ Stream) × (diff.new ≡ Stream) → ⊥) → first ≡ old_file diff → second ≡ new_file diff → e ≡ d → (first.place ≡ Stream) ⊎ (new ≡ old)
+    → ((IsDoubtful first (remaining old.inner) (story d) → ⊥) → m ≡ l) → ((IsDoubtful second (remaining new.inner) (story e) → ⊥) → n ≡ m)
+    → (IsEitherDoubtful diff (remaining old.inner) (story d) → ⊥) → n ≡ l
+quiet_twice diff first second remaining old new story d e l m n apart f s same untouched p q none =
+    let one : m ≡ l = p (λ doubt. none (inl (subst (λ x. IsDoubtful x (remaining old.inner) (story d)) f doubt))) in
+    let two : n ≡ m = q (λ doubt. none (inr (doubt.0, as_at_first diff first second remaining old new story d e doubt.0 apart f s same untouched doubt.1, subst (λ x. HasNumberToo x.bare doubt.0) s doubt.2))) in
+    two ∙ one
+
+-- what holds of itself holds whatever a result is
+pub of_any : {T E : Type 0} (r : Result T E) (P : Type 0) → P → IfOk r (λ _. P)
+of_any (Ok x) P h = h
+of_any (Err e) P h = tt

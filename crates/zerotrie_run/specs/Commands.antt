@@ -1,0 +1,46 @@
+-- What each command does with its input, prints and leaves in files, and how it ends.
+use Rattle.std.specs.Prelude.{◌≡◌, ◌⊎◌, ℕ, List, Option, Some, Bool, true, false}
+use Rattle.zerotrie_files.specs.Disks.{Story}
+use Rattle.zerotrie_run.specs.Runs.{World, AreFiles, AreOneStream, IsDoubtful, LeavesInputOf, RunsAsk, RunsBuild, of_lines}
+use Rattle.zerotrie_run.specs.Diffs.{IsEitherDoubtful, RunsDiff}
+use Rattle.zerotrie_run.specs.Combined.{RunsCombine}
+use Rattle.zerotrie_run.specs.declared.command.Command.{Command}
+use Rattle.zerotrie_run.specs.declared.command.Command.TheVariants as commands
+use Rattle.zerotrie_run.specs.declared.command.Place.TheVariants.{Stream}
+use Rattle.zerotrie_run.specs.declared.status.Status.{Status}
+use Rattle.zerotrie_run.specs.declared.status.Status.TheVariants.{BadUsage}
+
+-- a command reads a file of bare bytes that begins with the number of a kind, which is told
+abbrev pub TellsNumber : Command → Option (List ℕ) → Option Story → Type 0
+TellsNumber (commands.Build build) input files = ⊥
+TellsNumber (commands.Ask file question) input files = IsDoubtful file input files
+TellsNumber (commands.Diff diff) input files = IsEitherDoubtful diff input files
+TellsNumber (commands.Combine c) input files = ⊥
+
+-- the file and the keys of a command are both standard input, or two files are
+abbrev pub ReadsTwice : Command → Type 0
+ReadsTwice (commands.Build build) = ⊥
+ReadsTwice (commands.Ask file question) = (file.place ≡ Stream) × (of_lines question ≡ true)
+ReadsTwice (commands.Diff diff) = AreOneStream diff.old diff.new
+ReadsTwice (commands.Combine c) = AreOneStream c.first c.second
+
+-- a command that ends so doesn't read standard input
+abbrev pub LeavesInput : Command → Status → Type 0
+LeavesInput (commands.Build build) status = build.from ≡ Stream → ⊥
+LeavesInput (commands.Ask file question) status = LeavesInputOf file question (Some status)
+LeavesInput (commands.Diff diff) status = (status ≡ BadUsage) ⊎ AreFiles diff.old diff.new
+LeavesInput (commands.Combine c) status = (status ≡ BadUsage) ⊎ AreFiles c.first c.second
+
+-- whether the steps of a command are told
+abbrev pub tells_steps : Command → Bool
+tells_steps (commands.Build build) = build.progress
+tells_steps (commands.Ask file question) = false
+tells_steps (commands.Diff diff) = false
+tells_steps (commands.Combine c) = false
+
+-- how a command ends, what it printed, and what it left in files
+abbrev pub Runs : Command → Option (List ℕ) → World → World → Status → Type 0
+Runs (commands.Build build) input before after status = RunsBuild build input before after status
+Runs (commands.Ask file question) input before after status = (after.files ≡ before.files) × RunsAsk file question input before.files before.printed after.printed status
+Runs (commands.Diff diff) input before after status = (after.files ≡ before.files) × RunsDiff diff input before.files before.printed after.printed status
+Runs (commands.Combine c) input before after status = RunsCombine c input before after status
