@@ -3,7 +3,7 @@
 ghost use Rattle.std.specs.Prelude.{IfOk, codes};
 ghost use Rattle.zerotrie_cli.specs.Words.{IsKind, IsPlace, IsSource, word_of};
 
-use crate::table::{COMMANDS, STATUSES};
+use crate::table::{STATUSES, commands};
 use clap::{Arg, ArgAction, ArgMatches, Command};
 use std::alloc::{AllocError, Global};
 use zerotrie_core::TrieKind;
@@ -157,7 +157,7 @@ pub fn command<'a>(alloc: Global) -> Result<Command<'a>, AllocError> {
         .after_help(STATUSES)
         .subcommand_required(true)
         .arg_required_else_help(true);
-    for row in COMMANDS {
+    for row in commands() {
         program = program.subcommand(row.to_clap(alloc)?)?;
     }
     Ok(program)
@@ -165,7 +165,7 @@ pub fn command<'a>(alloc: Global) -> Result<Command<'a>, AllocError> {
 
 /// Returns what the command of this name does. `None` if there is none.
 pub fn task_of(name: &str) -> Option<Task> {
-    for row in COMMANDS {
+    for row in commands() {
         if row.name == name {
             return Some(row.task);
         }

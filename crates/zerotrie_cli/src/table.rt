@@ -101,8 +101,7 @@ const BOTH: &[Argument] = &[
 pub const STATUSES: &str =
     "Status: 0 if all is done or found; 1 if a key is not there, a text\nbegins with none, pairs differ, or a build is refused; 2 if the command\nline is wrong, FILE is no trie, or IN is no pairs; 3 if a file can't be read\nor written, or memory runs out; 4 if whoever reads the output has\nclosed it.";
 
-/// What the program can be asked to do.
-pub const COMMANDS: &[Subcommand] = &[
+const COMMANDS: &[Subcommand] = &[
     Subcommand {
         name: "build",
         task: Task::Build,
@@ -422,3 +421,8 @@ pub const COMMANDS: &[Subcommand] = &[
         arguments: BOTH,
     },
 ];
+
+/// What the program can be asked to do. A function, so that no proof writes the rows out.
+pub fn commands() -> &'static [Subcommand] {
+    COMMANDS
+}
