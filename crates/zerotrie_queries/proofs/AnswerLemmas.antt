@@ -16,7 +16,7 @@ use Rattle.zerotrie_queries.specs.declared.lookups.Spelling.{Spelling}
 use Rattle.zerotrie_queries.specs.declared.lookups.Spelling.TheVariants.{Plain, Escaped}
 use Rattle.zerotrie_queries.specs.declared.lookups.Query.{Query}
 use Rattle.zerotrie_queries.specs.Printed.{value_line, value_lines, key_line, found_line, fronts_text, are_found}
-use Rattle.zerotrie_queries.specs.Answers.{IsAnswer, IsAnswerAs, IsAdded, Belongs, AreAnswered, AreAnsweredInPart, SpellsNone, as_is, with_escapes}
+use Rattle.zerotrie_queries.specs.Answers.{IsAnswer, IsAnswerAs, IsAdded, Belongs, AreAnswered, AreAnsweredInPart, as_is, with_escapes}
 use Rattle.zerotrie_lines.specs.Escapes.{Spells}
 use Rattle.zerotrie_lines.proofs.SpellingLemmas.{spells_or_not}
 use Rattle.zerotrie_files.specs.Parts.{AppendsPart}
@@ -164,10 +164,6 @@ values_begun at keys a b p =
 pub added_spelled : (of : Asked) (kind : TrieKind) (bytes text key old new : List ℕ) (found : Bool) → Spells text key → IsAdded (as_is of) kind bytes key old new found
     → IsAdded (with_escapes of) kind bytes text old new found
 added_spelled of kind bytes text key old new found spells added m means = let x = added m means in (x.0, inl (key, spells, x.1), x.2)
-
--- a text that spells none is not found
-pub added_malformed : (of : Asked) (kind : TrieKind) (bytes text old new : List ℕ) → SpellsNone text → new ≡ old ++ codes "none\n" → IsAdded (with_escapes of) kind bytes text old new false
-added_malformed of kind bytes text old new none is m means = (codes "none\n", inr (none, refl, refl), is)
 
 -- what is asked of texts, by how they are written
 abbrev query_of : Asked → Spelling → Query
