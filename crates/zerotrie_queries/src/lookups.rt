@@ -7,7 +7,7 @@ ghost use Rattle.zerotrie_core.specs.Texts.{Means};
 ghost use Rattle.zerotrie_core.specs.Kinds.{kind_of};
 ghost use Rattle.zerotrie_files.specs.Faults.{IsNoted};
 ghost use Rattle.zerotrie_queries.specs.Printed.{value_lines, are_found, front_lines};
-ghost use Rattle.zerotrie_queries.specs.Answers.{answers, IsAdded, AreAnswered, AreAnsweredInPart};
+ghost use Rattle.zerotrie_queries.specs.Answers.{answers, as_is, with_escapes, IsAdded, AreAnswered, AreAnsweredInPart};
 ghost use Rattle.zerotrie_queries.specs.declared.lookups.Asked.TheVariants.{Value, Prefixes};
 
 use crate::print::{add_found, add_front, add_key_value, add_value};
@@ -17,7 +17,7 @@ use std::io;
 use std::io::Write;
 use zerotrie_core::{CommonPrefixes, LookUps, ZeroTrieWithOptions, by_kind};
 use zerotrie_files::Noted;
-use zerotrie_lines::write_number;
+use zerotrie_lines::{unescape, write_number};
 
 /// The number of keys whose lines are written at once.
 const BLOCK: usize = 4096;
@@ -37,6 +37,22 @@ pub enum Asked {
     LongestAt(u8),
     /// All keys that the text begins with, the shortest first, each with its value.
     Prefixes,
+}
+
+/// How the keys and texts that are asked for are written.
+#[derive(Clone, Copy, PartialEq, Eq, Debug)]
+pub enum Spelling {
+    /// As they are.
+    Plain,
+    /// With the escapes that keys have in lines of pairs. If one is malformed, nothing is found.
+    Escaped,
+}
+
+/// What is looked up for each text, and how the texts are written.
+#[derive(Clone, Copy, PartialEq, Eq, Debug)]
+pub struct Query {
+    pub asked: Asked,
+    pub spelling: Spelling,
 }
 
 /// Adds a line for each key, its value or `none`, and returns whether all are there.
@@ -77,9 +93,9 @@ fn write_values<W: Write>(
     keys: &[&[u8]],
     output: &mut Noted<W>,
 ) -> io::Result<bool>
-    ensures answered { IfOk result (AreAnswered Value trie.now.kind trie.now.bytes.now
+    ensures answered { IfOk result (AreAnswered (as_is Value) trie.now.kind trie.now.bytes.now
         (map (λ key. key.now) keys.now) (W.contents output.old.inner) (W.contents output.new.inner)) }
-    ensures part { OnErr result (AreAnsweredInPart Value trie.now.kind trie.now.bytes.now
+    ensures part { OnErr result (AreAnsweredInPart (as_is Value) trie.now.kind trie.now.bytes.now
         (map (λ key. key.now) keys.now) (W.contents output.old.inner) (W.contents output.new.inner)) }
     ensures noted { IsNoted result output.old.failed output.new.failed }
 {
@@ -124,7 +140,7 @@ fn add_prefixes(
     trie: &Trie<'_>,
     asked: &[u8],
 ) -> Result<bool, AllocError>
-    ensures { IfOk result (λ found. IsAdded Prefixes trie.now.kind trie.now.bytes.now asked.now
+    ensures { IfOk result (λ found. IsAdded (as_is Prefixes) trie.now.kind trie.now.bytes.now asked.now
         text.old.items text.new.items found) }
 {
     let mut lines = Vec::new(alloc);
@@ -148,7 +164,7 @@ fn add_answer(
     asked: Asked,
     text: &[u8],
 ) -> Result<bool, AllocError>
-    ensures { IfOk result (λ found. IsAdded asked trie.now.kind trie.now.bytes.now text.now
+    ensures { IfOk result (λ found. IsAdded (as_is asked) trie.now.kind trie.now.bytes.now text.now
         line.old.items line.new.items found) }
 {
     match asked {
@@ -176,25 +192,66 @@ fn add_answer(
     }
 }
 
+/// Adds what was asked of the text that is written with these escapes, or `none` if one is
+/// malformed. Returns whether it was found. `buffer` is overwritten.
+fn add_spelled(
+    alloc: Global,
+    line: &mut Vec<u8>,
+    buffer: &mut Vec<u8>,
+    trie: &Trie<'_>,
+    asked: Asked,
+    text: &[u8],
+) -> Result<bool, AllocError>
+    ensures { IfOk result (λ found. IsAdded (with_escapes asked) trie.now.kind trie.now.bytes.now text.now
+        line.old.items line.new.items found) }
+{
+    if unescape(text, buffer)? {
+        let key = buffer.as_slice();
+        return add_answer(alloc, line, trie, asked, key);
+    }
+    line.extend_from_slice(b"none\n")?;
+    Ok(false)
+}
+
+/// Adds the answer to a text, by how it is written, and returns whether it was found. `buffer` is
+/// overwritten.
+fn add_queried(
+    alloc: Global,
+    line: &mut Vec<u8>,
+    buffer: &mut Vec<u8>,
+    trie: &Trie<'_>,
+    query: Query,
+    text: &[u8],
+) -> Result<bool, AllocError>
+    ensures { IfOk result (λ found. IsAdded query trie.now.kind trie.now.bytes.now text.now
+        line.old.items line.new.items found) }
+{
+    match query.spelling {
+        Spelling::Plain => add_answer(alloc, line, trie, query.asked, text),
+        Spelling::Escaped => add_spelled(alloc, line, buffer, trie, query.asked, text),
+    }
+}
+
 /// Writes the answer to each text, one after another, and returns whether all was found.
 fn write_each<W: Write>(
     alloc: Global,
     trie: &Trie<'_>,
-    asked: Asked,
+    query: Query,
     texts: &[&[u8]],
     output: &mut Noted<W>,
 ) -> io::Result<bool>
-    ensures answered { IfOk result (AreAnswered asked trie.now.kind trie.now.bytes.now
+    ensures answered { IfOk result (AreAnswered query trie.now.kind trie.now.bytes.now
         (map (λ t. t.now) texts.now) (W.contents output.old.inner) (W.contents output.new.inner)) }
-    ensures part { OnErr result (AreAnsweredInPart asked trie.now.kind trie.now.bytes.now
+    ensures part { OnErr result (AreAnsweredInPart query trie.now.kind trie.now.bytes.now
         (map (λ t. t.now) texts.now) (W.contents output.old.inner) (W.contents output.new.inner)) }
     ensures noted { IsNoted result output.old.failed output.new.failed }
 {
     let mut line = Vec::new(alloc);
+    let mut buffer = Vec::new(alloc);
     let mut all = true;
     for text in texts {
         line.clear();
-        all &= add_answer(alloc, &mut line, trie, asked, text)?;
+        all &= add_queried(alloc, &mut line, &mut buffer, trie, query, text)?;
         output.write_bytes(line.as_slice())?;
     }
     Ok(all)
@@ -204,25 +261,26 @@ fn write_each<W: Write>(
 ///
 /// An answer is one line, but for `Asked::Prefixes`: then it is `none`, or a line with the number
 /// of keys, as `2 found`, and a line of each. A key is written with escapes, a tab and its value;
-/// after the tab stands `none` if `Asked::Pair` looked for an absent key.
+/// after the tab stands `none` if `Asked::Pair` looked for an absent key. With `Spelling::Escaped`
+/// the answer is that to the bytes that the text spells, and a line `none` if an escape is malformed.
 ///
 /// The answers are those of the trie's map. If the bytes are malformed, it still returns, and the
 /// answers are unspecified. If it fails, a beginning of the answers was written.
 pub fn write_answers<W: Write>(
     alloc: Global,
     trie: &Trie<'_>,
-    asked: Asked,
+    query: Query,
     texts: &[&[u8]],
     output: &mut Noted<W>,
 ) -> io::Result<bool>
-    ensures answered { IfOk result (AreAnswered asked trie.now.kind trie.now.bytes.now
+    ensures answered { IfOk result (AreAnswered query trie.now.kind trie.now.bytes.now
         (map (λ t. t.now) texts.now) (W.contents output.old.inner) (W.contents output.new.inner)) }
-    ensures part { OnErr result (AreAnsweredInPart asked trie.now.kind trie.now.bytes.now
+    ensures part { OnErr result (AreAnsweredInPart query trie.now.kind trie.now.bytes.now
         (map (λ t. t.now) texts.now) (W.contents output.old.inner) (W.contents output.new.inner)) }
     ensures noted { IsNoted result output.old.failed output.new.failed }
 {
-    match asked {
-        Asked::Value => write_values(alloc, trie, texts, output),
-        _ => write_each(alloc, trie, asked, texts, output),
+    match (query.asked, query.spelling) {
+        (Asked::Value, Spelling::Plain) => write_values(alloc, trie, texts, output),
+        _ => write_each(alloc, trie, query, texts, output),
     }
 }

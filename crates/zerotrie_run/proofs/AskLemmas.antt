@@ -9,7 +9,7 @@ use Rattle.zerotrie_queries.specs.reports.Reports.{report_of}
 use Rattle.zerotrie_queries.specs.reports.Forms.{reported}
 use Rattle.zerotrie_queries.specs.Printed.{listed}
 use Rattle.zerotrie_queries.specs.Answers.{AreAnswered}
-use Rattle.zerotrie_queries.specs.declared.lookups.Asked.{Asked}
+use Rattle.zerotrie_queries.specs.declared.lookups.Query.{Query}
 use Rattle.zerotrie_queries.specs.Sorted.{picked}
 use Rattle.zerotrie_queries.specs.Listed.{limited}
 use Rattle.zerotrie_queries.proofs.PartLemmas.{part_all}
@@ -30,7 +30,7 @@ use Rattle.zerotrie_run.specs.declared.command.Question.{Question}
 use Rattle.zerotrie_run.specs.declared.command.Question.TheVariants.{LookUp, List as Listing, Code, Report, Verify, View}
 
 -- a flush leaves what was answered
-pub kept_texts : (of : Asked) (kind : TrieKind) (bytes : List ℕ) (texts : List (List ℕ)) (a b c : Option (List ℕ)) (all : Bool) → AreAnswered of kind bytes texts a b all → Keeps b c
+pub kept_texts : (of : Query) (kind : TrieKind) (bytes : List ℕ) (texts : List (List ℕ)) (a b c : Option (List ℕ)) (all : Bool) → AreAnswered of kind bytes texts a b all → Keeps b c
     → AreAnswered of kind bytes texts a c all
 kept_texts of kind bytes texts a b c all h k m means = let x = h m means in (x.0, x.1, Appends-kept a b c x.0 x.2 k)
 
@@ -66,7 +66,7 @@ same_answer place remaining old new q kind bytes a b all apart (inl is) h = othe
 same_answer place remaining old new q kind bytes a b all apart (inr is) h = subst (λ r. Answers q (remaining r.inner) kind bytes a b all) is h
 
 -- an answer to keys is a beginning of itself
-keys_in_part : (of : Asked) (keys : Keys) (input : Option (List ℕ)) (kind : TrieKind) (bytes : List ℕ) (a b : Option (List ℕ)) (all : Bool) → KeysAnswered of keys input kind bytes a b all
+keys_in_part : (of : Query) (keys : Keys) (input : Option (List ℕ)) (kind : TrieKind) (bytes : List ℕ) (a b : Option (List ℕ)) (all : Bool) → KeysAnswered of keys input kind bytes a b all
     → KeysAnsweredInPart of keys input kind bytes a b
 keys_in_part of keys input kind bytes a b all h = (h.0, h.1, begun_all of kind bytes h.0 a b all h.2)
 

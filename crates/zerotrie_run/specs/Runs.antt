@@ -17,7 +17,7 @@ use Rattle.zerotrie_files.specs.Parts.{AppendsPart}
 use Rattle.zerotrie_queries.specs.Answers.{AreAnswered, AreAnsweredInPart}
 use Rattle.zerotrie_queries.specs.Sorted.{picked}
 use Rattle.zerotrie_queries.specs.Listed.{AreListed, AreListedInPart, AreNoText}
-use Rattle.zerotrie_queries.specs.declared.lookups.Asked.{Asked}
+use Rattle.zerotrie_queries.specs.declared.lookups.Query.{Query}
 use Rattle.zerotrie_queries.specs.code.Code.{whole_code}
 use Rattle.zerotrie_queries.specs.views.Views.{shown}
 use Rattle.zerotrie_queries.specs.reports.Reports.{report_of}
@@ -104,7 +104,7 @@ are_lines Lines = true
 
 -- whether the keys of a question are
 abbrev pub of_lines : Question → Bool
-of_lines (LookUp asked keys) = are_lines keys
+of_lines (LookUp query keys) = are_lines keys
 of_lines (Listing form choice order limit) = false
 of_lines (Code language name) = false
 of_lines (Report form) = false
@@ -143,12 +143,12 @@ abbrev pub IsUnopened : TrieFile → List ℕ → OpenError → Type 0
 IsUnopened file all why = IsUnopenedBy file.check file.bare all why
 
 -- what was printed, and whether all was found, belong to the keys and to the map that the bytes mean, if they mean one
-abbrev pub KeysAnswered : Asked → Keys → (input : Option (List ℕ)) → TrieKind → List ℕ → (old new : Option (List ℕ)) → Bool → Type 0
-KeysAnswered of keys input kind bytes old new all = (ks : List (List ℕ)) × AreKeys keys input ks × AreAnswered of kind bytes ks old new all
+abbrev pub KeysAnswered : Query → Keys → (input : Option (List ℕ)) → TrieKind → List ℕ → (old new : Option (List ℕ)) → Bool → Type 0
+KeysAnswered query keys input kind bytes old new all = (ks : List (List ℕ)) × AreKeys keys input ks × AreAnswered query kind bytes ks old new all
 
 -- what was printed, and whether all was found, belong to the question and to bytes of this kind
 abbrev pub Answers : Question → (input : Option (List ℕ)) → TrieKind → List ℕ → (old new : Option (List ℕ)) → Bool → Type 0
-Answers (LookUp asked keys) input kind bytes old new all = KeysAnswered asked keys input kind bytes old new all
+Answers (LookUp query keys) input kind bytes old new all = KeysAnswered query keys input kind bytes old new all
 Answers (Listing form choice order limit) input kind bytes old new all = (all ≡ true) × AreListed form (picked order kind choice) limit kind bytes old new
 Answers (Code language name) input kind bytes old new all = (all ≡ true) × Appends old new (whole_code language kind name.now bytes)
 Answers Verify input kind bytes old new all = (all ≡ true) × Keeps old new
@@ -156,12 +156,12 @@ Answers (Report form) input kind bytes old new all = (all ≡ true) × Appends o
 Answers (View view) input kind bytes old new all = (all ≡ true) × Appends old new (shown view kind bytes)
 
 -- a beginning of what belongs to the keys and to the map that the bytes mean, if they mean one, was printed
-abbrev pub KeysAnsweredInPart : Asked → Keys → (input : Option (List ℕ)) → TrieKind → List ℕ → (old new : Option (List ℕ)) → Type 0
-KeysAnsweredInPart of keys input kind bytes old new = (ks : List (List ℕ)) × AreKeys keys input ks × AreAnsweredInPart of kind bytes ks old new
+abbrev pub KeysAnsweredInPart : Query → Keys → (input : Option (List ℕ)) → TrieKind → List ℕ → (old new : Option (List ℕ)) → Type 0
+KeysAnsweredInPart query keys input kind bytes old new = (ks : List (List ℕ)) × AreKeys keys input ks × AreAnsweredInPart query kind bytes ks old new
 
 -- a beginning of what belongs to the question and to bytes of this kind was printed
 abbrev pub AnswersInPart : Question → (input : Option (List ℕ)) → TrieKind → List ℕ → (old new : Option (List ℕ)) → Type 0
-AnswersInPart (LookUp asked keys) input kind bytes old new = KeysAnsweredInPart asked keys input kind bytes old new
+AnswersInPart (LookUp query keys) input kind bytes old new = KeysAnsweredInPart query keys input kind bytes old new
 AnswersInPart (Listing form choice order limit) input kind bytes old new = AreListedInPart form (picked order kind choice) limit kind bytes old new
 AnswersInPart (Code language name) input kind bytes old new = AppendsPart old new (whole_code language kind name.now bytes)
 AnswersInPart Verify input kind bytes old new = Keeps old new
@@ -170,7 +170,7 @@ AnswersInPart (View view) input kind bytes old new = AppendsPart old new (shown 
 
 -- the pairs that are asked for can't be printed so: this is the first of their keys that is not UTF-8
 abbrev pub IsUnprintable : Question → TrieKind → List ℕ → List ℕ → Type 0
-IsUnprintable (LookUp asked keys) kind bytes key = ⊥
+IsUnprintable (LookUp query keys) kind bytes key = ⊥
 IsUnprintable (Listing form choice order limit) kind bytes key = AreNoText form (picked order kind choice) limit kind bytes key
 IsUnprintable (Code language name) kind bytes key = ⊥
 IsUnprintable Verify kind bytes key = ⊥

@@ -24,7 +24,7 @@ use std::io::{BufWriter, ErrorKind, Read, Write};
 use zerotrie_core::TrieKind;
 use zerotrie_files::{Disk, Noted, Store};
 use zerotrie_queries::{
-    Asked, ListError, OpenError, Trie, looks_like_text, write_answers, write_list, write_trie_code,
+    ListError, OpenError, Query, Trie, looks_like_text, write_answers, write_list, write_trie_code,
     write_trie_report, write_trie_view,
 };
 
@@ -146,21 +146,21 @@ fn open<'a>(alloc: Global, file: TrieFile<'_>, held: &'a [u8]) -> Result<Trie<'a
 fn answer_keys<R: Read, W: Write + Drop>(
     alloc: Global,
     trie: &Trie<'_>,
-    asked: Asked,
+    query: Query,
     keys: Keys<'_>,
     input: &mut Noted<R>,
     output: &mut Noted<BufWriter<W>>,
 ) -> Result<bool, AnswerError>
-    ensures answered { IfOk result (KeysAnswered asked keys.entry (R.remaining input.old.inner)
+    ensures answered { IfOk result (KeysAnswered query keys.entry (R.remaining input.old.inner)
         trie.now.kind trie.now.bytes.now (writer_contents W.contents output.old.inner) (writer_contents W.contents output.new.inner)) }
-    ensures part { OnErr result (KeysAnsweredInPart asked keys.entry (R.remaining input.old.inner)
+    ensures part { OnErr result (KeysAnsweredInPart query keys.entry (R.remaining input.old.inner)
         trie.now.kind trie.now.bytes.now (writer_contents W.contents output.old.inner) (writer_contents W.contents output.new.inner)) }
     ensures noted { OnOk result (SameNotes input.old input.new output.old output.new) }
     ensures unread { are_lines keys.entry ≡ false → input.new ≡ input.old }
 {
     match keys {
-        Keys::Words(words) => Ok(write_answers(alloc, trie, asked, words, output)?),
-        Keys::Lines => answer_lines(alloc, trie, asked, input, output),
+        Keys::Words(words) => Ok(write_answers(alloc, trie, query, words, output)?),
+        Keys::Lines => answer_lines(alloc, trie, query, input, output),
     }
 }
 
@@ -181,8 +181,8 @@ fn answer<R: Read, W: Write + Drop>(
     ensures unread { of_lines question.entry ≡ false → input.new ≡ input.old }
 {
     match question {
-        Question::LookUp(asked, keys) => {
-            Ok(answer_keys(alloc, trie, asked, keys, input, output)?)
+        Question::LookUp(query, keys) => {
+            Ok(answer_keys(alloc, trie, query, keys, input, output)?)
         }
         Question::List(form, choice, order, limit) => {
             match write_list(alloc, trie, form, choice, order, limit, output) {

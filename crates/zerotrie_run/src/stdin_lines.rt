@@ -17,7 +17,7 @@ use std::io;
 use std::io::{BufWriter, ErrorKind, Read, Write};
 use zerotrie_files::Noted;
 use zerotrie_lines::{read_lines, whole_lines};
-use zerotrie_queries::{Asked, Trie, write_answers};
+use zerotrie_queries::{Query, Trie, write_answers};
 
 /// Why there is no answer, or not all of it.
 #[derive(Debug, Drop)]
@@ -40,19 +40,19 @@ impl From<io::Error> for AnswerError {
 fn answer_part<W: Write + Drop>(
     alloc: Global,
     trie: &Trie<'_>,
-    asked: Asked,
+    query: Query,
     part: &[u8],
     output: &mut Noted<BufWriter<W>>,
 ) -> io::Result<bool>
-    ensures answered { IfOk result (AreAnswered asked trie.now.kind trie.now.bytes.now
+    ensures answered { IfOk result (AreAnswered query trie.now.kind trie.now.bytes.now
         (lines_of part.now) (writer_contents W.contents output.old.inner) (writer_contents W.contents output.new.inner)) }
-    ensures part { OnErr result (AreAnsweredInPart asked trie.now.kind trie.now.bytes.now
+    ensures part { OnErr result (AreAnsweredInPart query trie.now.kind trie.now.bytes.now
         (lines_of part.now) (writer_contents W.contents output.old.inner) (writer_contents W.contents output.new.inner)) }
     ensures handed { OnOk result (HandsOn output.old.inner output.new.inner) }
     ensures noted { IsNoted result output.old.failed output.new.failed }
 {
     let lines = read_lines(alloc, part)?;
-    let all = write_answers(alloc, trie, asked, lines.as_slice(), output)?;
+    let all = write_answers(alloc, trie, query, lines.as_slice(), output)?;
     output.hand_on()?;
     Ok(all)
 }
@@ -87,15 +87,15 @@ fn drop_front(held: &mut Vec<u8>, len: usize)
 pub fn answer_lines<R: Read, W: Write + Drop>(
     alloc: Global,
     trie: &Trie<'_>,
-    asked: Asked,
+    query: Query,
     input: &mut Noted<R>,
     output: &mut Noted<BufWriter<W>>,
 ) -> Result<bool, AnswerError>
-    ensures answered { IfOk result (KeysAnswered asked Lines (R.remaining input.old.inner)
+    ensures answered { IfOk result (KeysAnswered query Lines (R.remaining input.old.inner)
         trie.now.kind trie.now.bytes.now (writer_contents W.contents output.old.inner) (writer_contents W.contents output.new.inner)) }
-    ensures part { OnErr result (KeysAnsweredInPart asked Lines (R.remaining input.old.inner)
+    ensures part { OnErr result (KeysAnsweredInPart query Lines (R.remaining input.old.inner)
         trie.now.kind trie.now.bytes.now (writer_contents W.contents output.old.inner) (writer_contents W.contents output.new.inner)) }
-    ensures before { IfErr result (λ e. AreAnsweredSoFar asked trie.now.kind trie.now.bytes.now
+    ensures before { IfErr result (λ e. AreAnsweredSoFar query trie.now.kind trie.now.bytes.now
         (R.remaining input.old.inner) (R.remaining input.new.inner)
         (writer_contents W.contents output.old.inner) (writer_contents W.contents output.new.inner)
         (HandsOn output.old.inner output.new.inner) e) }
@@ -111,7 +111,7 @@ pub fn answer_lines<R: Read, W: Write + Drop>(
             Err(error) => return Err(AnswerError::Input(error)),
         };
         let len = part_len(held.as_slice(), before, ended);
-        all &= answer_part(alloc, trie, asked, &held[..len], output)?;
+        all &= answer_part(alloc, trie, query, &held[..len], output)?;
         drop_front(&mut held, len);
         if ended {
             return Ok(all);

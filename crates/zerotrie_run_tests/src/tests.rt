@@ -11,7 +11,9 @@ use zerotrie_core::TrieKind;
 use zerotrie_files::{Disk, Noted, Store};
 use zerotrie_lines::{Format, LineEnd};
 use zerotrie_making::{Duplicates, FileForm, Plan, Source};
-use zerotrie_queries::{Asked, Choice, Form, Language, Order, ReportForm, Style, View};
+use zerotrie_queries::{
+    Asked, Choice, Form, Language, Order, Query, ReportForm, Spelling, Style, View,
+};
 use zerotrie_run::{Build, Check, Command, Keys, Place, Question, Status, TrieFile, run};
 
 /// A run of the program: the files that are there, the words that are typed in, and what is to come of it.
@@ -102,6 +104,22 @@ const SPARING: Build<'static> = Build {
     ..BUILD
 };
 
+/// The values of keys, keys with their values, and the longest keys, of texts that are as they are.
+const VALUES: Query = Query {
+    asked: Asked::Value,
+    spelling: Spelling::Plain,
+};
+
+const PAIRS: Query = Query {
+    asked: Asked::Pair,
+    ..VALUES
+};
+
+const LONGEST: Query = Query {
+    asked: Asked::Longest,
+    ..VALUES
+};
+
 /// Sealed files: made and asked, spared, and damaged.
 const SEALS: [Row; 6] = [
     Row {
@@ -136,7 +154,7 @@ const SEALS: [Row; 6] = [
     },
     Row {
         files: &[("names.trie", SEALED)],
-        command: Command::Ask(FILE, Question::LookUp(Asked::Pair, Keys::Words(ABSENT))),
+        command: Command::Ask(FILE, Question::LookUp(PAIRS, Keys::Words(ABSENT))),
         status: Status::Absent,
         printed: b"bar\t2\nunknown\tnone\n",
         told: b"",
@@ -210,11 +228,31 @@ const THERE: &[&[u8]] = &[b"bar"];
 
 const ABSENT: &[&[u8]] = &[b"bar", b"unknown"];
 
+/// A key with an escape, and two with malformed ones.
+const WRITTEN: &[&[u8]] = &[b"b\\x61r", b"bar\\", b"b\\ar"];
+
 /// Questions to that file.
-const QUESTIONS: [Row; 3] = [
+const QUESTIONS: [Row; 4] = [
     Row {
         files: &[("names.trie", TRIE)],
-        command: Command::Ask(FILE, Question::LookUp(Asked::Value, Keys::Words(THERE))),
+        command: Command::Ask(
+            FILE,
+            Question::LookUp(
+                Query {
+                    spelling: Spelling::Escaped,
+                    ..PAIRS
+                },
+                Keys::Words(WRITTEN),
+            ),
+        ),
+        status: Status::Absent,
+        printed: b"bar\t2\nnone\nnone\n",
+        told: b"",
+        left: ("names.trie", TRIE),
+    },
+    Row {
+        files: &[("names.trie", TRIE)],
+        command: Command::Ask(FILE, Question::LookUp(VALUES, Keys::Words(THERE))),
         status: Status::Done,
         printed: b"2\n",
         told: b"",
@@ -222,7 +260,7 @@ const QUESTIONS: [Row; 3] = [
     },
     Row {
         files: &[("names.trie", TRIE)],
-        command: Command::Ask(FILE, Question::LookUp(Asked::Value, Keys::Words(ABSENT))),
+        command: Command::Ask(FILE, Question::LookUp(VALUES, Keys::Words(ABSENT))),
         status: Status::Absent,
         printed: b"2\nnone\n",
         told: b"",
@@ -230,7 +268,7 @@ const QUESTIONS: [Row; 3] = [
     },
     Row {
         files: &[("names.trie", TRIE)],
-        command: Command::Ask(FILE, Question::LookUp(Asked::Longest, Keys::Lines)),
+        command: Command::Ask(FILE, Question::LookUp(LONGEST, Keys::Lines)),
         status: Status::Done,
         printed: b"bar\t2\nfoo\t1\n",
         told: b"",
@@ -327,7 +365,7 @@ const UNANSWERED: [Row; 4] = [
                 place: Place::Stream,
                 ..FILE
             },
-            Question::LookUp(Asked::Value, Keys::Lines),
+            Question::LookUp(VALUES, Keys::Lines),
         ),
         status: Status::BadUsage,
         printed: b"",
@@ -336,7 +374,7 @@ const UNANSWERED: [Row; 4] = [
     },
     Row {
         files: &[("names.tsv", NAMES)],
-        command: Command::Ask(FILE, Question::LookUp(Asked::Value, Keys::Lines)),
+        command: Command::Ask(FILE, Question::LookUp(VALUES, Keys::Lines)),
         status: Status::Unread,
         printed: b"",
         told: b"zerotrie: names.trie: entity not found\n",
@@ -470,7 +508,7 @@ fn whole_lines_are_answered_before_a_fault(rt: HostRuntime) -> Result<(), Fail> 
     let mut input = Noted::new(Broken { left: b"barn\nf" });
     let status = run(
         alloc,
-        Command::Ask(FILE, Question::LookUp(Asked::Longest, Keys::Lines)),
+        Command::Ask(FILE, Question::LookUp(LONGEST, Keys::Lines)),
         &mut files,
         &mut input,
         &mut output,

@@ -14,17 +14,17 @@ returns-clause-answered g c =
     let old = contents c.args.output.now.inner in
     let mid = contents c.write_answers.new.output.inner in
     let lines = ap (map (λ line. line.now)) c.as_slice.ensures.value ∙ c.in_ok-lines.ensures in
-    let answered = subst (λ ts. AreAnswered c.args.asked trie.kind trie.bytes.now ts old mid c.in_ok-all.all) lines c.in_ok-all.ensures.answered in
-    kept_texts c.args.asked trie.kind trie.bytes.now _ old mid (contents c.hand_on.new.self.inner) c.in_ok-all.all answered c.hand_on.ensures.bytes
+    let answered = subst (λ ts. AreAnswered c.args.query trie.kind trie.bytes.now ts old mid c.in_ok-all.all) lines c.in_ok-all.ensures.answered in
+    kept_texts c.args.query trie.kind trie.bytes.now _ old mid (contents c.hand_on.new.self.inner) c.in_ok-all.all answered c.hand_on.ensures.bytes
 
 pub returns-in_err-lines-clause-part : goal.returns-in_err-lines-clause-part
-returns-in_err-lines-clause-part g c = on_err c.from_residual.result (begun_none c.args.asked c.args.trie.now.kind c.args.trie.now.bytes.now (lines_of c.args.part.now) (writer_contents g.W.Write.contents c.args.output.now.inner))
+returns-in_err-lines-clause-part g c = on_err c.from_residual.result (begun_none c.args.query c.args.trie.now.kind c.args.trie.now.bytes.now (lines_of c.args.part.now) (writer_contents g.W.Write.contents c.args.output.now.inner))
 
 pub returns-in_err-all-clause-part : goal.returns-in_err-all-clause-part
 returns-in_err-all-clause-part g c =
     let lines = ap (map (λ line. line.now)) c.as_slice.ensures.value ∙ c.in_ok-lines.ensures in
     on_err c.from_residual-in_err-all.result
-    (subst (λ ts. AreAnsweredInPart c.args.asked c.args.trie.now.kind c.args.trie.now.bytes.now ts (writer_contents g.W.Write.contents c.args.output.now.inner) (writer_contents g.W.Write.contents c.write_answers.new.output.inner)) lines c.in_err-all.ensures.part)
+    (subst (λ ts. AreAnsweredInPart c.args.query c.args.trie.now.kind c.args.trie.now.bytes.now ts (writer_contents g.W.Write.contents c.args.output.now.inner) (writer_contents g.W.Write.contents c.write_answers.new.output.inner)) lines c.in_err-all.ensures.part)
 
 pub returns-in_err-hand_on-clause-part : goal.returns-in_err-hand_on-clause-part
 returns-in_err-hand_on-clause-part g c =
@@ -33,6 +33,6 @@ returns-in_err-hand_on-clause-part g c =
     let old = contents c.args.output.now.inner in
     let mid = contents c.write_answers.new.output.inner in
     let lines = ap (map (λ line. line.now)) c.as_slice.ensures.value ∙ c.in_ok-lines.ensures in
-    let answered = subst (λ ts. AreAnswered c.args.asked trie.kind trie.bytes.now ts old mid c.in_ok-all.all) lines c.in_ok-all.ensures.answered in
-    let kept = kept_texts c.args.asked trie.kind trie.bytes.now _ old mid (contents c.hand_on.new.self.inner) c.in_ok-all.all answered c.hand_on.ensures.bytes in
-    on_err c.from_residual-in_err-hand_on.result (begun_all c.args.asked trie.kind trie.bytes.now (lines_of c.args.part.now) old (contents c.hand_on.new.self.inner) c.in_ok-all.all kept)
+    let answered = subst (λ ts. AreAnswered c.args.query trie.kind trie.bytes.now ts old mid c.in_ok-all.all) lines c.in_ok-all.ensures.answered in
+    let kept = kept_texts c.args.query trie.kind trie.bytes.now _ old mid (contents c.hand_on.new.self.inner) c.in_ok-all.all answered c.hand_on.ensures.bytes in
+    on_err c.from_residual-in_err-hand_on.result (begun_all c.args.query trie.kind trie.bytes.now (lines_of c.args.part.now) old (contents c.hand_on.new.self.inner) c.in_ok-all.all kept)
