@@ -216,10 +216,15 @@ fn add_index_answer(
 {
     let value = get(index, key);
     match asked {
-        Asked::Pair => add_key_value(line, key, value)?,
-        _ => add_value(line, value)?,
+        Asked::Pair => {
+            add_key_value(line, key, value)?;
+            Ok(value.is_some())
+        }
+        _ => {
+            add_value(line, value)?;
+            Ok(value.is_some())
+        }
     }
-    Ok(value.is_some())
 }
 
 /// Adds what was asked of a text, and returns whether it was found.
