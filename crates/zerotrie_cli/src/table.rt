@@ -335,7 +335,7 @@ const COMMANDS: &[Subcommand] = &[
     Subcommand {
         name: "verify",
         task: Task::Ask(Topic::Verify),
-        about: "Test all bytes, and print nothing if they are a trie",
+        about: "Test all bytes, and print nothing if they are a trie or an index",
         help: "Example: zerotrie verify names.trie\nStatus: 2 if FILE is no trie.",
         arguments: &[FILE, BARE],
     },

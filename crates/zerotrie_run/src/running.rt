@@ -104,7 +104,7 @@ pub(crate) fn end<M: Write>(
 /// messages are then the steps of a build, if they were asked for, and a warning for a file that is
 /// read as bare bytes and begins with the number of a kind. If the file and the keys, or two files,
 /// are both standard input, the usage is bad. Standard input is not read unless the command needs
-/// it; keys are not read from it if the file has no trie.
+/// it; keys are not read from it if nothing in the file answers.
 pub fn run<D: Disk, R: Read, W: Write + Drop, M: Write>(
     alloc: Global,
     command: Command<'_>,
