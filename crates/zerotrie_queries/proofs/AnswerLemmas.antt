@@ -190,3 +190,16 @@ adds_value Pair at key old new value keys other is added = absurd (other refl)
 adds_value Longest at key old new value keys other is added = absurd (cc keys)
 adds_value (LongestAt d) at key old new value keys other is added = absurd (cc keys)
 adds_value Prefixes at key old new value keys other is added = absurd (cc keys)
+
+pub added_malformed : (of : Asked) (kind : TrieKind) (bytes text old new : List ℕ) → SpellsNone text → new ≡ old ++ codes "none\n" → IsAdded (with_escapes of) kind bytes text old new false
+added_malformed of kind bytes text old new none is m means = (codes "none\n", inr (none, refl, refl), is)
+
+-- what is asked of texts, by how they are written
+abbrev query_of : Asked → Spelling → Query
+query_of asked how = record { asked = asked; spelling = how }
+
+pub is_plain : (q : Query) → q.spelling ≡ Plain → as_is q.asked ≡ q
+is_plain q is = ap (query_of q.asked) (sym is)
+
+pub is_escaped : (q : Query) → q.spelling ≡ Escaped → with_escapes q.asked ≡ q
+is_escaped q is = ap (query_of q.asked) (sym is)
