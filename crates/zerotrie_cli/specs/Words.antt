@@ -24,6 +24,9 @@ use Rattle.zerotrie_queries.specs.declared.code.Language.{Language}
 use Rattle.zerotrie_queries.specs.declared.code.Language.TheVariants as lang
 use Rattle.zerotrie_queries.specs.declared.lookups.Asked.{Asked}
 use Rattle.zerotrie_queries.specs.declared.lookups.Asked.TheVariants as asked
+use Rattle.zerotrie_queries.specs.declared.lookups.Spelling.{Spelling}
+use Rattle.zerotrie_queries.specs.declared.lookups.Spelling.TheVariants as spelling
+use Rattle.zerotrie_queries.specs.declared.lookups.Query.{Query}
 use Rattle.zerotrie_queries.specs.declared.reports.ReportForm.{ReportForm}
 use Rattle.zerotrie_queries.specs.declared.reports.ReportForm.TheVariants as report
 use Rattle.zerotrie_queries.specs.declared.source.Choice.{Choice}
@@ -182,6 +185,14 @@ get_by false = asked.Value
 
 abbrev pub IsGet : Option (List ℕ) → Asked → Type 0
 IsGet word a = (flag : Bool) × IsFlag word flag × (a ≡ get_by flag)
+
+-- how keys and texts are written: with escapes by the flag
+abbrev pub spelling_by : Bool → Spelling
+spelling_by true = spelling.Escaped
+spelling_by false = spelling.Plain
+
+abbrev pub IsSpelling : Option (List ℕ) → Spelling → Type 0
+IsSpelling word s = (flag : Bool) × IsFlag word flag × (s ≡ spelling_by flag)
 
 -- how a report is printed: as JSON by the flag
 abbrev pub report_by : Bool → ReportForm
@@ -361,8 +372,10 @@ pub record IsCode (matches : ArgMatches) (language : Language) (name : List ℕ)
 
 -- what a trie is asked, by the words of a command
 abbrev pub IsQuestion : ArgMatches → Topic → Option (List (List ℕ)) → Question → Type 0
-IsQuestion matches topic.Get texts q = (a : Asked) × (of : Keys) × IsGet (flag_of matches (codes "keys")) a × AreKeysOf texts of × (q ≡ question.LookUp a of)
-IsQuestion matches topic.Longest texts q = (a : Asked) × (of : Keys) × IsLongest matches a × AreKeysOf texts of × (q ≡ question.LookUp a of)
+IsQuestion matches topic.Get texts q = (query : Query) × (of : Keys) × IsGet (flag_of matches (codes "keys")) query.asked × IsSpelling (flag_of matches (codes "escaped")) query.spelling
+    × AreKeysOf texts of × (q ≡ question.LookUp query of)
+IsQuestion matches topic.Longest texts q = (query : Query) × (of : Keys) × IsLongest matches query.asked × IsSpelling (flag_of matches (codes "escaped")) query.spelling
+    × AreKeysOf texts of × (q ≡ question.LookUp query of)
 IsQuestion matches topic.List texts q = (f : Form) × (prefix : Bor (List ℕ)) × (o : Order) × (limit : Option ℕ) × IsListing matches f prefix.now o limit × (q ≡ question.List f (choice.Prefix prefix) o limit)
 IsQuestion matches topic.Search texts q = (f : Form) × (c : Choice) × (o : Order) × (limit : Option ℕ) × IsSearch matches f c o limit × (q ≡ question.List f c o limit)
 IsQuestion matches topic.Verify texts q = q ≡ question.Verify

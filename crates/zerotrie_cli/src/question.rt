@@ -3,7 +3,7 @@
 ghost use Rattle.std.specs.Prelude.{◌≡◌, ◌≢◌, ◌∷◌, [], ℕ, List, true, false, Some, IfOk, codes, map};
 ghost use Rattle.std.specs.Borrow.{Bor};
 ghost use Rattle.zerotrie_queries.specs.declared.code.Language.{Language};
-ghost use Rattle.zerotrie_cli.specs.Words.{AreKeysOf, HasNoRange, IsAsk, IsBorder, IsCheck, IsCode, IsFile, IsFlag, IsFuzzy, IsGet, IsGlob, IsLimit, IsListForm, IsLongest, IsOrder, IsQuestion, IsRange, IsReportForm, IsSought, flag_of, given_words, is_alone, language_word, texts_of, view_word, word_of};
+ghost use Rattle.zerotrie_cli.specs.Words.{AreKeysOf, HasNoRange, IsAsk, IsBorder, IsCheck, IsCode, IsFile, IsFlag, IsFuzzy, IsGet, IsGlob, IsLimit, IsListForm, IsLongest, IsOrder, IsQuestion, IsRange, IsReportForm, IsSought, IsSpelling, flag_of, given_words, is_alone, language_word, texts_of, view_word, word_of};
 ghost use Rattle.zerotrie_queries.specs.declared.views.View.{View};
 ghost use Rattle.zerotrie_run.specs.declared.command.Question.TheVariants as question;
 
@@ -11,7 +11,9 @@ use crate::arguments::{Topic, kind_in, source_in};
 use clap::ArgMatches;
 use std::alloc::{AllocError, Global};
 use std::ops::Bound;
-use zerotrie_queries::{Asked, Choice, Form, Language, Order, ReportForm, Style, View, is_name};
+use zerotrie_queries::{
+    Asked, Choice, Form, Language, Order, Query, ReportForm, Spelling, Style, View, is_name,
+};
 use zerotrie_run::{Check, Command, Keys, Question, TrieFile};
 use zerotrie_search::{Glob, GlobError, KeyRange, LevenshteinChars, Subsequence};
 
@@ -318,6 +320,28 @@ fn get_in(matches: &ArgMatches<'_>) -> Asked
     }
 }
 
+/// How keys or texts are written: with escapes by the flag.
+fn spelling_in(matches: &ArgMatches<'_>) -> Spelling
+    ensures { IsSpelling (flag_of matches.now (codes "escaped")) result }
+{
+    if matches.get_flag("escaped") {
+        Spelling::Escaped
+    } else {
+        Spelling::Plain
+    }
+}
+
+/// What is asked, with how the keys or texts are written.
+fn query_in(matches: &ArgMatches<'_>, asked: Asked) -> Query
+    ensures asked { result.asked ≡ asked }
+    ensures spelling { IsSpelling (flag_of matches.now (codes "escaped")) result.spelling }
+{
+    Query {
+        asked,
+        spelling: spelling_in(matches),
+    }
+}
+
 /// Returns the question of a command. It is an error, with the message, if an option has a wrong
 /// word.
 fn question_in<'w, 'a: 'w>(
@@ -328,8 +352,14 @@ fn question_in<'w, 'a: 'w>(
     ensures { IfOk result (IsQuestion matches.now topic (texts_of words.now)) }
 {
     match topic {
-        Topic::Get => Ok(Question::LookUp(get_in(matches), keys_of(words)?)),
-        Topic::Longest => Ok(Question::LookUp(longest_in(matches)?, keys_of(words)?)),
+        Topic::Get => {
+            let asked = get_in(matches);
+            Ok(Question::LookUp(query_in(matches, asked), keys_of(words)?))
+        }
+        Topic::Longest => {
+            let asked = longest_in(matches)?;
+            Ok(Question::LookUp(query_in(matches, asked), keys_of(words)?))
+        }
         Topic::List => {
             let prefix = matches.get_str("prefix").unwrap_or("").as_bytes();
             let choice = Choice::Prefix(prefix);

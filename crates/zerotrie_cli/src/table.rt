@@ -41,6 +41,13 @@ const NO_CHECK: Argument = Argument {
     help: "Skip the test of the bytes of a file that is not sealed",
 };
 
+/// How keys and texts are written.
+const ESCAPED: Argument = Argument {
+    name: "escaped",
+    form: Form::Flag(None),
+    help: "Read \\t, \\n, \\r, \\\\ and \\xHH, as list writes them",
+};
+
 const SORTED: Argument = Argument {
     name: "sorted",
     form: Form::Flag(Some('S')),
@@ -176,6 +183,7 @@ const LOOK_UPS: &[Subcommand] = &[
                 form: Form::Flag(Some('k')),
                 help: "Print each key in front of its value",
             },
+            ESCAPED,
             BARE,
             NO_CHECK,
         ],
@@ -203,6 +211,7 @@ const LOOK_UPS: &[Subcommand] = &[
                 form: Form::AnyText("BYTE", None),
                 help: "Take only keys that end with the text or before this byte",
             },
+            ESCAPED,
             BARE,
             NO_CHECK,
         ],
@@ -335,7 +344,7 @@ const REPORTS: &[Subcommand] = &[
     Subcommand {
         name: "verify",
         task: Task::Ask(Topic::Verify),
-        about: "Test all bytes, and print nothing if they are a trie",
+        about: "Test all bytes, and print nothing if they are a trie or an index",
         help: "Example: zerotrie verify names.trie\nStatus: 2 if FILE is no trie.",
         arguments: &[FILE, BARE],
     },

@@ -3,6 +3,7 @@ mod TableLemmas
 mod PlainLemmas
 mod StopLemmas
 mod EscapeLemmas
+pub mod SpellingLemmas
 mod ItemLemmas
 mod LineLemmas
 mod BlockLemmas

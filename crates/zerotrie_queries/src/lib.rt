@@ -9,6 +9,7 @@
 pub mod code;
 mod diff;
 mod file;
+mod finder;
 mod first_pairs;
 mod json_listing;
 mod json_text;
@@ -25,8 +26,9 @@ mod views;
 pub use code::{Language, is_name, write_trie_code};
 pub use diff::write_diff;
 pub use file::{OpenError, looks_like_text};
+pub use finder::Finder;
 pub use listing::{ListError, write_list};
-pub use lookups::{Asked, write_answers};
+pub use lookups::{Asked, Query, Spelling, write_answers};
 pub use print::{Form, Style};
 pub use reports::{Branches, Report, ReportForm, write_trie_report};
 pub use source::{Choice, Order};

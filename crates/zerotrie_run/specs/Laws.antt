@@ -11,7 +11,7 @@ use Rattle.zerotrie_making.specs.Kept.{kept}
 use Rattle.zerotrie_making.specs.Made.{IsFile, OfInput}
 use Rattle.zerotrie_making.specs.declared.making.FileForm.{FileForm}
 use Rattle.zerotrie_making.specs.declared.making.FileForm.TheVariants as form
-use Rattle.zerotrie_run.specs.Runs.{World, IsRead, Opens, HasNoTrie, IsMade, RunsAsk, RunsBuild}
+use Rattle.zerotrie_run.specs.Runs.{World, IsRead, Opens, Content, OpensFor, HasNoTrie, IsMade, RunsAsk, RunsBuild}
 use Rattle.zerotrie_run.specs.Statuses.{number_of}
 use Rattle.zerotrie_run.specs.declared.status.Status.{Status}
 use Rattle.zerotrie_run.specs.declared.status.Status.TheVariants.{Refused, Taken, BadUsage, BadInput}
@@ -44,16 +44,20 @@ MadeOpens = (build : Build) (input : Option (List ℕ)) (before after : World) (
 abbrev pub HasTrie : TrieFile → List ℕ → Story → Type 0
 HasTrie file input files = (held : List ℕ) × IsRead file.place (Some input) (Some files) held × (kind : TrieKind) × (bytes : List ℕ) × Opens file held kind bytes
 
--- A question to a file that is not taken without a test is refused as bad input only if the file has no trie; and if it has none, that is how it ends,
--- unless the usage is bad or something failed.
-pub record IsRefusedExactly (file : TrieFile) (input : List ℕ) (files : Story) (status : Status) : Type 0 where
-  pub only : status ≡ BadInput → HasTrie file input files → ⊥
-  pub always : (HasTrie file input files → ⊥) → (status ≡ BadInput) ⊎ (status ≡ BadUsage) ⊎ (3 ≤ number_of status)
+-- the file that is read has a trie, or an index that answers the question, which is opened
+abbrev pub HasAnswer : TrieFile → Question → List ℕ → Story → Type 0
+HasAnswer file question input files = (held : List ℕ) × IsRead file.place (Some input) (Some files) held × (content : Content) × OpensFor file question held content
+
+-- A question to a file that is not taken without a test is refused as bad input only if the file has no trie, nor an index that answers it;
+-- and if it has none, that is how it ends, unless the usage is bad or something failed.
+pub record IsRefusedExactly (file : TrieFile) (question : Question) (input : List ℕ) (files : Story) (status : Status) : Type 0 where
+  pub only : status ≡ BadInput → HasAnswer file question input files → ⊥
+  pub always : (HasAnswer file question input files → ⊥) → (status ≡ BadInput) ⊎ (status ≡ BadUsage) ⊎ (3 ≤ number_of status)
 
 -- so each question ends, over files and an input that are known
 abbrev pub RefusedExactly : Type 0
 RefusedExactly = (file : TrieFile) (question : Question) (input : List ℕ) (files : Story) (old new : Option (List ℕ)) (status : Status)
-    → RunsAsk file question (Some input) (Some files) old new status → IsRefusedExactly file input files status
+    → RunsAsk file question (Some input) (Some files) old new status → IsRefusedExactly file question input files status
 
 -- the input that is read makes a file
 abbrev pub MakesFile : Build → List ℕ → Story → Type 0

@@ -5,7 +5,7 @@ ghost use Rattle.zerotrie_run.specs.Runs.{AreOneStream, IsNamed, IsNameOf};
 
 use zerotrie_core::TrieKind;
 use zerotrie_making::{FileForm, Plan};
-use zerotrie_queries::{Asked, Choice, Form, Language, Order, ReportForm, View};
+use zerotrie_queries::{Choice, Form, Language, Order, Query, ReportForm, View};
 use zerotrie_sets::Operation;
 
 /// Where bytes come from, or go to.
@@ -63,7 +63,7 @@ pub enum Keys<'a> {
 #[derive(Clone, Copy, Debug)]
 pub enum Question<'a> {
     /// These keys or texts.
-    LookUp(Asked, Keys<'a>),
+    LookUp(Query, Keys<'a>),
     /// The first pairs whose keys are chosen, in an order: at most this many, or all.
     List(Form, Choice<'a>, Order, Option<usize>),
     /// The trie as source code, by a name.

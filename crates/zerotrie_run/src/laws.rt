@@ -14,8 +14,8 @@ pub fn made_opens()
     one_trie();
 }
 
-/// A question to a file is refused exactly if the file has no trie, by the test that was asked for,
-/// unless the usage is bad or something failed.
+/// A question to a file is refused exactly if the file has no trie, nor an index that answers it, by
+/// the test that was asked for, unless the usage is bad or something failed.
 pub fn refused_exactly()
     ensures { RefusedExactly }
 {

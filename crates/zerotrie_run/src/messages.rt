@@ -9,7 +9,7 @@ ghost use Rattle.zerotrie_run.specs.Told.{LineTold, TellsMore, place_name, told_
 
 use crate::asking::AskError;
 use crate::building::BuildError;
-use crate::command::{Build, Place, TrieFile};
+use crate::command::{Build, Place, Question, TrieFile};
 use crate::stdin_lines::AnswerError;
 use std::alloc::{AllocError, Global};
 use std::io;
@@ -20,7 +20,7 @@ use zerotrie_files::Noted;
 use zerotrie_lines::{BadLine, Format, ValueFault, write_escaped, write_number};
 use zerotrie_making::{MakeError, NoPair, Shown, Source};
 use zerotrie_queries::{OpenError, Trie};
-use zerotrie_sealed::SealError;
+use zerotrie_sealed::{INDEX_NUMBER, SealError};
 
 const STANDARD_INPUT: &str = "standard input";
 
@@ -197,10 +197,17 @@ fn no_kind(alloc: Global, place: &str, why: &TagError, is_text: bool) -> Result<
     }
 }
 
-/// A line that tells that a sealed file is damaged.
+/// A line that tells that a sealed file is damaged, or holds an index.
 fn damaged(alloc: Global, place: &str, why: SealError) -> Result<Vec<u8>, AllocError>
     ensures { IfOk result (λ text. IsLine text.items) }
 {
+    if why == SealError::UnknownKind(INDEX_NUMBER) {
+        return line_on(
+            alloc,
+            place,
+            "it holds an index, which answers get and verify alone",
+        );
+    }
     let mut text = Vec::new(alloc);
     write!(text, "zerotrie: {place}: {why}").map_err(|_| AllocError)?;
     end_line(&mut text)?;
@@ -375,6 +382,34 @@ pub fn ask_text(alloc: Global, file: TrieFile<'_>, error: &AskError) -> Result<V
             STANDARD_OUTPUT,
             error,
         ),
+    }
+}
+
+/// Returns whether a file that is tested in full holds an index. Only one that is malformed is an
+/// error of the test.
+fn is_index(question: Question<'_>, why: SealError) -> bool {
+    match question {
+        Question::Verify => why == SealError::UnknownKind(INDEX_NUMBER),
+        _ => false,
+    }
+}
+
+/// A line that tells why this question has no answer.
+pub fn question_text(
+    alloc: Global,
+    file: TrieFile<'_>,
+    question: Question<'_>,
+    error: &AskError,
+) -> Result<Vec<u8>, AllocError>
+    ensures { IfOk result (λ text. TellsAsk error.now text.items) }
+{
+    match error {
+        AskError::NoTrie(OpenError::Damaged(why), _) if is_index(question, *why) => line_on(
+            alloc,
+            source_name(file.place),
+            "the index in it is malformed",
+        ),
+        _ => ask_text(alloc, file, error),
     }
 }
 

@@ -9,10 +9,14 @@ use std::process::Abort;
 use std::test::Fail;
 use zerotrie_core::TrieKind;
 use zerotrie_files::{Disk, Noted, Store};
+use zerotrie_index::ZeroIndex;
 use zerotrie_lines::{Format, LineEnd};
 use zerotrie_making::{Duplicates, FileForm, Plan, Source};
-use zerotrie_queries::{Asked, Choice, Form, Language, Order, ReportForm, Style, View};
+use zerotrie_queries::{
+    Asked, Choice, Form, Language, Order, Query, ReportForm, Spelling, Style, View,
+};
 use zerotrie_run::{Build, Check, Command, Keys, Place, Question, Status, TrieFile, run};
+use zerotrie_sealed::seal_index;
 
 /// A run of the program: the files that are there, the words that are typed in, and what is to come of it.
 struct Row {
@@ -102,6 +106,22 @@ const SPARING: Build<'static> = Build {
     ..BUILD
 };
 
+/// The values of keys, keys with their values, and the longest keys, of texts that are as they are.
+const VALUES: Query = Query {
+    asked: Asked::Value,
+    spelling: Spelling::Plain,
+};
+
+const PAIRS: Query = Query {
+    asked: Asked::Pair,
+    ..VALUES
+};
+
+const LONGEST: Query = Query {
+    asked: Asked::Longest,
+    ..VALUES
+};
+
 /// Sealed files: made and asked, spared, and damaged.
 const SEALS: [Row; 6] = [
     Row {
@@ -136,7 +156,7 @@ const SEALS: [Row; 6] = [
     },
     Row {
         files: &[("names.trie", SEALED)],
-        command: Command::Ask(FILE, Question::LookUp(Asked::Pair, Keys::Words(ABSENT))),
+        command: Command::Ask(FILE, Question::LookUp(PAIRS, Keys::Words(ABSENT))),
         status: Status::Absent,
         printed: b"bar\t2\nunknown\tnone\n",
         told: b"",
@@ -210,11 +230,31 @@ const THERE: &[&[u8]] = &[b"bar"];
 
 const ABSENT: &[&[u8]] = &[b"bar", b"unknown"];
 
+/// A key with an escape, and two with malformed ones.
+const WRITTEN: &[&[u8]] = &[b"b\\x61r", b"bar\\", b"b\\ar"];
+
 /// Questions to that file.
-const QUESTIONS: [Row; 3] = [
+const QUESTIONS: [Row; 4] = [
     Row {
         files: &[("names.trie", TRIE)],
-        command: Command::Ask(FILE, Question::LookUp(Asked::Value, Keys::Words(THERE))),
+        command: Command::Ask(
+            FILE,
+            Question::LookUp(
+                Query {
+                    spelling: Spelling::Escaped,
+                    ..PAIRS
+                },
+                Keys::Words(WRITTEN),
+            ),
+        ),
+        status: Status::Absent,
+        printed: b"bar\t2\nnone\nnone\n",
+        told: b"",
+        left: ("names.trie", TRIE),
+    },
+    Row {
+        files: &[("names.trie", TRIE)],
+        command: Command::Ask(FILE, Question::LookUp(VALUES, Keys::Words(THERE))),
         status: Status::Done,
         printed: b"2\n",
         told: b"",
@@ -222,7 +262,7 @@ const QUESTIONS: [Row; 3] = [
     },
     Row {
         files: &[("names.trie", TRIE)],
-        command: Command::Ask(FILE, Question::LookUp(Asked::Value, Keys::Words(ABSENT))),
+        command: Command::Ask(FILE, Question::LookUp(VALUES, Keys::Words(ABSENT))),
         status: Status::Absent,
         printed: b"2\nnone\n",
         told: b"",
@@ -230,7 +270,7 @@ const QUESTIONS: [Row; 3] = [
     },
     Row {
         files: &[("names.trie", TRIE)],
-        command: Command::Ask(FILE, Question::LookUp(Asked::Longest, Keys::Lines)),
+        command: Command::Ask(FILE, Question::LookUp(LONGEST, Keys::Lines)),
         status: Status::Done,
         printed: b"bar\t2\nfoo\t1\n",
         told: b"",
@@ -327,7 +367,7 @@ const UNANSWERED: [Row; 4] = [
                 place: Place::Stream,
                 ..FILE
             },
-            Question::LookUp(Asked::Value, Keys::Lines),
+            Question::LookUp(VALUES, Keys::Lines),
         ),
         status: Status::BadUsage,
         printed: b"",
@@ -336,7 +376,7 @@ const UNANSWERED: [Row; 4] = [
     },
     Row {
         files: &[("names.tsv", NAMES)],
-        command: Command::Ask(FILE, Question::LookUp(Asked::Value, Keys::Lines)),
+        command: Command::Ask(FILE, Question::LookUp(VALUES, Keys::Lines)),
         status: Status::Unread,
         printed: b"",
         told: b"zerotrie: names.trie: entity not found\n",
@@ -470,7 +510,7 @@ fn whole_lines_are_answered_before_a_fault(rt: HostRuntime) -> Result<(), Fail> 
     let mut input = Noted::new(Broken { left: b"barn\nf" });
     let status = run(
         alloc,
-        Command::Ask(FILE, Question::LookUp(Asked::Longest, Keys::Lines)),
+        Command::Ask(FILE, Question::LookUp(LONGEST, Keys::Lines)),
         &mut files,
         &mut input,
         &mut output,
@@ -481,6 +521,98 @@ fn whole_lines_are_answered_before_a_fault(rt: HostRuntime) -> Result<(), Fail> 
     assert!(rt;
         messages.get_ref().as_slice() == b"zerotrie: standard input: connection reset\n".as_slice()
     );
+    Ok(())
+}
+
+/// What is asked of an index, how that ends, what is printed, and what is told.
+#[derive(Drop)]
+struct OfIndex {
+    question: Question<'static>,
+    check: Check,
+    status: Status,
+    printed: &'static [u8],
+    told: &'static [u8],
+}
+
+/// Questions to the index of the names.
+const OF_INDEX: [OfIndex; 4] = [
+    OfIndex {
+        question: Question::LookUp(VALUES, Keys::Lines),
+        check: Check::Usual,
+        status: Status::Absent,
+        printed: b"none\n1\n",
+        told: b"",
+    },
+    OfIndex {
+        question: Question::LookUp(PAIRS, Keys::Words(ABSENT)),
+        check: Check::Skip,
+        status: Status::Absent,
+        printed: b"bar\t2\nunknown\tnone\n",
+        told: b"",
+    },
+    OfIndex {
+        question: Question::Verify,
+        check: Check::Full,
+        status: Status::Done,
+        printed: b"",
+        told: b"",
+    },
+    OfIndex {
+        question: Question::LookUp(LONGEST, Keys::Lines),
+        check: Check::Usual,
+        status: Status::BadInput,
+        printed: b"",
+        told: b"zerotrie: names.trie: it holds an index, which answers get and verify alone\n",
+    },
+];
+
+/// Asks the file of an index with these bytes.
+fn asks_index(rt: &HostRuntime, bytes: &[u8], row: &OfIndex) -> Result<bool, Fail> {
+    let alloc = rt.alloc();
+    let file = seal_index(alloc, bytes)?;
+    let mut files = Store::new(disk_with(alloc, &[("names.trie", file.as_slice())])?);
+    let mut output = Noted::new(BufWriter::new(alloc, Vec::new(alloc))?);
+    let mut messages = Noted::new(Vec::new(alloc));
+    let (first, second) = TYPED;
+    let status = run(
+        alloc,
+        Command::Ask(
+            TrieFile {
+                check: row.check,
+                ..FILE
+            },
+            row.question,
+        ),
+        &mut files,
+        &mut Noted::new(first.chain(second)),
+        &mut output,
+        &mut messages,
+    );
+    Ok(
+        status == row.status
+            && output.get_ref().get_ref().as_slice() == row.printed
+            && messages.get_ref().as_slice() == row.told,
+    )
+}
+
+/// An index answers keys and a test, and nothing else.
+#[test]
+fn an_index_is_asked(rt: HostRuntime) -> Result<(), Fail> {
+    let index = ZeroIndex::try_from_unsorted_slice(
+        rt.alloc(),
+        &[("foo", 1), ("bar", 2), ("bazzoo", 3)],
+    )?;
+    for row in OF_INDEX {
+        assert!(rt; asks_index(&rt, index.as_bytes(), &row)?);
+    }
+    let malformed = OfIndex {
+        question: Question::Verify,
+        check: Check::Full,
+        status: Status::BadInput,
+        printed: b"",
+        told: b"zerotrie: names.trie: the index in it is malformed\n",
+    };
+    assert!(rt; asks_index(&rt, b"no index", &malformed)?);
     Ok(())
 }
 
