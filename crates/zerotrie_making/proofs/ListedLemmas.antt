@@ -17,7 +17,7 @@ use Rattle.zerotrie_core.specs.Routes.{IsBuild}
 use Rattle.zerotrie_making.specs.Plans.{content_of, route_of, IsFormOf}
 use Rattle.zerotrie_making.specs.Sources.{IsPairs}
 use Rattle.zerotrie_making.specs.Kept.{kept}
-use Rattle.zerotrie_making.specs.Made.{IsBuilt, IsFileOf}
+use Rattle.zerotrie_making.specs.Made.{IsBuiltAs, IsFileOf}
 use Rattle.zerotrie_making.specs.Laws.{ListedIsMadeAgain}
 use Rattle.zerotrie_making.specs.declared.making.FileForm.{FileForm}
 use Rattle.zerotrie_making.specs.declared.making.FileForm.TheVariants as form
@@ -42,7 +42,7 @@ mutual
       All-append Small (with_front e pairs) more (All-map Small (λ p. (e ∷ p.0, p.1)) pairs (values_below text)) (each_below each)
 
 -- what is built for a file that has no index is a trie
-trie_built : (of : FileForm) (kind : Kind) (sorted : Bool) (pairs : Pairs) (bytes : List ℕ) → of ≢ form.Index → IsBuilt (content_of of kind) sorted pairs bytes
+trie_built : (of : FileForm) (kind : Kind) (sorted : Bool) (pairs : Pairs) (bytes : List ℕ) → of ≢ form.Index → IsBuiltAs (content_of of kind) sorted pairs bytes
     → IsBuild (route_of sorted) kind (λ b. b) pairs (Ok bytes)
 trie_built form.Sealed kind sorted pairs bytes of built = built
 trie_built form.Tagged kind sorted pairs bytes of built = built

@@ -18,11 +18,11 @@ use Rattle.zerotrie_index.specs.declared.error.ZeroIndexBuildError.{ZeroIndexBui
 use Rattle.zerotrie_index.specs.declared.error.ZeroIndexBuildError.TheVariants as index_error
 use Rattle.zerotrie_lines.specs.Laws.{OneReading, BadIsUnread}
 use Rattle.zerotrie_lines.specs.Tables.{lowered}
-use Rattle.zerotrie_making.specs.Plans.{Content, trie, index, content_of, route_of, kind_for}
+use Rattle.zerotrie_making.specs.Plans.{Content, a_trie, an_index, content_of, route_of, kind_for}
 use Rattle.zerotrie_making.specs.Kept.{kept}
 use Rattle.zerotrie_making.specs.Sources.{IsPairs}
 use Rattle.zerotrie_making.specs.Json.{pairs_in}
-use Rattle.zerotrie_making.specs.Made.{OfInput, AreAtFault, ExplainsKept, IsBuilt, IsFile, IsFileOfKept, IsIndexed, IsIndexRefusedBy, IsTrieRefusedBy}
+use Rattle.zerotrie_making.specs.Made.{OfInput, AreAtFault, ExplainsKept, IsBuiltAs, IsFile, IsFileOfKept, IsIndexed, IsIndexRefusedBy, IsTrieRefusedBy}
 use Rattle.zerotrie_making.specs.Laws.{RefusedMakesNoFile}
 use Rattle.zerotrie_making.specs.declared.making.Plan.{Plan}
 use Rattle.zerotrie_making.specs.declared.making.Source.{Source}
@@ -104,12 +104,12 @@ none_searched : (kind : Kind) (pairs : Pairs) (e : ZeroTrieBuildError) (first se
 none_searched kind pairs e first second shown is = subst (λ x. AreShown kind pairs x first second) is shown
 
 -- what was built is an index of the pairs
-is_index : (sorted : Bool) (pairs : Pairs) (bytes : List ℕ) → IsBuilt index sorted pairs bytes → IsIndexOf pairs bytes
+is_index : (sorted : Bool) (pairs : Pairs) (bytes : List ℕ) → IsBuiltAs an_index sorted pairs bytes → IsIndexOf pairs bytes
 is_index true pairs bytes built = built.1
 is_index false pairs bytes built = built
 
 -- keys of an index are not at fault
-no_fault : IndexExcludesCauses → (sorted : Bool) (pairs : Pairs) (bytes : List ℕ) (r : Refusal) → IsBuilt index sorted pairs bytes → AreAtFault index sorted pairs r → ⊥
+no_fault : IndexExcludesCauses → (sorted : Bool) (pairs : Pairs) (bytes : List ℕ) (r : Refusal) → IsBuiltAs an_index sorted pairs bytes → AreAtFault an_index sorted pairs r → ⊥
 no_fault excludes true pairs bytes r built fault = (subst (λ e. HasCause ascending perfect_hash pairs e) fault.0 fault.1.1).1 built.0
 no_fault excludes false pairs bytes r built fault = (excludes pairs bytes built).0 ((subst (λ e. HasCause any_order perfect_hash pairs e) fault.0 fault.1.1).1)
 
@@ -122,26 +122,26 @@ no_index_cause excludes pairs bytes index_error.CapacityExceeded is some other c
 no_index_cause excludes pairs bytes index_error.OutOfMemory is some other cause = some refl
 
 -- the keys of what was built are not at fault
-keys_never : IndexExcludesCauses → (content : Content) (sorted : Bool) (pairs : Pairs) (bytes : List ℕ) (r : Refusal) → IsBuilt content sorted pairs bytes → AreAtFault content sorted pairs r → ⊥
-keys_never excludes (trie kind) sorted pairs bytes r built why =
+keys_never : IndexExcludesCauses → (content : Content) (sorted : Bool) (pairs : Pairs) (bytes : List ℕ) (r : Refusal) → IsBuiltAs content sorted pairs bytes → AreAtFault content sorted pairs r → ⊥
+keys_never excludes (a_trie kind) sorted pairs bytes r built why =
     no_cause (route_of sorted) kind pairs bytes r.error built.0 built.1 why.1 (none_searched kind pairs r.error r.first r.second why.0)
-keys_never excludes index sorted pairs bytes r built why = no_fault excludes sorted pairs bytes r built why
+keys_never excludes an_index sorted pairs bytes r built why = no_fault excludes sorted pairs bytes r built why
 
 -- no trie was built for which another cause holds
-trie_never : (content : Content) (sorted : Bool) (pairs : Pairs) (bytes : List ℕ) (e : ZeroTrieBuildError) → IsBuilt content sorted pairs bytes → IsTrieRefusedBy content sorted pairs e
+trie_never : (content : Content) (sorted : Bool) (pairs : Pairs) (bytes : List ℕ) (e : ZeroTrieBuildError) → IsBuiltAs content sorted pairs bytes → IsTrieRefusedBy content sorted pairs e
     → e ≢ CouldNotSolvePerfectHash → ⊥
-trie_never (trie kind) sorted pairs bytes e built why other = no_cause (route_of sorted) kind pairs bytes e built.0 built.1 why.0 other
-trie_never index sorted pairs bytes e built why other = why
+trie_never (a_trie kind) sorted pairs bytes e built why other = no_cause (route_of sorted) kind pairs bytes e built.0 built.1 why.0 other
+trie_never an_index sorted pairs bytes e built why other = why
 
 -- and no index
-index_never : IndexExcludesCauses → (content : Content) (sorted : Bool) (pairs : Pairs) (bytes : List ℕ) (e : ZeroIndexBuildError) → IsBuilt content sorted pairs bytes → IsIndexRefusedBy content sorted pairs e
+index_never : IndexExcludesCauses → (content : Content) (sorted : Bool) (pairs : Pairs) (bytes : List ℕ) (e : ZeroIndexBuildError) → IsBuiltAs content sorted pairs bytes → IsIndexRefusedBy content sorted pairs e
     → e ≢ index_error.Crowded → ⊥
-index_never excludes (trie kind) sorted pairs bytes e built why other = why
-index_never excludes index true pairs bytes e built why other = elim why.1 [
+index_never excludes (a_trie kind) sorted pairs bytes e built why other = why
+index_never excludes an_index true pairs bytes e built why other = elim why.1 [
   | inl unsorted ↦ unsorted.1 built.0
   | inr cause ↦ no_index_cause excludes pairs bytes e built.1 why.0 other cause.2
 ]
-index_never excludes index false pairs bytes e built why other = no_index_cause excludes pairs bytes e built why.0 other why.1
+index_never excludes an_index false pairs bytes e built why other = no_index_cause excludes pairs bytes e built why.0 other why.1
 
 -- an input is one list of pairs at most
 one_list : OneReading → (source : Source) (input : List ℕ) (pairs others : Pairs) → IsPairs source input pairs → IsPairs source input others → others ≡ pairs

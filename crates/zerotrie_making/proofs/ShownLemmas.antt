@@ -8,7 +8,7 @@ use Rattle.zerotrie_core.specs.declared.ZeroTrieBuildError.{ZeroTrieBuildError}
 use Rattle.zerotrie_core.specs.declared.ZeroTrieBuildError.TheVariants.{NonAsciiError, CapacityExceeded, CouldNotSolvePerfectHash, MixedCase, IllegalDelimiter, DuplicateKey, Unsorted, BufferTooSmall, BufferTooLarge, StackExceeded, OutOfMemory}
 use Rattle.zerotrie_build.specs.Refused.{key_at, AreShown, IsWhyRefused}
 use Rattle.zerotrie_build.specs.declared.refusal.Refusal.{Refusal}
-use Rattle.zerotrie_making.specs.Plans.{index, route_of}
+use Rattle.zerotrie_making.specs.Plans.{an_index, route_of}
 use Rattle.zerotrie_making.specs.Made.{fault_of, AreAtFault}
 
 pub shown_within : (kind : Kind) (pairs : Pairs) (e : ZeroTrieBuildError) (first second : ℕ) → AreShown kind pairs e first second → (first < length pairs) × (second < length pairs)
@@ -49,5 +49,5 @@ one_fault sorted pairs StackExceeded first second low shown cause = absurd shown
 one_fault sorted pairs OutOfMemory first second low shown cause = absurd shown
 
 pub at_fault : (sorted : Bool) (pairs : Pairs) (r : Refusal) → All (λ b. b < 256) (key_at pairs r.first) → IsWhyRefused (route_of sorted) perfect_hash pairs (Some r)
-    → AreAtFault index sorted pairs r
+    → AreAtFault an_index sorted pairs r
 at_fault sorted pairs r low why = (one_fault sorted pairs r.error r.first r.second low why.0 why.1, why)

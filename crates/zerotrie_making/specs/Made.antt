@@ -14,7 +14,7 @@ use Rattle.zerotrie_lines.specs.Tables.{lowered}
 use Rattle.zerotrie_lines.specs.declared.fault.ReadError.{ReadError}
 use Rattle.zerotrie_lines.specs.declared.fault.ReadError.TheVariants as fault
 use Rattle.zerotrie_making.specs.Sources.{IsPairs, NoPairs}
-use Rattle.zerotrie_making.specs.Plans.{Content, trie, index, content_of, route_of, kind_for, IsFormOf}
+use Rattle.zerotrie_making.specs.Plans.{Content, a_trie, an_index, content_of, route_of, kind_for, IsFormOf}
 use Rattle.zerotrie_making.specs.Kept.{kept, number_at}
 use Rattle.zerotrie_making.specs.declared.making.Plan.{Plan}
 use Rattle.zerotrie_making.specs.declared.refused.NumberedKey.{NumberedKey}
@@ -32,14 +32,14 @@ IsIndexed true bytes pairs result = IsSortedIndexBuild 0 bytes pairs result
 IsIndexed false bytes pairs result = IsIndexBuild 0 bytes pairs result
 
 -- the bytes are the trie or the index that a build of the pairs returns
-abbrev pub IsBuilt : Content → Bool → Pairs → List ℕ → Type 0
-IsBuilt (trie kind) sorted pairs bytes = IsBuild (route_of sorted) kind (λ b. b) pairs (Ok bytes)
-IsBuilt index sorted pairs bytes = IsIndexed sorted (λ b. b) pairs (Ok bytes)
+abbrev pub IsBuiltAs : Content → Bool → Pairs → List ℕ → Type 0
+IsBuiltAs (a_trie kind) sorted pairs bytes = IsBuild (route_of sorted) kind (λ b. b) pairs (Ok bytes)
+IsBuiltAs an_index sorted pairs bytes = IsIndexed sorted (λ b. b) pairs (Ok bytes)
 
 -- The file is that of a trie or an index which a build of the pairs returns.
 pub record IsFileOf (plan : Plan) (pairs : Pairs) (file : List ℕ) : Type 0 where
   pub bytes : List ℕ
-  pub build : IsBuilt (content_of plan.form (kind_for plan.kind pairs)) plan.sorted pairs bytes
+  pub build : IsBuiltAs (content_of plan.form (kind_for plan.kind pairs)) plan.sorted pairs bytes
   pub is : IsFormOf plan.form (kind_for plan.kind pairs) bytes file
 
 -- the file is that of those of the pairs that are kept
@@ -65,18 +65,18 @@ fault_of false = cause.DuplicateKey
 
 -- keys show why a build of the pairs is refused; of an index as they do of a trie that takes any bytes
 abbrev pub AreAtFault : Content → Bool → Pairs → Refusal → Type 0
-AreAtFault (trie kind) sorted pairs r = IsWhyRefused (route_of sorted) kind pairs (Some r)
-AreAtFault index sorted pairs r = (r.error ≡ fault_of sorted) × IsWhyRefused (route_of sorted) perfect_hash pairs (Some r)
+AreAtFault (a_trie kind) sorted pairs r = IsWhyRefused (route_of sorted) kind pairs (Some r)
+AreAtFault an_index sorted pairs r = (r.error ≡ fault_of sorted) × IsWhyRefused (route_of sorted) perfect_hash pairs (Some r)
 
 -- the build of a trie is refused by a cause though no keys show one
 abbrev pub IsTrieRefusedBy : Content → Bool → Pairs → ZeroTrieBuildError → Type 0
-IsTrieRefusedBy (trie kind) sorted pairs e = HasCause (route_of sorted) kind pairs e × AreFaultless (route_of sorted) kind pairs
-IsTrieRefusedBy index sorted pairs e = ⊥
+IsTrieRefusedBy (a_trie kind) sorted pairs e = HasCause (route_of sorted) kind pairs e × AreFaultless (route_of sorted) kind pairs
+IsTrieRefusedBy an_index sorted pairs e = ⊥
 
 -- the build of an index is
 abbrev pub IsIndexRefusedBy : Content → Bool → Pairs → ZeroIndexBuildError → Type 0
-IsIndexRefusedBy (trie kind) sorted pairs e = ⊥
-IsIndexRefusedBy index sorted pairs e = (e ≢ unindexed.OutOfMemory) × IsIndexed {B = List ℕ} sorted (λ b. b) pairs (Err e) × Takes (route_of sorted) pairs
+IsIndexRefusedBy (a_trie kind) sorted pairs e = ⊥
+IsIndexRefusedBy an_index sorted pairs e = (e ≢ unindexed.OutOfMemory) × IsIndexed {B = List ℕ} sorted (λ b. b) pairs (Err e) × Takes (route_of sorted) pairs
 
 -- Why a build of the pairs is refused: keys that show an error, a cause though no keys show one, or an allocation failed.
 abbrev pub IsRefusedAs : Content → Bool → (ℕ → ℕ) → Pairs → MakeError → Type 0

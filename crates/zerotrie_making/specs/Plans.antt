@@ -30,12 +30,12 @@ IsFormOf form.Index kind bytes file = IsSealedIndex bytes file
 
 -- what is built of pairs
 pub data Content : Type 0 where
-  trie : Kind → Content
-  index : Content
+  a_trie : Kind → Content
+  an_index : Content
 
 -- what a file of a form has: a trie of the kind, or an index
 abbrev pub content_of : FileForm → Kind → Content
-content_of form.Sealed kind = trie kind
-content_of form.Tagged kind = trie kind
-content_of form.Bare kind = trie kind
-content_of form.Index kind = index
+content_of form.Sealed kind = a_trie kind
+content_of form.Tagged kind = a_trie kind
+content_of form.Bare kind = a_trie kind
+content_of form.Index kind = an_index

@@ -5,8 +5,8 @@ ghost use Rattle.zerotrie_any.specs.Tagged.{tagged};
 ghost use Rattle.zerotrie_core.specs.Kinds.{kind_of};
 ghost use Rattle.zerotrie_core.specs.Items.{pairs_of};
 ghost use Rattle.zerotrie_core.specs.Routes.{IsRefusal};
-ghost use Rattle.zerotrie_making.specs.Plans.{trie, index, content_of, route_of, IsFormOf};
-ghost use Rattle.zerotrie_making.specs.Made.{IsIndexed, IsBuilt, IsFile, IsFileOf, IsFileOfKept, IsRefusedAs, Explains, ExplainsOf, ExplainsKept};
+ghost use Rattle.zerotrie_making.specs.Plans.{a_trie, an_index, content_of, route_of, IsFormOf};
+ghost use Rattle.zerotrie_making.specs.Made.{IsIndexed, IsBuiltAs, IsFile, IsFileOf, IsFileOfKept, IsRefusedAs, Explains, ExplainsOf, ExplainsKept};
 ghost use Rattle.zerotrie_making.specs.Kept.{number_in, number_of};
 
 use crate::duplicates::{Duplicates, Kept, firsts, lasts};
@@ -101,7 +101,7 @@ fn explain(
 ) -> Result<MakeError, AllocError>
     requires refusal { IsRefusal (route_of sorted) (kind_of kind) (pairs_of items.now) error }
     requires numbers { IfSome numbers (λ numbers. length numbers.now ≡ length items.now) }
-    ensures { IfOk result (IsRefusedAs (trie (kind_of kind)) sorted (number_of numbers.entry)
+    ensures { IfOk result (IsRefusedAs (a_trie (kind_of kind)) sorted (number_of numbers.entry)
         (pairs_of items.now)) }
 {
     if error == ZeroTrieBuildError::OutOfMemory {
@@ -123,8 +123,8 @@ fn trie_of(
 ) -> Result<Vec<u8>, MakeError>
     requires { IfSome numbers (λ numbers. length numbers.now ≡ length items.now) }
     ensures ok { IfOk result (λ bytes.
-        IsBuilt (trie (kind_of kind)) sorted (pairs_of items.now) bytes.items) }
-    ensures err { IfErr result (IsRefusedAs (trie (kind_of kind)) sorted (number_of numbers.entry)
+        IsBuiltAs (a_trie (kind_of kind)) sorted (pairs_of items.now) bytes.items) }
+    ensures err { IfErr result (IsRefusedAs (a_trie (kind_of kind)) sorted (number_of numbers.entry)
         (pairs_of items.now)) }
 {
     match bytes_of(alloc, kind, sorted, items) {
@@ -143,7 +143,7 @@ fn explain_index(
 ) -> Result<MakeError, AllocError>
     requires refusal { IsIndexed sorted (λ bytes. bytes) (pairs_of items.now) (Err error) }
     requires numbers { IfSome numbers (λ numbers. length numbers.now ≡ length items.now) }
-    ensures { IfOk result (IsRefusedAs index sorted (number_of numbers.entry) (pairs_of items.now)) }
+    ensures { IfOk result (IsRefusedAs an_index sorted (number_of numbers.entry) (pairs_of items.now)) }
 {
     if error == ZeroIndexBuildError::OutOfMemory {
         return Ok(MakeError::OutOfMemory);
@@ -162,8 +162,8 @@ fn index_of(
     items: &[(&[u8], usize)],
 ) -> Result<Vec<u8>, MakeError>
     requires { IfSome numbers (λ numbers. length numbers.now ≡ length items.now) }
-    ensures ok { IfOk result (λ bytes. IsBuilt index sorted (pairs_of items.now) bytes.items) }
-    ensures err { IfErr result (IsRefusedAs index sorted (number_of numbers.entry) (pairs_of items.now)) }
+    ensures ok { IfOk result (λ bytes. IsBuiltAs an_index sorted (pairs_of items.now) bytes.items) }
+    ensures err { IfErr result (IsRefusedAs an_index sorted (number_of numbers.entry) (pairs_of items.now)) }
 {
     match index_bytes_of(alloc, sorted, items) {
         Ok(bytes) => Ok(bytes),
@@ -182,7 +182,7 @@ fn build_of(
 ) -> Result<Vec<u8>, MakeError>
     requires { IfSome numbers (λ numbers. length numbers.now ≡ length items.now) }
     ensures ok { IfOk result (λ bytes.
-        IsBuilt (content_of form (kind_of kind)) sorted (pairs_of items.now) bytes.items) }
+        IsBuiltAs (content_of form (kind_of kind)) sorted (pairs_of items.now) bytes.items) }
     ensures err { IfErr result (IsRefusedAs (content_of form (kind_of kind)) sorted
         (number_of numbers.entry) (pairs_of items.now)) }
 {

@@ -17,7 +17,7 @@ use Rattle.zerotrie_files.specs.Disks.{Story, Known}
 use Rattle.zerotrie_files.specs.Stores.{WasReplaced}
 use Rattle.zerotrie_making.specs.Kept.{kept}
 use Rattle.zerotrie_making.specs.Plans.{content_of, kind_for, IsFormOf}
-use Rattle.zerotrie_making.specs.Made.{IsBuilt}
+use Rattle.zerotrie_making.specs.Made.{IsBuiltAs}
 use Rattle.zerotrie_making.specs.declared.making.FileForm.{FileForm}
 use Rattle.zerotrie_making.specs.declared.making.FileForm.TheVariants as form
 use Rattle.zerotrie_run.specs.Runs.{World, IsRead, IsWritten}
@@ -51,7 +51,7 @@ made_holds form.Bare kind bytes file choice is as_made =
 made_holds form.Index kind bytes file choice is as_made = absurd as_made
 
 -- the bytes of such a file mean the map of the pairs
-pub built_means : (of : FileForm) (kind : Kind) (sorted : Bool) (pairs : Pairs) (bytes : List ℕ) (choice : Option TrieKind) → IsBuilt (content_of of kind) sorted pairs bytes → IsNamedAsMade of kind choice
+pub built_means : (of : FileForm) (kind : Kind) (sorted : Bool) (pairs : Pairs) (bytes : List ℕ) (choice : Option TrieKind) → IsBuiltAs (content_of of kind) sorted pairs bytes → IsNamedAsMade of kind choice
     → Means kind bytes (map_of pairs)
 built_means form.Sealed kind sorted pairs bytes choice built as_made = built.1.means
 built_means form.Tagged kind sorted pairs bytes choice built as_made = built.1.means
