@@ -1,6 +1,6 @@
 -- A build that has a cause of an error returns no bytes.
 use Rattle.std.proofs.Common.{◌≡◌, ℕ, zero, suc, ◌<◌, ◌≤◌, List, [], ◌∷◌, length, get_or, Bool, true, false, Some, refl, sym, ◌∙◌, ap, subst, arith, inl, inr}
-use Rattle.std.specs.Prelude.{◌≢◌, ◌==◌, All, Any, Ok, Err}
+use Rattle.std.specs.Prelude.{◌≢◌, ◌==◌, All, Any}
 use Rattle.std.specs.FinMap.{entries}
 use Rattle.std.proofs.lemmas.Bool.{cases_Bool}
 use Rattle.zerotrie_core.specs.Kind.{Kind, simple_ascii, perfect_hash, same_byte, edge_limit}
@@ -22,7 +22,7 @@ use Rattle.zerotrie_making.specs.Plans.{Content, a_trie, an_index, content_of, r
 use Rattle.zerotrie_making.specs.Kept.{kept}
 use Rattle.zerotrie_making.specs.Sources.{IsPairs}
 use Rattle.zerotrie_making.specs.Json.{pairs_in}
-use Rattle.zerotrie_making.specs.Made.{OfInput, AreAtFault, ExplainsKept, IsBuiltAs, IsFile, IsFileOfKept, IsIndexed, IsIndexRefusedBy, IsTrieRefusedBy}
+use Rattle.zerotrie_making.specs.Made.{OfInput, AreAtFault, ExplainsKept, IsBuiltAs, IsFile, IsFileOfKept, IsIndexRefusedBy, IsTrieRefusedBy}
 use Rattle.zerotrie_making.specs.Laws.{RefusedMakesNoFile}
 use Rattle.zerotrie_making.specs.declared.making.Plan.{Plan}
 use Rattle.zerotrie_making.specs.declared.making.Source.{Source}

@@ -1,6 +1,6 @@
 -- Which file a plan makes of an input, and why it makes none.
 use Rattle.std.specs.Prelude.{◌≡◌, ◌≢◌, ℕ, List, Bool, true, false, Result, Ok, Err, Some}
-use Rattle.zerotrie_core.specs.Kind.{Kind, perfect_hash}
+use Rattle.zerotrie_core.specs.Kind.{perfect_hash}
 use Rattle.zerotrie_core.specs.Maps.{Pairs}
 use Rattle.zerotrie_core.specs.Routes.{Takes, HasCause, IsBuild}
 use Rattle.zerotrie_core.specs.declared.ZeroTrieBuildError.{ZeroTrieBuildError}
