@@ -1,5 +1,5 @@
 -- What a file that was made holds, when it is read again.
-use Rattle.std.proofs.Common.{◌≡◌, ℕ, List, Option, Some, refl, sym, subst, ap, ◌∙◌, inl, inr}
+use Rattle.std.proofs.Common.{◌≡◌, ℕ, List, Bool, Option, Some, refl, sym, subst, ap, ◌∙◌, inl, inr}
 use Rattle.std.specs.Prelude.{IfSome}
 use Rattle.std.proofs.lemmas.Option.{same_Some}
 use Rattle.zerotrie_core.specs.Kind.{Kind}
@@ -16,7 +16,8 @@ use Rattle.zerotrie_core.specs.declared.TrieKind.{TrieKind}
 use Rattle.zerotrie_files.specs.Disks.{Story, Known}
 use Rattle.zerotrie_files.specs.Stores.{WasReplaced}
 use Rattle.zerotrie_making.specs.Kept.{kept}
-use Rattle.zerotrie_making.specs.Plans.{kind_for, IsFormOf}
+use Rattle.zerotrie_making.specs.Plans.{content_of, kind_for, IsFormOf}
+use Rattle.zerotrie_making.specs.Made.{IsBuiltAs}
 use Rattle.zerotrie_making.specs.declared.making.FileForm.{FileForm}
 use Rattle.zerotrie_making.specs.declared.making.FileForm.TheVariants as form
 use Rattle.zerotrie_run.specs.Runs.{World, IsRead, IsWritten}
@@ -47,6 +48,15 @@ made_holds form.Tagged kind bytes file choice is as_made =
     (n.0, n.1, subst (λ o. Holds o file n.0 bytes) (sym as_made) (inr (is ∙ ap (λ j. tagged j bytes) (sym n.1))))
 made_holds form.Bare kind bytes file choice is as_made =
     (as_made.0, as_made.2, subst (λ o. Holds o file as_made.0 bytes) (sym as_made.1) (inr (refl, sym is)))
+made_holds form.Index kind bytes file choice is as_made = absurd as_made
+
+-- the bytes of such a file mean the map of the pairs
+pub built_means : (of : FileForm) (kind : Kind) (sorted : Bool) (pairs : Pairs) (bytes : List ℕ) (choice : Option TrieKind) → IsBuiltAs (content_of of kind) sorted pairs bytes → IsNamedAsMade of kind choice
+    → Means kind bytes (map_of pairs)
+built_means form.Sealed kind sorted pairs bytes choice built as_made = built.1.means
+built_means form.Tagged kind sorted pairs bytes choice built as_made = built.1.means
+built_means form.Bare kind sorted pairs bytes choice built as_made = built.1.means
+built_means form.Index kind sorted pairs bytes choice built as_made = absurd as_made
 
 -- a file that holds what was made opens as it was made
 pub opens_made : OneTrie → (of : FileForm) (kind : Kind) (pairs : Pairs) (bytes made : List ℕ) (file : TrieFile) (stdin : Option (List ℕ)) (files : Option Story)
@@ -76,5 +86,6 @@ made_opens one build input before after held files known same made file stdin aw
     λ got read. read_back build.to stdin made.file got before after held files known same away made.written (subst (λ p. IsRead p stdin after.files got) at read) in (
       made.made.0,
       made.made.1,
-      λ as_made. opens_made one build.plan.form kind pairs f.bytes made.file file stdin after.files back f.is f.build.1.means as_made,
+      λ as_made. opens_made one build.plan.form kind pairs f.bytes made.file file stdin after.files back f.is
+          (built_means build.plan.form kind build.plan.sorted pairs f.bytes file.bare f.build as_made) as_made,
     )

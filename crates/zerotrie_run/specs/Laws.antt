@@ -1,4 +1,4 @@
--- A trie file is made, and then opened.
+-- A file is made, and then opened.
 use Rattle.std.specs.Prelude.{◌≡◌, ◌⊎◌, ◌≤◌, ℕ, List, Option, Some, None}
 use Rattle.zerotrie_core.specs.Kind.{Kind}
 use Rattle.zerotrie_core.specs.Maps.{Pairs, map_of}
@@ -20,11 +20,12 @@ use Rattle.zerotrie_run.specs.declared.command.Place.TheVariants.{Stream}
 use Rattle.zerotrie_run.specs.declared.command.TrieFile.{TrieFile}
 use Rattle.zerotrie_run.specs.declared.command.Build.{Build}
 
--- a file is named as it was made: its kind is named if it is bare bytes of that kind, and none is if the file says it
+-- a file of a trie is named as it was made: its kind is named if it is bare bytes of that kind, and none is if the file says it
 abbrev pub IsNamedAsMade : FileForm → Kind → Option TrieKind → Type 0
 IsNamedAsMade form.Sealed kind named = named ≡ None
 IsNamedAsMade form.Tagged kind named = named ≡ None
 IsNamedAsMade form.Bare kind named = (k : TrieKind) × (named ≡ Some k) × (kind_of k ≡ kind)
+IsNamedAsMade form.Index kind named = ⊥
 
 -- A file is not refused, and what is opened of it are the bytes that were made, which mean the map of the pairs.
 pub record OpensAsMade (file : TrieFile) (input : Option (List ℕ)) (files : Option Story) (of : FileForm) (kind : Kind) (pairs : Pairs) (made : List ℕ) : Type 0 where

@@ -349,7 +349,7 @@ IsSparedAt to no_clobber before after = (no_clobber ≡ true) × IsThere to befo
 abbrev pub IsFreshAt : Place → Bool → Option Story → Type 0
 IsFreshAt to no_clobber files = no_clobber ≡ true → IsFree to files
 
--- The file of a trie was made: what was read, and the file that was written.
+-- A file was made: what was read, and the file that was written.
 pub record IsMade (build : Build) (input : Option (List ℕ)) (before after : World) : Type 0 where
   pub all : List ℕ
   pub read : IsRead build.from input before.files all
@@ -367,7 +367,7 @@ abbrev pub IsKept : Place → List ℕ → World → World → Type 0
 IsKept (File path) bytes before after = (after.printed ≡ before.printed) × Known before.files after.files (WasKept path.now bytes)
 IsKept Stream bytes before after = AppendsPart before.printed after.printed bytes × (after.files ≡ before.files)
 
--- The file of a trie was made, and could not be written, or not to the end.
+-- A file was made, and could not be written, or not to the end.
 pub record IsUnwritten (build : Build) (input : Option (List ℕ)) (before after : World) : Type 0 where
   pub all : List ℕ
   pub read : IsRead build.from input before.files all

@@ -6,8 +6,8 @@ ghost use Rattle.zerotrie_run.specs.Laws.{MadeOpens, RefusedExactly, UnmadeIsRef
 
 use zerotrie_sealed::laws::one_trie;
 
-/// A file that a build made opens as the trie of the pairs that the build read, if its kind is
-/// named as it was for the build. So each question to it is answered by them.
+/// The file of a trie that a build made opens as the trie of the pairs that the build read, if its kind
+/// is named as it was for the build. So each question to it is answered by them.
 pub fn made_opens()
     ensures { MadeOpens }
 {
@@ -27,8 +27,9 @@ pub fn unmade_is_refused()
     ensures { UnmadeIsRefused }
 {}
 
-/// A file that was made of the tries of two others opens as the trie of the combination of their
-/// maps, if its kind is named as it was when it was made. So each question to it is answered by that.
+/// The file of a trie that was made of the tries of two others opens as the trie of the combination of
+/// their maps, if its kind is named as it was when it was made. So each question to it is answered by
+/// that.
 pub fn combined_opens()
     ensures { CombinedOpens }
 {

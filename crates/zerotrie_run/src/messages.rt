@@ -17,6 +17,7 @@ use std::io::{ErrorKind, Write};
 use zerotrie_any::TagError;
 use zerotrie_core::{Fault, TrieKind, ZeroTrieBuildError};
 use zerotrie_files::Noted;
+use zerotrie_index::ZeroIndexBuildError;
 use zerotrie_lines::{BadLine, Format, ValueFault, write_escaped, write_number};
 use zerotrie_making::{MakeError, NoPair, Shown, Source};
 use zerotrie_queries::{OpenError, Trie};
@@ -680,7 +681,7 @@ fn add_shown(text: &mut Vec<u8>, unit: &str, shown: &Shown) -> Result<(), AllocE
     add_keys(text, shown)
 }
 
-/// What is said of a refusal that no keys show.
+/// What is said of a refusal of a trie that no keys show.
 fn refused(error: &ZeroTrieBuildError) -> &'static str {
     match error {
         ZeroTrieBuildError::CapacityExceeded => {
@@ -688,6 +689,19 @@ fn refused(error: &ZeroTrieBuildError) -> &'static str {
         }
         ZeroTrieBuildError::CouldNotSolvePerfectHash => {
             "no hashed table was found for the bytes that keys go on with at some place, as happens if these are random: take --kind simple if all keys are ASCII, or other keys, as their hexadecimal digits"
+        }
+        _ => "the build of the pairs is refused",
+    }
+}
+
+/// What is said of a refusal of an index that no keys show.
+fn index_refused(error: &ZeroIndexBuildError) -> &'static str {
+    match error {
+        ZeroIndexBuildError::CapacityExceeded => {
+            "the pairs of the index would have 4 GiB or more: leave out --index, or take fewer pairs"
+        }
+        ZeroIndexBuildError::Crowded => {
+            "more than 16 keys share a bucket of the index, whichever of 8 seeds is taken, as happens if they are chosen for that: leave out --index, or take other keys"
         }
         _ => "the build of the pairs is refused",
     }
@@ -705,6 +719,7 @@ fn add_refusal(text: &mut Vec<u8>, source: Source, error: &MakeError) -> Result<
         MakeError::NotPair(bad) => add_no_pair(text, bad),
         MakeError::Keys(shown) => add_shown(text, unit_of(source), shown),
         MakeError::Refused(error) => add(text, refused(error)),
+        MakeError::IndexRefused(error) => add(text, index_refused(error)),
         MakeError::OutOfMemory => add(text, "out of memory"),
     }
 }

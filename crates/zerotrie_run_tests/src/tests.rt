@@ -57,8 +57,31 @@ const BUILD: Build<'static> = Build {
     progress: false,
 };
 
-/// Builds of that file, told and untold, and on standard output.
-const BUILDS: [Row; 3] = [
+/// The file of an index of the names, by the page on the format.
+const INDEXED: &[u8] =
+    b"ztri\x89\x8a\r\n\x01\0\x10\0\x6F\0\0\0\0\0\0\0\xfa\x99\x2D\x16\0\0\0\0\0\0\0\0\x06\0\0\0\0\0\0\0\
+    \0\0\0\0\0\0\0\0\0\0\0@\0\0\0\0\0\0\0\0\x0f\0\0\0\0\0\0\0\x0f\0\0\0\0\0\0\x02\x0f\0\0\0@\0\0\0\x1b\0\0\0\0\0\0\0\x27\0\0\0\
+    \x06\x03\0\0\0\0\0\0\0bazzoo\x03\x02\0\0\0\0\0\0\0bar\x03\x01\0\0\0\0\0\0\0foo";
+
+/// How an index of any pairs is made.
+const INDEXING: Build<'static> = Build {
+    plan: Plan {
+        form: FileForm::Index,
+        ..PLAN
+    },
+    ..BUILD
+};
+
+/// Builds of that file, told and untold, on standard output, and of an index.
+const BUILDS: [Row; 4] = [
+    Row {
+        files: &[("names.tsv", NAMES)],
+        command: Command::Build(INDEXING),
+        status: Status::Done,
+        printed: b"",
+        told: b"",
+        left: ("names.trie", INDEXED),
+    },
     Row {
         files: &[("names.tsv", NAMES)],
         command: Command::Build(BUILD),
@@ -181,7 +204,15 @@ const SEALS: [Row; 6] = [
 ];
 
 /// Builds that are refused, and leave the file that was there.
-const REFUSED: [Row; 4] = [
+const REFUSED: [Row; 5] = [
+    Row {
+        files: &[("names.tsv", b"a\t1\nb\t2\na\t3\n"), ("names.trie", TRIE)],
+        command: Command::Build(INDEXING),
+        status: Status::Refused,
+        printed: b"",
+        told: b"zerotrie: names.tsv: lines 1 and 3 have the same key: a\n",
+        left: ("names.trie", TRIE),
+    },
     Row {
         files: &[("names.tsv", b"a\t1\na\t2\n"), ("names.trie", TRIE)],
         command: Command::Build(BUILD),
