@@ -157,17 +157,21 @@ pub fn command<'a>(alloc: Global) -> Result<Command<'a>, AllocError> {
         .after_help(STATUSES)
         .subcommand_required(true)
         .arg_required_else_help(true);
-    for row in commands() {
-        program = program.subcommand(row.to_clap(alloc)?)?;
+    for rows in &commands() {
+        for row in *rows {
+            program = program.subcommand(row.to_clap(alloc)?)?;
+        }
     }
     Ok(program)
 }
 
 /// Returns what the command of this name does. `None` if there is none.
 pub fn task_of(name: &str) -> Option<Task> {
-    for row in commands() {
-        if row.name == name {
-            return Some(row.task);
+    for rows in &commands() {
+        for row in *rows {
+            if row.name == name {
+                return Some(row.task);
+            }
         }
     }
     None

@@ -108,7 +108,8 @@ const BOTH: &[Argument] = &[
 pub const STATUSES: &str =
     "Status: 0 if all is done or found; 1 if a key is not there, a text\nbegins with none, pairs differ, or a build is refused; 2 if the command\nline is wrong, FILE is no trie, or IN is no pairs; 3 if a file can't be read\nor written, or memory runs out; 4 if whoever reads the output has\nclosed it.";
 
-const COMMANDS: &[Subcommand] = &[
+/// The commands that build a trie and look up in it.
+const LOOK_UPS: &[Subcommand] = &[
     Subcommand {
         name: "build",
         task: Task::Build,
@@ -215,6 +216,10 @@ const COMMANDS: &[Subcommand] = &[
             NO_CHECK,
         ],
     },
+];
+
+/// The commands that list pairs.
+const LISTINGS: &[Subcommand] = &[
     Subcommand {
         name: "list",
         task: Task::Ask(Topic::List),
@@ -332,6 +337,10 @@ const COMMANDS: &[Subcommand] = &[
             },
         ],
     },
+];
+
+/// The commands that show what a file has.
+const REPORTS: &[Subcommand] = &[
     Subcommand {
         name: "verify",
         task: Task::Ask(Topic::Verify),
@@ -402,6 +411,10 @@ const COMMANDS: &[Subcommand] = &[
             NO_CHECK,
         ],
     },
+];
+
+/// The commands that make a trie of two others.
+const COMBINATIONS: &[Subcommand] = &[
     Subcommand {
         name: "union",
         task: Task::Combine(Operation::Union(Keep::First)),
@@ -431,7 +444,24 @@ const COMMANDS: &[Subcommand] = &[
     },
 ];
 
-/// What the program can be asked to do. A function, so that no proof writes the rows out.
-pub fn commands() -> &'static [Subcommand] {
-    COMMANDS
+fn look_ups() -> &'static [Subcommand] {
+    LOOK_UPS
+}
+
+fn listings() -> &'static [Subcommand] {
+    LISTINGS
+}
+
+fn reports() -> &'static [Subcommand] {
+    REPORTS
+}
+
+fn combinations() -> &'static [Subcommand] {
+    COMBINATIONS
+}
+
+/// What the program can be asked to do, in the order of the help. Each part is behind a function of
+/// its own, since a proof writes out the rows that it sees.
+pub fn commands() -> [&'static [Subcommand]; 4] {
+    [look_ups(), listings(), reports(), combinations()]
 }
