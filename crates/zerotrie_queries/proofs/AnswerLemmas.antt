@@ -5,8 +5,7 @@ use Rattle.std.specs.Borrow.{Bor}
 use Rattle.std.specs.Io.KnownBytes.{Appends}
 use Rattle.std.proofs.lemmas.List.{take_more, take-append-drop, get_or-map, length-map}
 use Rattle.std.proofs.KnownBytes.{Appends-nil, Appends-trans}
-use Rattle.zerotrie_core.specs.Kind.{simple_ascii}
-use Rattle.zerotrie_core.specs.Maps.{Map, Pairs, look, value_at}
+use Rattle.zerotrie_core.specs.Maps.{Map, look}
 use Rattle.zerotrie_core.specs.Prefixes.{fronts}
 use Rattle.zerotrie_core.specs.Borders.{at_borders}
 use Rattle.zerotrie_core.specs.Texts.{Means}
@@ -18,9 +17,8 @@ use Rattle.zerotrie_queries.specs.declared.lookups.Spelling.{Spelling}
 use Rattle.zerotrie_queries.specs.declared.lookups.Spelling.TheVariants.{Plain, Escaped}
 use Rattle.zerotrie_queries.specs.declared.lookups.Query.{Query}
 use Rattle.zerotrie_queries.specs.Printed.{value_line, value_lines, key_line, found_line, fronts_text, are_found}
-use Rattle.zerotrie_queries.specs.Answers.{IsAnswer, IsAnswerAs, AddsAnswer, IsAdded, Belongs, AreAnswered, AreAnsweredInPart, SpellsNone, as_is, with_escapes}
-use Rattle.zerotrie_queries.specs.Finders.{TrieFinds, IndexFinds, asks_keys}
-use Rattle.zerotrie_index.specs.Layout.{IsIndex}
+use Rattle.zerotrie_queries.specs.Answers.{IsAnswer, IsAnswerAs, IsAdded, Belongs, AreAnswered, AreAnsweredInPart, as_is, with_escapes}
+use Rattle.zerotrie_queries.specs.Finders.{TrieFinds}
 use Rattle.zerotrie_lines.specs.Escapes.{Spells}
 use Rattle.zerotrie_lines.proofs.SpellingLemmas.{spells_or_not}
 use Rattle.zerotrie_files.specs.Parts.{AppendsPart}
@@ -169,30 +167,9 @@ pub added_spelled : (of : Asked) (Has : (List ℕ → Option ℕ) → Type 0) (t
     → IsAdded (with_escapes of) Has text old new found
 added_spelled of Has text key old new found spells added at has = let x = added at has in (x.0, inl (key, spells, x.1), x.2)
 
--- a text that spells none is not found
-pub added_malformed : (of : Asked) (Has : (List ℕ → Option ℕ) → Type 0) (text old new : List ℕ) → SpellsNone text → new ≡ old ++ codes "none\n" → IsAdded (with_escapes of) Has text old new false
-added_malformed of Has text old new none is at has = (codes "none\n", inr (none, refl, refl), is)
-
 -- what holds of the map that the bytes of a trie mean holds of the values that keys have in the trie
 pub in_map : (kind : TrieKind) (bytes : List ℕ) (P : (List ℕ → Option ℕ) → Type 0) → ((m : Map) → Means (kind_of kind) bytes m → P (look (kind_of kind) m)) → (at : List ℕ → Option ℕ) → TrieFinds kind bytes at → P at
 in_map kind bytes P h at has = subst P (sym has.2) (h has.0 has.1)
-
--- what holds of the pairs of an index
-pub in_index : (asked : Asked) (bytes : List ℕ) (P : (List ℕ → Option ℕ) → Type 0) → (asks_keys asked ≡ true → (pairs : Pairs) → IsIndex pairs bytes → P (value_at simple_ascii pairs)) → (at : List ℕ → Option ℕ)
-    → IndexFinds asked bytes at → P at
-in_index asked bytes P h at has = subst P (sym has.3) (h has.0 has.1 has.2)
-
--- the answer to a key but for the key itself
-pub adds_value : (asked : Asked) (at : List ℕ → Option ℕ) (key old new : List ℕ) (value : Option ℕ) → asks_keys asked ≡ true → (asked ≡ Pair → ⊥) → value ≡ at key → new ≡ old ++ value_line value
-    → AddsAnswer (as_is asked) at key old new (is_some value)
-adds_value Value at key old new value keys other is added = (value_line value, (ap value_line is, ap is_some is), added)
-adds_value Pair at key old new value keys other is added = absurd (other refl)
-adds_value Longest at key old new value keys other is added = absurd (cc keys)
-adds_value (LongestAt d) at key old new value keys other is added = absurd (cc keys)
-adds_value Prefixes at key old new value keys other is added = absurd (cc keys)
-
-pub added_malformed : (of : Asked) (kind : TrieKind) (bytes text old new : List ℕ) → SpellsNone text → new ≡ old ++ codes "none\n" → IsAdded (with_escapes of) kind bytes text old new false
-added_malformed of kind bytes text old new none is m means = (codes "none\n", inr (none, refl, refl), is)
 
 -- what is asked of texts, by how they are written
 abbrev query_of : Asked → Spelling → Query
