@@ -45,7 +45,7 @@ pub enum Asked {
 impl Asked {
     /// Returns whether texts are asked for as keys.
     pub fn asks_keys(self) -> bool
-        ensures { result ≡ asks_keys self.entry }
+        ensures { result ≡ asks_keys self }
     {
         matches!(self, Asked::Value | Asked::Pair)
     }

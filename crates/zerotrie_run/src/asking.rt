@@ -167,7 +167,10 @@ fn open_index<'a>(file: TrieFile<'_>, question: Question<'_>, held: &'a [u8]) ->
     if file.bare.is_some() || !asks_index(question) {
         return None;
     }
-    let bytes = zerotrie_sealed::open_index(held).ok()?;
+    let bytes = match zerotrie_sealed::open_index(held) {
+        Ok(bytes) => bytes,
+        Err(_) => return None,
+    };
     match file.check {
         Check::Full if !is_well_formed(bytes) => None,
         _ => Some(bytes),
@@ -286,7 +289,10 @@ fn answer_held<R: Read, W: Write + Drop>(
     ensures unread { LeavesKeys question.entry (asked_refusal result) → input.new ≡ input.old }
 {
     if let Some(index) = open_index(file, question, held) {
-        return Ok(answer_of_index(alloc, index, question, input, output)?);
+        return match answer_of_index(alloc, index, question, input, output) {
+            Ok(all) => Ok(all),
+            Err(error) => Err(AskError::Unanswered(error)),
+        };
     }
     let trie = match open(alloc, file, held) {
         Ok(trie) => trie,
