@@ -84,6 +84,11 @@ unsafe extern "C" {
         kind: u8, bytes: *const u8, len: usize, keys: *const u8, keys_len: usize, ends: *const usize, ends_len: usize,
         times: usize,
     ) -> usize;
+    #[link_name = "keep_many"]
+    fn keep_many_(
+        kind: u8, bytes: *const u8, len: usize, keys: *const u8, keys_len: usize, ends: *const usize, ends_len: usize,
+        times: usize,
+    ) -> usize;
     #[link_name = "list_many"]
     fn list_many_(kind: u8, bytes: *const u8, len: usize, times: usize) -> usize;
     #[link_name = "lend_many"]
@@ -132,6 +137,16 @@ pub fn ask_many(kind: Kind, bytes: &[u8], flat: &Flat, times: usize) -> usize {
     // SAFETY: the function reads the three slices.
     unsafe {
         ask_many_(
+            kind as u8, bytes.as_ptr(), bytes.len(), flat.keys.as_ptr(), flat.keys.len(), flat.ends.as_ptr(), flat.ends.len(), times,
+        )
+    }
+}
+
+/// The same by one `LookUps` for each time.
+pub fn keep_many(kind: Kind, bytes: &[u8], flat: &Flat, times: usize) -> usize {
+    // SAFETY: the function reads the three slices.
+    unsafe {
+        keep_many_(
             kind as u8, bytes.as_ptr(), bytes.len(), flat.keys.as_ptr(), flat.keys.len(), flat.ends.as_ptr(), flat.ends.len(), times,
         )
     }

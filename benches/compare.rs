@@ -77,6 +77,27 @@ fn look_ups(title: &str, sets: &[Set], rounds: usize, asked: impl Fn(&Set) -> Ve
     table
 }
 
+/// Look-ups of all keys of a set by one `LookUps`, beside the plain call.
+fn kept(sets: &[Set], rounds: usize) -> Table {
+    let mut table = Table::of_shares("Look-ups by one `LookUps`, shuffled, ns");
+    for set in sets {
+        for (name, keys) in [("hits", shuffled(&set.keys)), ("misses", sets::misses(set))] {
+            let flat = &Flat::of(&keys);
+            let turns = turns_of(set);
+            for kind in kinds_of(set) {
+                let bytes = &calls::built(kind, set.pairs());
+                let mut contestants: Contestants<'_> = vec![
+                    ("`LookUps`", Box::new(|| calls::keep_many(kind, bytes, flat, turns))),
+                    ("`get`", Box::new(|| calls::ask_many(kind, bytes, flat, turns))),
+                ];
+                agree(&mut contestants);
+                table.measure(format!("{}, {name}", row_of(set, kind)), rounds, turns * keys.len(), contestants);
+            }
+        }
+    }
+    table
+}
+
 fn places(sets: &[Set], rounds: usize) -> Table {
     let mut table = Table::of_shares("A look-up, and a step of a cursor, in programs that ask in some places, ns");
     for set in sets {
@@ -368,6 +389,7 @@ fn main() {
         ("hits", Box::new(|| look_ups("Look-ups of keys that are there, shuffled, ns", &sets, rounds, hits))),
         ("order", Box::new(|| look_ups("Look-ups of keys that are there, in order, ns", &sets, rounds, |set| set.keys.clone()))),
         ("misses", Box::new(|| look_ups("Look-ups of keys that are not there, ns", &sets, rounds, sets::misses))),
+        ("kept", Box::new(|| kept(&sets, rounds))),
         ("places", Box::new(|| places(&sets, rounds))),
         ("listings", Box::new(|| listings(&sets, rounds))),
         ("maps", Box::new(|| ordered_maps(&sets, rounds))),

@@ -209,7 +209,7 @@ impl peers::fst::Automaton for &Automaton {
     }
 }
 
-/// The number of pairs that were found times 2^32, and the sum of their values.
+/// The number of pairs that were found times 2^44, and the sum of their values.
 fn search(kind: Kind, bytes: &[u8], question: &Question) -> usize {
     let (number, text, end) = question.parts();
     search_calls::search(kind, bytes, number, text.as_bytes(), end.as_bytes())
@@ -227,7 +227,7 @@ fn is_accepted(automaton: &Automaton, key: &[u8]) -> bool {
 }
 
 fn scanned(set: &Set, automaton: &Automaton) -> usize {
-    set.pairs().filter(|(key, _)| is_accepted(automaton, key)).fold(0, |sum, (_, value)| sum + value + (1 << 32))
+    set.pairs().filter(|(key, _)| is_accepted(automaton, key)).fold(0, |sum, (_, value)| sum + value + (1 << 44))
 }
 
 #[cfg(fst)]
@@ -236,7 +236,7 @@ fn searched(map: &peers::fst::Map, automaton: &Automaton) -> usize {
     let mut found = map.search(automaton).into_stream();
     let mut sum = 0;
     while let Some((_, value)) = found.next() {
-        sum += value as usize + (1 << 32);
+        sum += value as usize + (1 << 44);
     }
     sum
 }
@@ -248,7 +248,7 @@ fn ranged(map: &peers::fst::Map, (from, end): (&str, &str)) -> usize {
     let mut found = if end.is_empty() { range } else { range.lt(end) }.into_stream();
     let mut sum = 0;
     while let Some((_, value)) = found.next() {
-        sum += value as usize + (1 << 32);
+        sum += value as usize + (1 << 44);
     }
     sum
 }
@@ -269,7 +269,7 @@ fn common(map: &peers::fst::Map, other: &peers::fst::Map) -> usize {
     let mut found = map.op().add(other).intersection();
     let mut sum = 0;
     while let Some((_, values)) = found.next() {
-        sum += values[0].value as usize + (1 << 32);
+        sum += values[0].value as usize + (1 << 44);
     }
     sum
 }
@@ -278,7 +278,7 @@ fn common(map: &peers::fst::Map, other: &peers::fst::Map) -> usize {
 fn agreed(contestants: &mut Contestants<'_>, what: &str) -> usize {
     let sums: Vec<usize> = contestants.iter_mut().map(|(_, work)| work()).collect();
     assert!(sums.iter().all(|sum| *sum == sums[0]), "the answers differ: {sums:?}, {what}");
-    sums[0] >> 32
+    sums[0] >> 44
 }
 
 /// The tries of a set.

@@ -16,7 +16,7 @@ unsafe extern "C" {
     fn look_up_many(kind: u8, bytes: *const u8, len: usize, other: *const u8, other_len: usize, times: usize) -> usize;
 }
 
-/// The number of pairs that a search finds times 2^32, and the sum of their values.
+/// The number of pairs that a search finds times 2^44, and the sum of their values.
 pub fn search(kind: Kind, bytes: &[u8], question: u8, text: &[u8], end: &[u8]) -> usize {
     // SAFETY: the function reads the three slices.
     unsafe { search_many(kind as u8, bytes.as_ptr(), bytes.len(), question, text.as_ptr(), text.len(), end.as_ptr(), end.len(), 1) }
