@@ -1,17 +1,20 @@
 -- A file is made, and then opened.
-use Rattle.std.specs.Prelude.{◌≡◌, ◌⊎◌, ◌≤◌, ℕ, List, Option, Some, None}
+use Rattle.std.specs.Prelude.{◌≡◌, ◌⊎◌, ◌≤◌, ℕ, List, Option, Some, None, true}
 use Rattle.zerotrie_core.specs.Kind.{Kind}
 use Rattle.zerotrie_core.specs.Maps.{Pairs, map_of}
 use Rattle.zerotrie_core.specs.Texts.{Means}
 use Rattle.zerotrie_core.specs.Kinds.{kind_of}
 use Rattle.zerotrie_core.specs.declared.TrieKind.{TrieKind}
+use Rattle.zerotrie_sealed.specs.Sealed.{IsSealedIndex}
+use Rattle.zerotrie_index.specs.Built.{IsIndexOf}
 use Rattle.zerotrie_files.specs.Disks.{Story}
 use Rattle.zerotrie_making.specs.Plans.{kind_for, IsFormOf}
 use Rattle.zerotrie_making.specs.Kept.{kept}
 use Rattle.zerotrie_making.specs.Made.{IsFile, OfInput}
 use Rattle.zerotrie_making.specs.declared.making.FileForm.{FileForm}
 use Rattle.zerotrie_making.specs.declared.making.FileForm.TheVariants as form
-use Rattle.zerotrie_run.specs.Runs.{World, IsRead, Opens, Content, OpensFor, HasNoTrie, IsMade, RunsAsk, RunsBuild}
+use Rattle.zerotrie_run.specs.Runs.{World, IsRead, Opens, Content, OpensFor, HasNoTrie, HasNoAnswer, IsMade, RunsAsk, RunsBuild, asks_index}
+use Rattle.zerotrie_run.specs.Runs.Content.{of_trie, of_index}
 use Rattle.zerotrie_run.specs.Statuses.{number_of}
 use Rattle.zerotrie_run.specs.declared.status.Status.{Status}
 use Rattle.zerotrie_run.specs.declared.status.Status.TheVariants.{Refused, Taken, BadUsage, BadInput}
@@ -40,6 +43,25 @@ MadeOpens = (build : Build) (input : Option (List ℕ)) (before after : World) (
     → (made : IsMade build input before after) (file : TrieFile) (stdin : Option (List ℕ)) → (build.to ≡ Stream → ⊥) → file.place ≡ build.to
     → OfInput build.plan made.all (λ given. let pairs = kept build.plan.duplicates given in IsNamedAsMade build.plan.form (kind_for build.plan.kind pairs) file.bare
     → OpensAsMade file stdin after.files build.plan.form (kind_for build.plan.kind pairs) pairs made.file)
+
+-- what a file has is the index that was made, of the pairs in some order
+abbrev pub IsIndexAsMade : Pairs → List ℕ → Content → Type 0
+IsIndexAsMade pairs made (of_trie kind bytes) = ⊥
+IsIndexAsMade pairs made (of_index bytes) = IsSealedIndex bytes made × IsIndexOf pairs bytes
+
+-- No question that an index answers is refused, and whatever a question is asked of is the index that was made.
+pub record IndexOpensAsMade (file : TrieFile) (input : Option (List ℕ)) (files : Option Story) (pairs : Pairs) (made : List ℕ) : Type 0 where
+  pub taken : (question : Question) → asks_index question ≡ true → HasNoAnswer file question input files → ⊥
+  pub opened : (question : Question) (held : List ℕ) (content : Content) → IsRead file.place input files held → OpensFor file question held content
+      → IsIndexAsMade pairs made content
+
+-- what is opened of the file of an index that a build made is an index of the pairs that the build read, if no kind is named; so each
+-- look-up in it is answered by them
+abbrev pub MadeIndexOpens : Type 0
+MadeIndexOpens = (build : Build) (input : Option (List ℕ)) (before after : World) (held files : Story) → before.files ≡ Some held → after.files ≡ Some files
+    → (made : IsMade build input before after) (file : TrieFile) (stdin : Option (List ℕ)) → (build.to ≡ Stream → ⊥) → file.place ≡ build.to
+    → build.plan.form ≡ form.Index → file.bare ≡ None
+    → OfInput build.plan made.all (λ given. IndexOpensAsMade file stdin after.files (kept build.plan.duplicates given) made.file)
 
 -- the file that is read has a trie, which is opened
 abbrev pub HasTrie : TrieFile → List ℕ → Story → Type 0
