@@ -1,5 +1,5 @@
 -- How a run ends in which no trie file is made of two others.
-use Rattle.std.proofs.Common.{◌≡◌, ℕ, List, Option, Some, None, Bool, true, false, Result, Ok, Err, Vec, Global, inl, inr}
+use Rattle.std.proofs.Common.{◌≡◌, ℕ, List, Option, Some, None, Bool, true, false, Result, Ok, Err, Vec, Global, inl}
 use Rattle.std.specs.Prelude.{unwrap_or}
 use Rattle.std.specs.declared.alloc.AllocError.{AllocError}
 use Rattle.zerotrie_queries.specs.declared.file.OpenError.TheVariants as unopened

@@ -1,5 +1,5 @@
 -- What is opened of a file that was made of two others, and when none is made.
-use Rattle.std.proofs.Common.{◌≡◌, ◌⊎◌, ◌≤◌, ℕ, List, Option, Some, false, refl, sym, subst, arith, inl, inr}
+use Rattle.std.proofs.Common.{◌≡◌, ◌⊎◌, ◌≤◌, ℕ, List, Some, false, refl, subst, arith, inl, inr}
 use Rattle.zerotrie_core.specs.Maps.{Map}
 use Rattle.zerotrie_sealed.specs.Laws.{OneTrie}
 use Rattle.zerotrie_files.specs.Disks.{Story}

@@ -1,5 +1,5 @@
 -- A file that is made of two others: what was read of them, how the command ends, and why.
-use Rattle.std.proofs.Common.{◌≡◌, ◌⊎◌, ℕ, List, Option, Some, None, Bool, true, false, refl, sym, subst, inl, inr}
+use Rattle.std.proofs.Common.{◌≡◌, ◌⊎◌, ℕ, List, Option, None, false, refl, subst, inl, inr}
 use Rattle.std.specs.Prelude.{is_none}
 use Rattle.zerotrie_core.specs.Kinds.{kind_of}
 use Rattle.zerotrie_core.specs.Maps.{Map}
@@ -20,7 +20,6 @@ use Rattle.zerotrie_run.specs.declared.command.Check.TheVariants.{Full}
 use Rattle.zerotrie_run.specs.declared.command.Combine.{Combine}
 use Rattle.zerotrie_run.specs.declared.command.Place.{Place}
 use Rattle.zerotrie_run.specs.declared.command.Place.TheVariants.{File, Stream}
-use Rattle.zerotrie_run.specs.declared.command.Side.{Side}
 use Rattle.zerotrie_run.specs.declared.command.Side.TheVariants.{First, Second}
 
 -- a place that is read after another holds what it held, unless both are standard input
