@@ -80,10 +80,9 @@ unsafe extern "C" {
         kind: u8, bytes: *const u8, len: usize, calls: *const u8, calls_len: usize, out: *mut u8, out_len: usize,
     ) -> usize;
     #[link_name = "ask_many"]
-    fn ask_many_(
-        kind: u8, bytes: *const u8, len: usize, keys: *const u8, keys_len: usize, ends: *const usize, ends_len: usize,
-        times: usize,
-    ) -> usize;
+    fn ask_many_(kind: u8, bytes: *const u8, len: usize, keys: *const u8, keys_len: usize, times: usize) -> usize;
+    #[link_name = "keep_many"]
+    fn keep_many_(kind: u8, bytes: *const u8, len: usize, keys: *const u8, keys_len: usize, times: usize) -> usize;
     #[link_name = "list_many"]
     fn list_many_(kind: u8, bytes: *const u8, len: usize, times: usize) -> usize;
     #[link_name = "lend_many"]
@@ -119,7 +118,7 @@ fn found(answer: usize) -> Option<usize> {
 
 /// The value of a key. A value of 2^64 - 1 can't be told from none here.
 pub fn get(kind: Kind, bytes: &[u8], key: &[u8]) -> Option<usize> {
-    found(ask_many(kind, bytes, &Flat::of(&[key.to_vec()]), 1))
+    found(ask_many(kind, bytes, &[key], 1))
 }
 
 /// Asks for each key and adds up what is found.
@@ -128,13 +127,15 @@ pub fn asked_by(keys: &[&[u8]], get: impl Fn(&[u8]) -> Option<usize>) -> usize {
 }
 
 /// The same this many times, by a look-up of the library.
-pub fn ask_many(kind: Kind, bytes: &[u8], flat: &Flat, times: usize) -> usize {
-    // SAFETY: the function reads the three slices.
-    unsafe {
-        ask_many_(
-            kind as u8, bytes.as_ptr(), bytes.len(), flat.keys.as_ptr(), flat.keys.len(), flat.ends.as_ptr(), flat.ends.len(), times,
-        )
-    }
+pub fn ask_many(kind: Kind, bytes: &[u8], keys: &[&[u8]], times: usize) -> usize {
+    // SAFETY: the function reads the slices; a key is a pointer and a length there too.
+    unsafe { ask_many_(kind as u8, bytes.as_ptr(), bytes.len(), keys.as_ptr().cast(), keys.len(), times) }
+}
+
+/// The same by one `LookUps` for each time.
+pub fn keep_many(kind: Kind, bytes: &[u8], keys: &[&[u8]], times: usize) -> usize {
+    // SAFETY: the function reads the slices; a key is a pointer and a length there too.
+    unsafe { keep_many_(kind as u8, bytes.as_ptr(), bytes.len(), keys.as_ptr().cast(), keys.len(), times) }
 }
 
 /// The same once, by a cursor's steps.

@@ -54,24 +54,63 @@ fn shuffled(keys: &[Vec<u8>]) -> Vec<Vec<u8>> {
     keys
 }
 
-/// Look-ups. The keys that are asked for lie elsewhere than those of the maps, one after another in the order in which they are.
-fn look_ups(title: &str, sets: &[Set], rounds: usize, asked: impl Fn(&Set) -> Vec<Vec<u8>>) -> Table {
+/// How the keys lie that are asked for. They are never those of the maps.
+#[derive(Clone, Copy, PartialEq)]
+enum Lie {
+    /// Each in memory of its own, as a program has keys from elsewhere, and asked for in random order.
+    Apart,
+    /// One after another, in the random order in which they are asked for, so that the next ones are at hand.
+    InARow,
+    /// Each in memory of its own, and asked for in order.
+    InOrder,
+}
+
+/// Look-ups.
+fn look_ups(title: &str, sets: &[Set], rounds: usize, lie: Lie, asked: impl Fn(&Set) -> Vec<Vec<u8>>) -> Table {
     let mut table = Table::of_shares(title);
     for set in sets {
         let peers = Peers::of(set);
-        let flat = Flat::of(&asked(set));
-        let keys = &flat.slices();
+        let owned = asked(set);
+        let flat = Flat::of(&shuffled(&owned));
+        let mut apart: Vec<&[u8]> = owned.iter().map(Vec::as_slice).collect();
+        if lie == Lie::Apart {
+            Random::new(43).shuffle(&mut apart);
+        }
+        let keys = &if lie == Lie::InARow { flat.slices() } else { apart };
         let turns = turns_of(set);
         for kind in kinds_of(set) {
             let bytes = &calls::built(kind, set.pairs());
             let mut contestants: Contestants<'_> = vec![
-                ("here", Box::new(|| calls::ask_many(kind, bytes, &flat, turns))),
+                ("here", Box::new(|| calls::ask_many(kind, bytes, keys, turns))),
                 #[cfg(original)]
                 ("the crate", turned(turns, move || calls::original::asked(kind, bytes, keys))),
             ];
             contestants.extend(peers.look_ups(turns, keys));
             agree(&mut contestants);
             table.measure(row_of(set, kind), rounds, turns * keys.len(), contestants);
+        }
+    }
+    table
+}
+
+/// Look-ups of all keys of a set by one `LookUps`, beside the plain call.
+fn kept(sets: &[Set], rounds: usize) -> Table {
+    let mut table = Table::of_shares("Look-ups by one `LookUps`, shuffled, ns");
+    for set in sets {
+        for (name, asked) in [("hits", set.keys.clone()), ("misses", sets::misses(set))] {
+            let mut keys: Vec<&[u8]> = asked.iter().map(Vec::as_slice).collect();
+            Random::new(43).shuffle(&mut keys);
+            let keys = &keys;
+            let turns = turns_of(set);
+            for kind in kinds_of(set) {
+                let bytes = &calls::built(kind, set.pairs());
+                let mut contestants: Contestants<'_> = vec![
+                    ("`LookUps`", Box::new(|| calls::keep_many(kind, bytes, keys, turns))),
+                    ("`get`", Box::new(|| calls::ask_many(kind, bytes, keys, turns))),
+                ];
+                agree(&mut contestants);
+                table.measure(format!("{}, {name}", row_of(set, kind)), rounds, turns * keys.len(), contestants);
+            }
         }
     }
     table
@@ -362,12 +401,14 @@ fn main() {
     println!("Numbers are the best of {rounds} rounds; in brackets, the first column's share of the number before.");
     let mut panels = Vec::new();
     type Measure<'a> = Box<dyn Fn() -> Table + 'a>;
-    let hits = |set: &Set| shuffled(&set.keys);
+    let hits = |set: &Set| set.keys.clone();
     let parts: Vec<(&str, Measure<'_>)> = vec![
         ("sizes", Box::new(|| sizes(&sets))),
-        ("hits", Box::new(|| look_ups("Look-ups of keys that are there, shuffled, ns", &sets, rounds, hits))),
-        ("order", Box::new(|| look_ups("Look-ups of keys that are there, in order, ns", &sets, rounds, |set| set.keys.clone()))),
-        ("misses", Box::new(|| look_ups("Look-ups of keys that are not there, ns", &sets, rounds, sets::misses))),
+        ("hits", Box::new(|| look_ups("Look-ups of keys that are there, shuffled, ns", &sets, rounds, Lie::Apart, hits))),
+        ("row", Box::new(|| look_ups("Look-ups of keys that are there, shuffled, in a row, ns", &sets, rounds, Lie::InARow, hits))),
+        ("order", Box::new(|| look_ups("Look-ups of keys that are there, in order, ns", &sets, rounds, Lie::InOrder, hits))),
+        ("misses", Box::new(|| look_ups("Look-ups of keys that are not there, ns", &sets, rounds, Lie::Apart, sets::misses))),
+        ("kept", Box::new(|| kept(&sets, rounds))),
         ("places", Box::new(|| places(&sets, rounds))),
         ("listings", Box::new(|| listings(&sets, rounds))),
         ("maps", Box::new(|| ordered_maps(&sets, rounds))),

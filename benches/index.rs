@@ -23,12 +23,7 @@ fn turns_of(set: &Set) -> usize {
     (50_000 / set.keys.len()).max(1)
 }
 
-fn shuffled(keys: &[Vec<u8>]) -> Vec<Vec<u8>> {
-    let mut keys = keys.to_vec();
-    Random::new(43).shuffle(&mut keys);
-    keys
-}
-
+/// Look-ups. Each key that is asked for lies in memory of its own, as a program has keys from elsewhere, and they come in random order.
 fn look_ups(title: &str, sets: &[Set], rounds: usize, asked: impl Fn(&Set) -> Vec<Vec<u8>>) -> Table {
     let mut table = Table::of_shares(title);
     for set in sets {
@@ -36,8 +31,10 @@ fn look_ups(title: &str, sets: &[Set], rounds: usize, asked: impl Fn(&Set) -> Ve
         let pairs = Flat::of_pairs(set.pairs());
         let bytes = &index_calls::built(0, &pairs).expect("the build was refused");
         let trie = index_calls::trie_built(&pairs);
-        let flat = &Flat::of(&asked(set));
-        let keys = &flat.slices();
+        let owned = asked(set);
+        let mut keys: Vec<&[u8]> = owned.iter().map(Vec::as_slice).collect();
+        Random::new(43).shuffle(&mut keys);
+        let keys = &keys;
         let turns = turns_of(set);
         let mut contestants: Contestants<'_> = vec![("the index", Box::new(|| index_calls::ask_many(bytes, keys, turns)))];
         if let Some(trie) = &trie {
@@ -107,7 +104,7 @@ fn main() {
     let mut sets: Vec<Set> = sets::all().into_iter().chain(given).collect();
     sets.retain(|set| set.name.contains(&wanted));
     println!("Numbers are the best of {rounds} rounds; in brackets, the first column's share of the number before.");
-    look_ups("Look-ups of keys that are there, shuffled, ns", &sets, rounds, |set| shuffled(&set.keys)).print();
+    look_ups("Look-ups of keys that are there, shuffled, ns", &sets, rounds, |set| set.keys.clone()).print();
     look_ups("Look-ups of keys that are not there, ns", &sets, rounds, sets::misses).print();
     sizes(&sets, rounds).print();
     builds("Builds of sorted pairs, ns a pair", &sets, rounds, 0).print();

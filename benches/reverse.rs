@@ -40,9 +40,10 @@ fn time_of(rounds: usize, items: usize, work: impl FnMut() -> usize) -> f64 {
 
 fn main() {
     let words: Vec<String> = std::env::args().skip(1).collect();
-    let file = words.first().map_or("/usr/share/dict/american-english", String::as_str);
+    let made = std::env::temp_dir().join("zerotrie-sets/words.txt");
+    let file = words.first().map_or(made.as_path(), Path::new);
     let rounds = words.get(1).and_then(|word| word.parse().ok()).unwrap_or(9);
-    let mut set = Set::of_file(Path::new(file)).expect("the file of keys can't be read");
+    let mut set = Set::of_file(file).unwrap_or_else(|fault| panic!("{}: {fault}", file.display()));
     let mut random = Random::new(1);
     for place in (1..set.values.len()).rev() {
         let other = random.below(place + 1);
@@ -51,8 +52,7 @@ fn main() {
     let asked: Vec<usize> = (0..ASKED).map(|_| set.values[random.below(set.values.len())]).collect();
     let mut kinds = Kind::of(&set.keys);
     kinds.retain(|kind| matches!(kind, Kind::Simple | Kind::Hash));
-    println!("Reverse look-ups in {}, whose values are in no order.\n", set.name);
-    println!("| Kind | Trie, bytes | Table, bytes a pair | Build, ms | Look-up, ns | A scan, ns |");
+    println!("\n| Reverse look-ups in {} | trie, bytes | table, bytes a pair | build, ms | look-up, ns | a scan, ns |", set.name);
     println!("|---|--:|--:|--:|--:|--:|");
     for kind in kinds {
         let bytes = calls::built(kind, set.pairs());

@@ -1,4 +1,5 @@
-//! Times searches beside a scan of sorted keys, and fst with the same automata.
+//! Times searches beside a scan of sorted keys, and fst with the same automata; sorted listings beside plain ones; and intersections beside
+//! look-ups.
 
 #[allow(dead_code)]
 mod calls;
@@ -11,7 +12,7 @@ mod table;
 use calls::Kind;
 use sets::Set;
 use std::path::Path;
-use table::{Contestants, Table};
+use table::{Contestants, Table, best};
 
 /// What is searched for.
 enum Question {
@@ -22,12 +23,17 @@ enum Question {
     Near(&'static str, usize),
 }
 
+/// How often an intersection is made in a round, so that the one test of the bytes does not count.
+const TURNS: usize = 5_000;
+
 /// What is listed in order: all keys, and some hundred and some thousand.
 const RANGES: [(&str, &str); 3] = [("", ""), ("interc", "interl"), ("mm", "mp")];
 
-const QUESTIONS: [Question; 14] = [
+const QUESTIONS: [Question; 16] = [
     Question::Prefix("inter"),
+    Question::Range("interc", "interl"),
     Question::Range("mm", "mp"),
+    Question::Glob("inter*al"),
     Question::Glob("s*ing"),
     Question::Glob("?a?e?"),
     Question::Glob("*ing"),
@@ -203,16 +209,10 @@ impl peers::fst::Automaton for &Automaton {
     }
 }
 
-/// The number of pairs that were found times 2^32, and the sum of their values.
+/// The number of pairs that were found times 2^44, and the sum of their values.
 fn search(kind: Kind, bytes: &[u8], question: &Question) -> usize {
     let (number, text, end) = question.parts();
     search_calls::search(kind, bytes, number, text.as_bytes(), end.as_bytes())
-}
-
-/// The same of the pairs from a key to below another, or to the last if that is empty: in the order of bytes for the question 4, and
-/// for 6 of all pairs, in the trie's order.
-fn listed(kind: Kind, bytes: &[u8], question: u8, (from, end): (&str, &str)) -> usize {
-    search_calls::order(kind, bytes, question, from.as_bytes(), end.as_bytes())
 }
 
 fn is_accepted(automaton: &Automaton, key: &[u8]) -> bool {
@@ -227,7 +227,7 @@ fn is_accepted(automaton: &Automaton, key: &[u8]) -> bool {
 }
 
 fn scanned(set: &Set, automaton: &Automaton) -> usize {
-    set.pairs().filter(|(key, _)| is_accepted(automaton, key)).fold(0, |sum, (_, value)| sum + value + (1 << 32))
+    set.pairs().filter(|(key, _)| is_accepted(automaton, key)).fold(0, |sum, (_, value)| sum + value + (1 << 44))
 }
 
 #[cfg(fst)]
@@ -236,7 +236,7 @@ fn searched(map: &peers::fst::Map, automaton: &Automaton) -> usize {
     let mut found = map.search(automaton).into_stream();
     let mut sum = 0;
     while let Some((_, value)) = found.next() {
-        sum += value as usize + (1 << 32);
+        sum += value as usize + (1 << 44);
     }
     sum
 }
@@ -248,7 +248,7 @@ fn ranged(map: &peers::fst::Map, (from, end): (&str, &str)) -> usize {
     let mut found = if end.is_empty() { range } else { range.lt(end) }.into_stream();
     let mut sum = 0;
     while let Some((_, value)) = found.next() {
-        sum += value as usize + (1 << 32);
+        sum += value as usize + (1 << 44);
     }
     sum
 }
@@ -262,48 +262,109 @@ fn fst_of(set: &Set) -> peers::fst::Map {
     peers::fst::Map::from_bytes(builder.into_inner().unwrap()).unwrap()
 }
 
-fn main() {
-    let words: Vec<String> = std::env::args().skip(1).collect();
-    let file = words.first().map_or("/usr/share/dict/american-english-huge", String::as_str);
-    let rounds = words.get(1).and_then(|word| word.parse().ok()).unwrap_or(9);
-    let set = Set::of_file(Path::new(file)).expect("the file of keys can't be read");
-    let mut kinds = Kind::of(&set.keys);
-    kinds.retain(|kind| matches!(kind, Kind::Simple | Kind::Hash));
-    let tries: Vec<(Kind, Vec<u8>)> = kinds.into_iter().map(|kind| (kind, calls::built(kind, set.pairs()))).collect();
-    #[cfg(fst)]
-    let map = fst_of(&set);
+/// What two maps have in common.
+#[cfg(fst)]
+fn common(map: &peers::fst::Map, other: &peers::fst::Map) -> usize {
+    use peers::fst::Streamer;
+    let mut found = map.op().add(other).intersection();
+    let mut sum = 0;
+    while let Some((_, values)) = found.next() {
+        sum += values[0].value as usize + (1 << 44);
+    }
+    sum
+}
+
+/// The sums of all contestants have to be the same. Returns how many pairs they found.
+fn agreed(contestants: &mut Contestants<'_>, what: &str) -> usize {
+    let sums: Vec<usize> = contestants.iter_mut().map(|(_, work)| work()).collect();
+    assert!(sums.iter().all(|sum| *sum == sums[0]), "the answers differ: {sums:?}, {what}");
+    sums[0] >> 44
+}
+
+/// The tries of a set.
+fn tries_of(set: &Set) -> Vec<(Kind, Vec<u8>)> {
+    let kinds = Kind::of(&set.keys).into_iter().filter(|kind| matches!(kind, Kind::Simple | Kind::Hash));
+    kinds.map(|kind| (kind, calls::built(kind, set.pairs()))).collect()
+}
+
+fn searches(set: &Set, rounds: usize) -> Table {
     let mut table = Table::of_shares(&format!("Microseconds of a search in {}", set.name));
+    #[cfg(fst)]
+    let map = fst_of(set);
     for question in &QUESTIONS {
         let automaton = question.automaton();
-        for (kind, bytes) in &tries {
+        for (kind, bytes) in &tries_of(set) {
             let mut contestants: Contestants<'_> = vec![
                 ("here", Box::new(|| search(*kind, bytes, question))),
-                ("a scan", Box::new(|| scanned(&set, &automaton))),
+                ("a scan", Box::new(|| scanned(set, &automaton))),
                 #[cfg(fst)]
                 ("`fst`", Box::new(|| searched(&map, &automaton))),
             ];
-            let sums: Vec<usize> = contestants.iter_mut().map(|(_, work)| work()).collect();
-            assert!(sums.iter().all(|sum| *sum == sums[0]), "the answers differ: {sums:?}, {}", question.name());
-            let row = format!("{}, {}: {}", question.name(), kind.name(), sums[0] >> 32);
-            table.measure(row, rounds, 1000, contestants);
+            let found = agreed(&mut contestants, &question.name());
+            table.measure(format!("{}, {}: {found}", question.name(), kind.name()), rounds, 1000, contestants);
         }
     }
-    table.print();
+    table
+}
+
+fn sorted_listings(set: &Set, rounds: usize) -> Table {
     let mut table = Table::of_shares(&format!("Microseconds of a listing in the order of bytes in {}", set.name));
+    #[cfg(fst)]
+    let map = fst_of(set);
     for (from, end) in RANGES {
-        for (kind, bytes) in &tries {
-            let plain = || if end.is_empty() { listed(*kind, bytes, 6, (from, end)) } else { search(*kind, bytes, &Question::Range(from, end)) };
+        for (kind, bytes) in &tries_of(set) {
+            let plain = || if end.is_empty() { search_calls::plain(*kind, bytes) } else { search(*kind, bytes, &Question::Range(from, end)) };
             let mut contestants: Contestants<'_> = vec![
-                ("here", Box::new(|| listed(*kind, bytes, 4, (from, end)))),
+                ("here", Box::new(|| search_calls::sorted(*kind, bytes, from.as_bytes(), end.as_bytes()))),
                 ("a plain one", Box::new(plain)),
                 #[cfg(fst)]
                 ("`fst`", Box::new(|| ranged(&map, (from, end)))),
             ];
-            let sums: Vec<usize> = contestants.iter_mut().map(|(_, work)| work()).collect();
-            assert!(sums.iter().all(|sum| *sum == sums[0]), "the answers differ: {sums:?}, from {from} to below {end}");
             let row = if end.is_empty() { String::from("all") } else { format!("from {from} to below {end}") };
-            table.measure(format!("{row}, {}: {}", kind.name(), sums[0] >> 32), rounds, 1000, contestants);
+            let found = agreed(&mut contestants, &row);
+            table.measure(format!("{row}, {}: {found}", kind.name()), rounds, 1000, contestants);
         }
     }
-    table.print();
+    table
+}
+
+/// What all keys and every thousandth of them have in common, each searched for those of the other.
+fn intersections(set: &Set, rounds: usize) -> Table {
+    let mut table = Table::of_shares(&format!("Microseconds of an intersection of {} and a thousandth", set.name));
+    let (keys, values) = set.pairs().step_by(1000).map(|(key, value)| (key.to_vec(), value)).unzip();
+    let few = Set { name: String::from("a thousandth"), keys, values };
+    #[cfg(fst)]
+    let (map, few_map) = (fst_of(set), fst_of(&few));
+    for (kind, bytes) in &tries_of(set) {
+        let thousandth = &calls::built(*kind, few.pairs());
+        for (name, first, second) in [("all", bytes, thousandth), ("a thousandth", thousandth, bytes)] {
+            let mut contestants: Contestants<'_> = vec![
+                ("here", Box::new(|| search_calls::common(*kind, first, second, TURNS))),
+                ("look-ups of the thousandth", Box::new(|| search_calls::looked_up(*kind, thousandth, bytes, TURNS))),
+            ];
+            let found = agreed(&mut contestants, name);
+            #[allow(unused_mut)]
+            let mut values = best(rounds, 1000 * TURNS, &mut contestants);
+            // fst goes over all keys of both, so that one turn is enough
+            #[cfg(fst)]
+            {
+                let mut alone: Contestants<'_> = vec![("`fst`", Box::new(|| common(&map, &few_map)))];
+                assert_eq!(agreed(&mut alone, name), found);
+                values.extend(best(rounds, 1000, &mut alone));
+            }
+            table.add(format!("{name} searched, {}: {found}", kind.name()), values);
+        }
+    }
+    table
+}
+
+fn main() {
+    let words: Vec<String> = std::env::args().skip(1).collect();
+    let made = std::env::temp_dir().join("zerotrie-sets/words.txt");
+    let file = words.first().map_or(made.as_path(), Path::new);
+    let rounds = words.get(1).and_then(|word| word.parse().ok()).unwrap_or(9);
+    let set = Set::of_file(file).unwrap_or_else(|fault| panic!("{}: {fault}", file.display()));
+    searches(&set, rounds).print();
+    sorted_listings(&set, rounds).print();
+    intersections(&set, rounds).print();
 }

@@ -1,13 +1,14 @@
-//! Gives bytes of every sort to every reader. All of them have to return; on bytes that the test of bytes takes, their
-//! answers have to be those of the original.
+//! Gives bytes of every sort to every reader. All of them have to return, and list at most as many pairs as there are bytes. On bytes
+//! that the test of bytes takes, the answers of the first readers have to be those of the original. What searches, sorted listings,
+//! reverse look-ups and merges list has to be what brute force makes of the pairs.
 
 #[path = "../benches/calls.rs"]
 #[allow(dead_code)]
 mod calls;
-#[path = "../benches/search_calls.rs"]
-mod search_calls;
+mod listings;
 
 use calls::Kind;
+use listings::{Given, NOTHING, Pair, Part, TOO_MANY};
 use original::*;
 use std::collections::BTreeMap;
 
@@ -62,6 +63,20 @@ impl Random {
             key.truncate(self.below(key.len() + 1));
         }
         key
+    }
+
+    /// A pattern that is made of a text, and another one that need not be one.
+    fn pattern(&mut self, text: &[u8]) -> (Vec<Part>, Vec<u8>) {
+        let mut parts: Vec<Part> = text.iter().map(|byte| match self.below(6) {
+            0 => Part::One,
+            1 => Part::Class(self.below(2) == 0, byte.saturating_sub(self.below(3) as u8), byte.saturating_add(self.below(3) as u8)),
+            _ => Part::Byte(*byte),
+        }).collect();
+        for _ in 0..self.below(3) {
+            parts.insert(self.below(parts.len() + 1), Part::Many);
+        }
+        let other = (0..self.below(8)).map(|_| if self.below(4) == 0 { self.byte() } else { self.pick(b"*?[]!-\\ab") }).collect();
+        (parts, other)
     }
 
     fn pairs(&mut self, kind: Kind) -> BTreeMap<Vec<u8>, usize> {
@@ -161,51 +176,90 @@ fn original_answers(kind: Kind, bytes: &[u8], ops: &[u8]) -> Option<Vec<(usize, 
     }
 }
 
-/// A number that a pair, and the order of pairs, changes.
-fn mixed(sum: usize, (key, value): &(Vec<u8>, usize)) -> usize {
-    let sum = sum.wrapping_mul(31).wrapping_add(*value).wrapping_add(key.len());
-    key.iter().fold(sum, |sum, byte| sum.wrapping_mul(31).wrapping_add(*byte as usize))
-}
-
-/// The questions of a search, each with the keys that it is to find.
-const SEARCHES: [fn(&[u8], &[u8], &[u8]) -> bool; 3] = [
+/// The questions of a search after that by a pattern, which is the last, each with the keys that it is to find.
+const QUESTIONS: [fn(&[u8], &[u8], &[u8]) -> bool; 9] = [
     |key, text, _| key.starts_with(text),
     |key, text, end| text <= key && key < end,
+    |key, text, _| listings::is_subsequence(text, key),
+    |key, text, _| listings::distance(text, key) <= 1,
+    |key, text, _| listings::distance(text, key) <= 2,
     |key, text, _| {
-        let mut rest = key.iter();
-        text.iter().all(|byte| rest.any(|it| it == byte))
+        let letters = |bytes| std::str::from_utf8(bytes).map(|text| text.chars().collect::<Vec<_>>());
+        letters(text).is_ok_and(|text| letters(key).is_ok_and(|key| listings::distance(&text, &key) <= 1))
     },
+    |key, text, _| (0..=key.len()).any(|len| listings::distance(text, &key[..len]) <= 1),
+    |key, text, _| key.to_ascii_lowercase().starts_with(text),
+    |key, text, end| !key.starts_with(text) && listings::is_subsequence(end, key),
 ];
 
-/// What searches, sorted listings and neighbours of a key answer, for these keys as bounds.
-fn searched(kind: Kind, bytes: &[u8], text: &[u8], end: &[u8]) -> Vec<usize> {
-    let ordered = [0, 1, 2, 3, 5].map(|question| search_calls::order(kind, bytes, question, text, end));
-    // of patterns and distances only that they return is tried here
-    for question in 3..6 {
-        search_calls::search(kind, bytes, question, &text[..text.len().min(60)], end);
-    }
-    let found = (0..3).map(|question| search_calls::search(kind, bytes, question, text, end));
-    ordered.into_iter().chain(found).collect()
+/// A search lists the pairs that are accepted, of any bytes.
+fn try_search(random: &mut Random, given: &Given, keys: &[Vec<u8>]) -> bool {
+    let (text, end) = (random.pick_key(keys), random.pick_key(keys));
+    let question = random.below(QUESTIONS.len());
+    let accepted = given.pairs.iter().filter(|(key, _)| QUESTIONS[question](key, &text, &end)).cloned();
+    // a word of characters is text
+    let is_none = question == 5 && std::str::from_utf8(&text).is_err();
+    given.search(question as u8, &text, &end) == if is_none { NOTHING } else { listings::all_mixed(accepted) }
 }
 
-/// The same, by brute force over the pairs.
-fn expected(pairs: &[(Vec<u8>, usize)], text: &[u8], end: &[u8]) -> Vec<usize> {
-    let mut sorted = pairs.to_vec();
-    sorted.sort();
-    let one = |pair: Option<&(Vec<u8>, usize)>| pair.map_or(search_calls::NOTHING, |pair| mixed(0, pair));
-    let range = sorted.iter().filter(|(key, _)| text <= key && (end.is_empty() || key.as_slice() < end));
-    let ordered = [
-        one(sorted.iter().find(|(key, _)| text <= key)),
-        one(sorted.iter().find(|(key, _)| text < key)),
-        one(sorted.iter().rfind(|(key, _)| key.as_slice() < text)),
-        one(sorted.iter().rfind(|(key, _)| key.as_slice() <= text)),
-        range.fold(0, mixed),
+fn try_pattern(random: &mut Random, given: &Given, keys: &[Vec<u8>]) -> bool {
+    let text = random.pick_key(keys);
+    let (parts, other) = random.pattern(&text);
+    let accepted = given.pairs.iter().filter(|(key, _)| listings::matches(&parts, key)).cloned();
+    let question = QUESTIONS.len() as u8;
+    given.search(question, &listings::spelled(&parts), b"") == listings::all_mixed(accepted) && given.search(question, &other, b"") != TOO_MANY
+}
+
+/// Listings in the order of bytes and neighbours of a key return on any bytes. Those of a trie are in its pairs.
+fn try_order(random: &mut Random, given: &Given, keys: &[Vec<u8>]) -> bool {
+    let (text, end) = (random.pick_key(keys), random.pick_key(keys));
+    let (from, to) = ((random.below(3) as u8, &text[..]), (random.below(3) as u8, &end[..]));
+    let sorted = given.sorted(from, to);
+    let neighbours = [0, 1, 2, 3].map(|question| given.neighbour(question, &text));
+    if !given.is_trie {
+        return sorted != TOO_MANY;
+    }
+    let pairs = given.in_order();
+    let one = |pair: Option<&Pair>| pair.map_or(NOTHING, |pair| listings::mixed(listings::START, pair));
+    let expected = [
+        one(pairs.iter().find(|(key, _)| text <= *key)),
+        one(pairs.iter().find(|(key, _)| text < *key)),
+        one(pairs.iter().rfind(|(key, _)| *key < text)),
+        one(pairs.iter().rfind(|(key, _)| *key <= text)),
     ];
-    let found = SEARCHES.iter().map(|accepts| {
-        let accepted = pairs.iter().filter(|(key, _)| accepts(key, text, end));
-        accepted.fold(0usize, |sum, (_, value)| sum.wrapping_add(*value).wrapping_add(1 << 32))
-    });
-    ordered.into_iter().chain(found).collect()
+    let within = pairs.into_iter().filter(|(key, _)| listings::is_from(from, key) && listings::is_to(to, key));
+    sorted == listings::all_mixed(within) && neighbours == expected
+}
+
+/// A reverse look-up returns on any bytes. In a trie it finds the first key, and the table has a place for each pair.
+fn try_reverse(random: &mut Random, given: &Given) -> bool {
+    let value = match given.pairs.len() {
+        0 => random.next() as usize,
+        count => given.pairs[random.below(count)].1.wrapping_add(random.pick(&[0, 0, 1])),
+    };
+    let found = given.reverse(value);
+    let (first, places) = (given.pairs.iter().find(|(_, held)| *held == value), listings::START + given.pairs.len());
+    found != TOO_MANY && (!given.is_trie || found == first.map_or(places, |pair| listings::mixed(places, pair)))
+}
+
+/// Merges list the rows of any bytes, each trie in its own order, and those of tries in the order of bytes.
+fn try_merge(random: &mut Random, given: &Given, before: &Given) -> bool {
+    let how = random.below(8) as u8;
+    let (pairs, others) = (&given.pairs[..], &before.pairs[..]);
+    let merged = listings::merged(how, &listings::rows_of(&[pairs, others]));
+    let merged_all = listings::merged_all(&listings::rows_of(&[pairs, others, pairs]));
+    let sorted = match given.is_trie && before.is_trie {
+        true => listings::merged(how, &listings::rows_of(&[&given.in_order(), &before.in_order()])),
+        false => NOTHING,
+    };
+    let common = match before.is_trie {
+        true => listings::all_mixed(pairs.iter().filter(|(key, _)| before.has(key)).cloned()),
+        false => NOTHING,
+    };
+    given.merge(how, before) == merged
+        && given.merge_three(before) == merged_all
+        && given.merge_sorted(how, before) == sorted
+        && given.common(before) == common
 }
 
 fn main() {
@@ -213,50 +267,38 @@ fn main() {
     let count = word(1, 1_000_000);
     let mut random = Random(word(2, 1) * 0x9E37_79B9_7F4A_7C15 + 1);
     let (mut taken, mut listed) = (0u64, 0u64);
+    let mut before = Given::new(Kind::Simple, Vec::new());
     for number in 0..count {
         let kind = random.pick(&[Kind::Simple, Kind::Ignore, Kind::Hash, Kind::Ext]);
-        let given = random.pairs(kind);
-        let bytes = bytes_for(&mut random, kind, &given);
+        let made = random.pairs(kind);
+        let bytes = bytes_for(&mut random, kind, &made);
         let ops: Vec<u8> = (0..2 * random.below(12)).map(|place| if place % 2 == 0 { random.below(3) as u8 } else { match random.below(3) {
             0 => random.below(4) as u8,
             _ => random.byte(),
         } }).collect();
-        let mut keys: Vec<Vec<u8>> = given.keys().cloned().collect();
+        let mut keys: Vec<Vec<u8>> = made.keys().cloned().collect();
         keys.push(random.key(kind));
-        let fault = |what: &str| panic!("string {number}, {}: {what} differs on {bytes:02x?}", kind.name());
 
-        let pairs = calls::pairs(kind, &bytes);
         let answers = calls::answers(kind, &bytes, &ops);
-        let (text, end) = (random.pick_key(&keys), random.pick_key(&keys));
-        let order = searched(kind, &bytes, &text, &end);
         let gotten: Vec<Option<usize>> = keys.iter().map(|key| calls::get(kind, &bytes, key)).collect();
-        if pairs.len() > bytes.len() {
-            fault("more pairs than bytes: the listing");
+        let given = Given::new(kind, bytes);
+        let (bytes, pairs) = (&given.bytes, &given.pairs);
+        let check = |is_right: bool, what: &str| assert!(is_right, "string {number}, {}: {what} differs on {bytes:02x?}", kind.name());
+        check(pairs.len() <= bytes.len(), "more pairs than bytes: the listing");
+        check(try_search(&mut random, &given, &keys), "a search");
+        check(try_pattern(&mut random, &given, &keys), "a search by a pattern");
+        check(try_order(&mut random, &given, &keys), "an order");
+        check(try_reverse(&mut random, &given), "a reverse look-up");
+        check(try_merge(&mut random, &given, &before), "a merge");
+        if given.is_trie {
+            taken += 1;
+            listed += pairs.len() as u64;
+            check(*pairs == original_pairs(kind, bytes), "the listing");
+            check(pairs.iter().all(|(key, value)| calls::get(kind, bytes, key) == told(Some(*value))), "a listed key");
+            check(keys.iter().zip(&gotten).all(|(key, value)| *value == told(original_get(kind, bytes, key))), "a look-up");
+            check(original_answers(kind, bytes, &ops).is_none_or(|theirs| theirs == answers), "a cursor");
         }
-        if !calls::is_well_formed(kind, &bytes) {
-            continue;
-        }
-        taken += 1;
-        listed += pairs.len() as u64;
-        if pairs != original_pairs(kind, &bytes) {
-            fault("the listing");
-        }
-        for (key, value) in &pairs {
-            if calls::get(kind, &bytes, key) != told(Some(*value)) {
-                fault("a listed key");
-            }
-        }
-        for (key, value) in keys.iter().zip(&gotten) {
-            if *value != told(original_get(kind, &bytes, key)) {
-                fault("a look-up");
-            }
-        }
-        if order != expected(&pairs, &text, &end) {
-            fault("a search or an order");
-        }
-        if original_answers(kind, &bytes, &ops).is_some_and(|theirs| theirs != answers) {
-            fault("a cursor");
-        }
+        before = given;
     }
     println!("{count} strings of bytes, {taken} of them tries with {listed} pairs: no difference");
 }

@@ -198,11 +198,12 @@ def bash(file):
 
 def zsh(file):
     run("zsh", "-n", file)
-    script = f"""zmodload zsh/zpty; zpty z zsh -f -i; w() {{ zpty -w z "$1"; }}
-    w 'PS1=; unsetopt beep zle_bracketed_paste; LISTMAX=1000; fpath=({file.parent} $fpath); autoload -Uz compinit; compinit -u -D'
-    w 'autoload -Uz {file.name}; compdef {file.name} zerotrie; zstyle ":completion:*" format ""; echo READY'
-    sleep 2; zpty -n -w z $'zerotrie lon\\t'; sleep 2; w ''; sleep 1; zpty -n -w z $'zerotrie build --kind ign\\t'; sleep 2; w ''; sleep 1
-    zpty -r z out '*' ; while zpty -r -t z more; do out+=$more; done; print -r -- "$out"; zpty -d z"""
+    script = f"""zmodload zsh/zpty; zpty z zsh -f -i; w() {{ zpty -w z "$1"; }}; out=
+    seen() {{ repeat 300; do while zpty -r -t z more; do out+=$more; done; [[ $out == *"$1"* ]] && return; sleep 0.1; done; }}
+    w 'PS1=; unsetopt beep; unset zle_bracketed_paste; LISTMAX=1000; fpath=({file.parent} $fpath); autoload -Uz compinit; compinit -u -D'
+    w 'autoload -Uz {file.name}; compdef {file.name} zerotrie; zstyle ":completion:*" format ""; echo RE""ADY'
+    seen READY; zpty -n -w z $'zerotrie lon\\t'; seen 'zerotrie longest'; zpty -n -w z $'\\x15zerotrie build --kind ign\\t'; seen '--kind ignore'
+    print -r -- "$out"; zpty -d z"""
     said = run("zsh", "-f", "-c", script, cwd=folder("zsh"))
     assert "zerotrie longest" in said and "--kind ignore" in said, said[-600:]
 

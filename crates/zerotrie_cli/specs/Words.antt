@@ -120,16 +120,26 @@ duplicates_word again.Refuse = codes "refuse"
 duplicates_word again.First = codes "first"
 duplicates_word again.Last = codes "last"
 
--- what a file has beside the bytes of its trie, by whether it is to be tagged or bare
-abbrev pub form_by : Bool → Bool → Option FileForm
-form_by false false = Some made.Sealed
-form_by true false = Some made.Tagged
-form_by false true = Some made.Bare
-form_by true true = None
+-- what a file has, by whether it is to be tagged, bare or an index
+abbrev pub form_by : Bool → Bool → Bool → Option FileForm
+form_by false false false = Some made.Sealed
+form_by true false false = Some made.Tagged
+form_by false true false = Some made.Bare
+form_by false false true = Some made.Index
+form_by true true false = None
+form_by true bare true = None
+form_by false true true = None
 
 -- what it has by the words of these flags
-abbrev pub IsForm : Option (List ℕ) → Option (List ℕ) → FileForm → Type 0
-IsForm tagged bare form = (t : Bool) × (b : Bool) × IsFlag tagged t × IsFlag bare b × (form_by t b ≡ Some form)
+abbrev pub IsForm : Option (List ℕ) → Option (List ℕ) → Option (List ℕ) → FileForm → Type 0
+IsForm tagged bare index form = (t : Bool) × (b : Bool) × (x : Bool) × IsFlag tagged t × IsFlag bare b × IsFlag index x × (form_by t b x ≡ Some form)
+
+-- a file that has this may have such a kind: an index has none
+abbrev pub AreTogether : FileForm → Option TrieKind → Type 0
+AreTogether made.Sealed kind = Unit {0}
+AreTogether made.Tagged kind = Unit {0}
+AreTogether made.Bare kind = Unit {0}
+AreTogether made.Index kind = kind ≡ None
 
 -- how a form of output is, if it is named by a word
 abbrev pub form_word : Form → Option (List ℕ)
@@ -248,7 +258,8 @@ pub record IsPlan (matches : ArgMatches) (plan : Plan) : Type 0 where
   pub kind : IsKind (word_of matches (codes "kind")) plan.kind
   pub sorted : IsFlag (flag_of matches (codes "sorted")) plan.sorted
   pub lower_case : IsFlag (flag_of matches (codes "lower-case")) plan.lower_case
-  pub form : IsForm (flag_of matches (codes "tagged")) (flag_of matches (codes "bare")) plan.form
+  pub form : IsForm (flag_of matches (codes "tagged")) (flag_of matches (codes "bare")) (flag_of matches (codes "index")) plan.form
+  pub together : AreTogether plan.form plan.kind
 
 -- whether steps are told: if messages go to a terminal, and else by the flag
 abbrev pub IsProgress : Bool → Option (List ℕ) → Bool → Type 0

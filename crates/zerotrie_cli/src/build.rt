@@ -1,10 +1,11 @@
 //! The build that the command line asks for.
 
 ghost use Rattle.std.specs.Prelude.{◌≡◌, Some, IfOk, codes};
-ghost use Rattle.zerotrie_cli.specs.Words.{IsFlag, IsForm, IsFormat, IsInput, IsKind, IsPlan, IsProgress, IsSource, IsTarget, by_ending, duplicates_word, end_word, flag_of, format_word, word_of};
+ghost use Rattle.zerotrie_cli.specs.Words.{AreTogether, IsFlag, IsForm, IsFormat, IsInput, IsKind, IsPlan, IsProgress, IsSource, IsTarget, by_ending, duplicates_word, end_word, flag_of, format_word, word_of};
 
 use crate::arguments::{kind_in, place_in, source_in};
 use clap::ArgMatches;
+use zerotrie_core::TrieKind;
 use zerotrie_lines::{Format, LineEnd};
 use zerotrie_making::{Duplicates, FileForm, Plan, Source};
 use zerotrie_run::{Build, Place};
@@ -89,16 +90,37 @@ fn duplicates_in(matches: &ArgMatches<'_>) -> Result<Duplicates, &'static str>
     }
 }
 
-/// What the file has beside the bytes of the trie.
-pub fn form_in(matches: &ArgMatches<'_>) -> Result<FileForm, &'static str>
+/// What the file has: a trie with what is beside its bytes, or an index.
+fn form_in(matches: &ArgMatches<'_>) -> Result<FileForm, &'static str>
     ensures { IfOk result (IsForm (flag_of matches.now (codes "tagged"))
-        (flag_of matches.now (codes "bare"))) }
+        (flag_of matches.now (codes "bare")) (flag_of matches.now (codes "index"))) }
 {
-    match (matches.get_flag("tagged"), matches.get_flag("bare")) {
-        (false, false) => Ok(FileForm::Sealed),
-        (true, false) => Ok(FileForm::Tagged),
-        (false, true) => Ok(FileForm::Bare),
-        (true, true) => Err("--tagged and --bare exclude each other"),
+    match (
+        matches.get_flag("tagged"),
+        matches.get_flag("bare"),
+        matches.get_flag("index"),
+    ) {
+        (false, false, false) => Ok(FileForm::Sealed),
+        (true, false, false) => Ok(FileForm::Tagged),
+        (false, true, false) => Ok(FileForm::Bare),
+        (false, false, true) => Ok(FileForm::Index),
+        (true, true, false) => Err("--tagged and --bare exclude each other"),
+        (true, _, true) | (false, true, true) => Err("--index excludes --tagged and --bare"),
+    }
+}
+
+/// What the file has, and the kind of its trie, if one is named.
+pub fn content_in(matches: &ArgMatches<'_>) -> Result<(Option<TrieKind>, FileForm), &'static str>
+    ensures kind { IfOk result (λ of. IsKind (word_of matches.now (codes "kind")) of.0) }
+    ensures form { IfOk result (λ of. IsForm (flag_of matches.now (codes "tagged"))
+        (flag_of matches.now (codes "bare")) (flag_of matches.now (codes "index")) of.1) }
+    ensures together { IfOk result (λ of. AreTogether of.1 of.0) }
+{
+    let kind = kind_in(matches, "kind")?;
+    let form = form_in(matches)?;
+    match (form, kind) {
+        (FileForm::Index, Some(_)) => Err("an index has no kind: leave out --kind or --index"),
+        (_, _) => Ok((kind, form)),
     }
 }
 
@@ -106,13 +128,14 @@ pub fn form_in(matches: &ArgMatches<'_>) -> Result<FileForm, &'static str>
 fn plan_in(matches: &ArgMatches<'_>) -> Result<Plan, &'static str>
     ensures { IfOk result (IsPlan matches.now) }
 {
+    let (kind, form) = content_in(matches)?;
     Ok(Plan {
         source: input_in(matches)?,
-        kind: kind_in(matches, "kind")?,
+        kind,
         duplicates: duplicates_in(matches)?,
         sorted: matches.get_flag("sorted"),
         lower_case: matches.get_flag("lower-case"),
-        form: form_in(matches)?,
+        form,
     })
 }
 

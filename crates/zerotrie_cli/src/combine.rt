@@ -1,10 +1,10 @@
 //! The combination of two tries that the command line asks for.
 
 ghost use Rattle.std.specs.Prelude.{◌≡◌, IfOk, codes};
-ghost use Rattle.zerotrie_cli.specs.Words.{IsFlag, IsForm, IsKind, IsSource, IsTarget, flag_of, word_of};
+ghost use Rattle.zerotrie_cli.specs.Words.{AreTogether, IsFlag, IsForm, IsKind, IsSource, IsTarget, flag_of, word_of};
 
-use crate::arguments::{kind_in, source_in};
-use crate::build::{form_in, target_in};
+use crate::arguments::source_in;
+use crate::build::{content_in, target_in};
 use clap::ArgMatches;
 use zerotrie_run::Combine;
 use zerotrie_sets::Operation;
@@ -21,17 +21,19 @@ pub fn combine_in<'a>(
     ensures to { IfOk result (λ both. IsTarget (word_of matches.now (codes "output")) both.to) }
     ensures kind { IfOk result (λ both. IsKind (word_of matches.now (codes "kind")) both.kind) }
     ensures form { IfOk result (λ both. IsForm (flag_of matches.now (codes "tagged"))
-        (flag_of matches.now (codes "bare")) both.form) }
+        (flag_of matches.now (codes "bare")) (flag_of matches.now (codes "index")) both.form) }
+    ensures together { IfOk result (λ both. AreTogether both.form both.kind) }
     ensures no_clobber { IfOk result (λ both.
         IsFlag (flag_of matches.now (codes "no-clobber")) both.no_clobber) }
 {
+    let (kind, form) = content_in(matches)?;
     Ok(Combine {
         operation,
         first: source_in(matches, "A"),
         second: source_in(matches, "B"),
         to: target_in(matches),
-        kind: kind_in(matches, "kind")?,
-        form: form_in(matches)?,
+        kind,
+        form,
         no_clobber: matches.get_flag("no-clobber"),
     })
 }

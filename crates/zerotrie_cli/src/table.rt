@@ -85,7 +85,13 @@ const BARE_OUTPUT: Argument = Argument {
     help: "Put nothing in front; name the kind too",
 };
 
-/// What a command has that makes a trie of two others.
+const INDEX: Argument = Argument {
+    name: "index",
+    form: Form::Flag(Some('i')),
+    help: "Make an index in place of a trie, only for get and verify",
+};
+
+/// What a command has that makes a file of two tries.
 const BOTH: &[Argument] = &[
     Argument {
         name: "A",
@@ -102,6 +108,7 @@ const BOTH: &[Argument] = &[
     KIND,
     TAGGED,
     BARE_OUTPUT,
+    INDEX,
 ];
 
 /// What a status says, in the help of the program.
@@ -113,7 +120,7 @@ const LOOK_UPS: &[Subcommand] = &[
     Subcommand {
         name: "build",
         task: Task::Build,
-        about: "Make a trie from a file of pairs",
+        about: "Make a trie or an index from a file of pairs",
         help: "Example: zerotrie build names.tsv -o names.trie\n\
             In every format of text a byte order mark in front is left out,\nand a carriage return before a line feed.\n\
             Status: 1 if the build is refused, 2 if IN is no pairs.",
@@ -158,6 +165,7 @@ const LOOK_UPS: &[Subcommand] = &[
             KIND,
             TAGGED,
             BARE_OUTPUT,
+            INDEX,
             Argument {
                 name: "progress",
                 form: Form::Flag(Some('p')),
@@ -344,7 +352,7 @@ const REPORTS: &[Subcommand] = &[
     Subcommand {
         name: "verify",
         task: Task::Ask(Topic::Verify),
-        about: "Test all bytes, and print nothing if they are a trie",
+        about: "Test all bytes, and print nothing if they are a trie or an index",
         help: "Example: zerotrie verify names.trie\nStatus: 2 if FILE is no trie.",
         arguments: &[FILE, BARE],
     },

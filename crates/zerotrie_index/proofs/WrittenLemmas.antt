@@ -12,7 +12,7 @@ use Rattle.std.proofs.lemmas.Nat.Bits.{bit_at_or, bit_at-lt}
 use Rattle.std.proofs.Math.Nat.{mul-le-mul_right}
 use Rattle.std.proofs.Math.Seq.{take-add}
 use Rattle.std.specs.Int.{bit_at}
-use Rattle.std.proofs.lemmas.List.Concat.{flat_map-append}
+use Rattle.std.proofs.lemmas.List.Concat.{flat_map-append, flat_map-cons}
 use Rattle.zerotrie_base.specs.Maps.{Pairs, Ascends, RepeatsKey}
 use Rattle.zerotrie_base.proofs.CallerLemmas.{spelling_is, ascends_apart}
 use Rattle.zerotrie_index.specs.Layout.{word, hash_of, place_of, mark_of, bucket_limit, AreRecords, IsAt, AreBuckets, IsIndex}
@@ -341,3 +341,26 @@ pub built_all : {B : Type 0} (bytes : B → List ℕ) (first : ℕ) (OfAll : (Pa
     → (r : Result B ZeroIndexBuildError) → IsIndexBuild first bytes given r → IsIndexBuildOfAll OfAll first bytes r
 built_all bytes first OfAll given all (Ok b) is = all (λ pairs. IsIndexOf pairs (bytes b)) is
 built_all bytes first OfAll given all (Err e) h = inr (all (λ pairs. IndexCause first pairs e) h)
+
+-- the records of buckets end below 2 ^ 32
+records_end : (seed count number start : ℕ) (buckets : List Pairs) (entries pool : List ℕ) → AreBuckets seed count number start buckets entries pool
+    → All (λ entry. entry < 2 ^ 64) entries → start + records_size (flat_map (λ b. b) buckets) < 2 ^ 32
+records_end seed count number start [] entries pool h below =
+    let last : h.0 < 2 ^ 64 = subst (λ es. All (λ entry. entry < 2 ^ 64) es) h.1 below 0 h.0 (omega arith) in
+    let here = h.2 in
+    omega arith
+records_end seed count number start (bucket ∷ buckets) [] pool h below = absurd h
+records_end seed count number start (bucket ∷ buckets) (entry ∷ entries) pool h below =
+    let later = records_end seed count (suc number) (start + length h.0) buckets entries h.1 h.6 (λ k d inside. below (suc k) d (omega arith)) in
+    let own = length-records bucket h.0 h.3 in
+    let both = ap records_size (flat_map-cons (λ b. b) bucket buckets) ∙ sum_by-append record_size bucket (flat_map (λ b. b) buckets) in
+    omega arith
+
+-- an index of pairs in some order has room for their records
+pub index_short : (given : Pairs) (bytes : List ℕ) → IsIndexOf given bytes → records_size given < 2 ^ 32
+index_short given bytes h =
+    let i = h.1 in
+    let end = records_end i.seed (length i.buckets) 0 0 i.buckets i.entries i.pool i.are_buckets i.entries_below in
+    let all = ap records_size i.pairs_are in
+    let same = sum_by-IsPermutation record_size given h.0 h.2 in
+    omega arith

@@ -89,3 +89,7 @@ IsTooLong size e = (e ≡ OutOfMemory) ⊎ ((e ≡ CapacityExceeded) × (2 ^ 32 
 abbrev pub AnswersAsGiven : Type 0
 AnswersAsGiven = (given pairs : Pairs) → (RepeatsKey pairs → ⊥) → IsPermutation given pairs → (key : List ℕ)
     → value_at simple_ascii pairs key ≡ value_at simple_ascii given key
+
+-- pairs of an index have no key twice, and their records fewer than 2 ^ 32 bytes
+abbrev pub IndexExcludesCauses : Type 0
+IndexExcludesCauses = (given : Pairs) (bytes : List ℕ) → IsIndexOf given bytes → (RepeatsKey given → ⊥) × (records_size given < 2 ^ 32)

@@ -1,8 +1,13 @@
 //! Laws of the definitions alone, as contracts that a caller's proof can cite.
 
-ghost use Rattle.zerotrie_index.specs.Built.{AnswersAsGiven};
+ghost use Rattle.zerotrie_index.specs.Built.{AnswersAsGiven, IndexExcludesCauses};
 
 /// Pairs with distinct keys return the same in each order.
 pub fn built_answers_as_given()
     ensures { AnswersAsGiven }
+{}
+
+/// Pairs that have an index have no cause of `DuplicateKey` and none of `CapacityExceeded`.
+pub fn index_excludes_causes()
+    ensures { IndexExcludesCauses }
 {}

@@ -1,6 +1,6 @@
 -- Pairs that a trie lists, read again and built.
-use Rattle.std.proofs.Common.{◌≡◌, ℕ, ◌^◌, ◌<◌, ◌++◌, List, [], ◌∷◌, Some, refl, ap, ◌∙◌, subst, sym}
-use Rattle.std.specs.Prelude.{All}
+use Rattle.std.proofs.Common.{◌≡◌, ℕ, ◌^◌, ◌<◌, ◌++◌, List, [], ◌∷◌, Bool, Some, refl, ap, ◌∙◌, subst, sym}
+use Rattle.std.specs.Prelude.{◌≢◌, All, Ok}
 use Rattle.std.proofs.lemmas.List.Elements.{All-nil, All-cons, All-map, All-append}
 use Rattle.zerotrie_core.specs.Kind.{Kind}
 use Rattle.zerotrie_core.specs.Maps.{Map, Pairs, with_front, beginning}
@@ -13,11 +13,14 @@ use Rattle.zerotrie_core.specs.Kinds.{kind_of}
 use Rattle.zerotrie_queries.specs.Printed.{pair_lines}
 use Rattle.zerotrie_queries.specs.declared.print.Style.TheVariants as style
 use Rattle.zerotrie_core.specs.declared.TrieKind.{TrieKind}
-use Rattle.zerotrie_making.specs.Plans.{IsFormOf}
+use Rattle.zerotrie_core.specs.Routes.{IsBuild}
+use Rattle.zerotrie_making.specs.Plans.{content_of, route_of, IsFormOf}
 use Rattle.zerotrie_making.specs.Sources.{IsPairs}
 use Rattle.zerotrie_making.specs.Kept.{kept}
-use Rattle.zerotrie_making.specs.Made.{IsFileOf}
+use Rattle.zerotrie_making.specs.Made.{IsBuiltAs, IsFileOf}
 use Rattle.zerotrie_making.specs.Laws.{ListedIsMadeAgain}
+use Rattle.zerotrie_making.specs.declared.making.FileForm.{FileForm}
+use Rattle.zerotrie_making.specs.declared.making.FileForm.TheVariants as form
 use Rattle.zerotrie_making.specs.declared.making.Plan.{Plan}
 use Rattle.zerotrie_making.specs.declared.making.Source.TheVariants.{Text}
 
@@ -38,12 +41,20 @@ mutual
   each_below (edge {e = e} {pairs = pairs} {more = more} n text each) =
       All-append Small (with_front e pairs) more (All-map Small (λ p. (e ∷ p.0, p.1)) pairs (values_below text)) (each_below each)
 
+-- what is built for a file that has no index is a trie
+trie_built : (of : FileForm) (kind : Kind) (sorted : Bool) (pairs : Pairs) (bytes : List ℕ) → of ≢ form.Index → IsBuiltAs (content_of of kind) sorted pairs bytes
+    → IsBuild (route_of sorted) kind (λ b. b) pairs (Ok bytes)
+trie_built form.Sealed kind sorted pairs bytes of built = built
+trie_built form.Tagged kind sorted pairs bytes of built = built
+trie_built form.Bare kind sorted pairs bytes of built = built
+trie_built form.Index kind sorted pairs bytes of built = absurd (of refl)
+
 -- the file of pairs that a trie lists
 of_listed : (kind : TrieKind) (bytes file : List ℕ) (m : Map) (plan : Plan) (means : Means (kind_of kind) bytes m)
-    → plan.kind ≡ Some kind → IsFileOf plan means.pairs file → (again : List ℕ) × IsFormOf plan.form (kind_of kind) again file × Means (kind_of kind) again m
-of_listed kind bytes file m plan means named made =
+    → plan.form ≢ form.Index → plan.kind ≡ Some kind → IsFileOf plan means.pairs file → (again : List ℕ) × IsFormOf plan.form (kind_of kind) again file × Means (kind_of kind) again m
+of_listed kind bytes file m plan means trie named made =
     let f = rw named at made.is in
-    let b = rw named at made.build in
+    let b = trie_built plan.form (kind_of kind) plan.sorted means.pairs made.bytes trie (rw named at made.build) in
     (made.bytes, f, subst (Means (kind_of kind) made.bytes) (sym means.is) b.1.means)
 
 -- with the empty prefix all pairs are listed
@@ -57,9 +68,9 @@ same_lines [] = refl
 same_lines (e ∷ pairs) = ap (λ t. tsv_line e ++ t) (same_lines pairs)
 
 pub made_again : LinesReadBack → OneReading → ListedIsMadeAgain
-made_again back one kind bytes file m plan means end tsv named cased all made =
+made_again back one kind bytes file m plan means end tsv trie named cased all made =
     let lines : pair_lines style.Tsv (beginning (kind_of kind) [] means.pairs) ≡ tsv_lines means.pairs = ap (pair_lines style.Tsv) (all_begin (kind_of kind) means.pairs) ∙ same_lines means.pairs in
     let read : IsPairs (Text Tsv end) (tsv_lines means.pairs) made.0 = subst (λ t. IsPairs (Text Tsv end) t made.0) lines (subst (λ s. IsPairs s (pair_lines style.Tsv (beginning (kind_of kind) [] means.pairs)) made.0) tsv made.1) in
     let same = one Tsv end (tsv_lines means.pairs) means.pairs made.0 (back end means.pairs (values_below means.lists)) read in
     let plain : kept plan.duplicates (lowered plan.lower_case made.0) ≡ made.0 = rw (cased, all) refl in
-    of_listed kind bytes file m plan means named (subst (λ pairs. IsFileOf plan pairs file) (plain ∙ same) made.2)
+    of_listed kind bytes file m plan means trie named (subst (λ pairs. IsFileOf plan pairs file) (plain ∙ same) made.2)

@@ -8,12 +8,13 @@ use Rattle.zerotrie_lines.specs.declared.reading.LineEnd.{LineEnd}
 use Rattle.zerotrie_making.specs.Sources.{IsPairs, NoPairs}
 use Rattle.zerotrie_making.specs.Made.{OfInput, Explains, ExplainsKept}
 use Rattle.zerotrie_core.specs.declared.ZeroTrieBuildError.{ZeroTrieBuildError}
+use Rattle.zerotrie_index.specs.declared.error.ZeroIndexBuildError.{ZeroIndexBuildError}
 use Rattle.zerotrie_making.specs.declared.making.Plan.{Plan}
 use Rattle.zerotrie_making.specs.declared.making.Source.{Source}
 use Rattle.zerotrie_making.specs.declared.making.Source.TheVariants.{Text, Json}
 use Rattle.zerotrie_making.specs.declared.refused.Shown.{Shown}
 use Rattle.zerotrie_making.specs.declared.refused.MakeError.{MakeError}
-use Rattle.zerotrie_making.specs.declared.refused.MakeError.TheVariants.{Line, NotJson, NotPairs, NotPair, Keys, Refused, OutOfMemory}
+use Rattle.zerotrie_making.specs.declared.refused.MakeError.TheVariants.{Line, NotJson, NotPairs, NotPair, Keys, Refused, IndexRefused, OutOfMemory}
 
 pub of_table : (plan : Plan) (input : List ℕ) (table : Pairs) (Fact : Pairs → Type 0) → (pairs : Pairs) × IsPairs plan.source input pairs × (table ≡ lowered plan.lower_case pairs)
     → Fact table → OfInput plan input Fact
@@ -27,6 +28,7 @@ explains_of plan input table NotPairs h fact = absurd fact
 explains_of plan input table (NotPair bad) h fact = absurd fact
 explains_of plan input table (Keys s) h fact = of_table plan input table (λ pairs. ExplainsKept plan pairs (Keys s)) h fact
 explains_of plan input table (Refused e) h fact = of_table plan input table (λ pairs. ExplainsKept plan pairs (Refused e)) h fact
+explains_of plan input table (IndexRefused e) h fact = of_table plan input table (λ pairs. ExplainsKept plan pairs (IndexRefused e)) h fact
 explains_of plan input table OutOfMemory h fact = tt
 
 -- an input that is no pairs shows no keys
@@ -38,6 +40,10 @@ no_refusal : (source : Source) (input : List ℕ) (e : ZeroTrieBuildError) → N
 no_refusal (Text format end) input e h = h
 no_refusal Json input e h = h
 
+no_index_refusal : (source : Source) (input : List ℕ) (e : ZeroIndexBuildError) → NoPairs source input (IndexRefused e) → ⊥
+no_index_refusal (Text format end) input e h = h
+no_index_refusal Json input e h = h
+
 -- an input that is no pairs makes no file
 pub no_pairs : (plan : Plan) (input : List ℕ) (e : MakeError) → NoPairs plan.source input e → Explains plan input e
 no_pairs plan input (Line number bad) h = h
@@ -46,6 +52,7 @@ no_pairs plan input NotPairs h = h
 no_pairs plan input (NotPair bad) h = h
 no_pairs plan input (Keys s) h = absurd (no_keys plan.source input s h)
 no_pairs plan input (Refused e) h = absurd (no_refusal plan.source input e h)
+no_pairs plan input (IndexRefused e) h = absurd (no_index_refusal plan.source input e h)
 no_pairs plan input OutOfMemory h = tt
 
 -- pairs of a text whose keys are as they are

@@ -1,9 +1,9 @@
 -- A build that has a cause of an error returns no bytes.
-use Rattle.std.proofs.Common.{◌≡◌, ℕ, zero, suc, ◌<◌, ◌≤◌, List, [], ◌∷◌, length, get_or, Some, refl, sym, ◌∙◌, ap, subst, arith, inl, inr}
+use Rattle.std.proofs.Common.{◌≡◌, ℕ, zero, suc, ◌<◌, ◌≤◌, List, [], ◌∷◌, length, get_or, Bool, true, false, Some, refl, sym, ◌∙◌, ap, subst, arith, inl, inr}
 use Rattle.std.specs.Prelude.{◌≢◌, ◌==◌, All, Any}
 use Rattle.std.specs.FinMap.{entries}
 use Rattle.std.proofs.lemmas.Bool.{cases_Bool}
-use Rattle.zerotrie_core.specs.Kind.{Kind, simple_ascii, same_byte, edge_limit}
+use Rattle.zerotrie_core.specs.Kind.{Kind, simple_ascii, perfect_hash, same_byte, edge_limit}
 use Rattle.zerotrie_core.specs.Maps.{Pairs, map_of, value_at, same_key, common_front, IsCaseConsistent, RepeatsKey}
 use Rattle.zerotrie_core.specs.Fits.{Fits, ExceedsCapacity}
 use Rattle.zerotrie_core.specs.Built.{IsBuilt}
@@ -12,19 +12,23 @@ use Rattle.zerotrie_core.specs.declared.ZeroTrieBuildError.{ZeroTrieBuildError}
 use Rattle.zerotrie_core.specs.declared.ZeroTrieBuildError.TheVariants.{NonAsciiError, CapacityExceeded, CouldNotSolvePerfectHash, MixedCase, IllegalDelimiter, DuplicateKey, Unsorted, BufferTooSmall, BufferTooLarge, StackExceeded, OutOfMemory as NoMemory}
 use Rattle.zerotrie_core.proofs.CallerLemmas.{same-entries, exact_same, first_found, ascends_apart}
 use Rattle.zerotrie_build.specs.Refused.{AreShown}
+use Rattle.zerotrie_build.specs.declared.refusal.Refusal.{Refusal}
+use Rattle.zerotrie_index.specs.Built.{IsIndexOf, IndexCause, IndexExcludesCauses}
+use Rattle.zerotrie_index.specs.declared.error.ZeroIndexBuildError.{ZeroIndexBuildError}
+use Rattle.zerotrie_index.specs.declared.error.ZeroIndexBuildError.TheVariants as index_error
 use Rattle.zerotrie_lines.specs.Laws.{OneReading, BadIsUnread}
 use Rattle.zerotrie_lines.specs.Tables.{lowered}
-use Rattle.zerotrie_making.specs.Plans.{route_of, kind_for}
+use Rattle.zerotrie_making.specs.Plans.{Content, a_trie, an_index, content_of, route_of, kind_for}
 use Rattle.zerotrie_making.specs.Kept.{kept}
 use Rattle.zerotrie_making.specs.Sources.{IsPairs}
 use Rattle.zerotrie_making.specs.Json.{pairs_in}
-use Rattle.zerotrie_making.specs.Made.{OfInput, ExplainsKept, IsFile, IsFileOfKept}
+use Rattle.zerotrie_making.specs.Made.{OfInput, AreAtFault, ExplainsKept, IsBuiltAs, IsFile, IsFileOfKept, IsIndexRefusedBy, IsTrieRefusedBy}
 use Rattle.zerotrie_making.specs.Laws.{RefusedMakesNoFile}
 use Rattle.zerotrie_making.specs.declared.making.Plan.{Plan}
 use Rattle.zerotrie_making.specs.declared.making.Source.{Source}
 use Rattle.zerotrie_making.specs.declared.making.Source.TheVariants.{Text, Json}
 use Rattle.zerotrie_making.specs.declared.refused.MakeError.{MakeError}
-use Rattle.zerotrie_making.specs.declared.refused.MakeError.TheVariants.{Line, NotJson, NotPairs, NotPair, Keys, Refused, OutOfMemory}
+use Rattle.zerotrie_making.specs.declared.refused.MakeError.TheVariants.{Line, NotJson, NotPairs, NotPair, Keys, Refused, IndexRefused, OutOfMemory}
 use Rattle.zerotrie_making.proofs.UnreadLemmas.{some_is, no_file}
 
 -- a value is found at the key of each pair
@@ -99,6 +103,46 @@ no_cause route kind pairs bytes NoMemory takes built cause other = cause.1
 none_searched : (kind : Kind) (pairs : Pairs) (e : ZeroTrieBuildError) (first second : ℕ) → AreShown kind pairs e first second → e ≢ CouldNotSolvePerfectHash
 none_searched kind pairs e first second shown is = subst (λ x. AreShown kind pairs x first second) is shown
 
+-- what was built is an index of the pairs
+is_index : (sorted : Bool) (pairs : Pairs) (bytes : List ℕ) → IsBuiltAs an_index sorted pairs bytes → IsIndexOf pairs bytes
+is_index true pairs bytes built = built.1
+is_index false pairs bytes built = built
+
+-- keys of an index are not at fault
+no_fault : IndexExcludesCauses → (sorted : Bool) (pairs : Pairs) (bytes : List ℕ) (r : Refusal) → IsBuiltAs an_index sorted pairs bytes → AreAtFault an_index sorted pairs r → ⊥
+no_fault excludes true pairs bytes r built fault = (subst (λ e. HasCause ascending perfect_hash pairs e) fault.0 fault.1.1).1 built.0
+no_fault excludes false pairs bytes r built fault = (excludes pairs bytes built).0 ((subst (λ e. HasCause any_order perfect_hash pairs e) fault.0 fault.1.1).1)
+
+-- nor do the pairs of an index have another cause but that they crowd
+no_index_cause : IndexExcludesCauses → (pairs : Pairs) (bytes : List ℕ) (e : ZeroIndexBuildError) → IsIndexOf pairs bytes → e ≢ index_error.OutOfMemory → e ≢ index_error.Crowded → IndexCause 0 pairs e → ⊥
+no_index_cause excludes pairs bytes index_error.Unsorted is some other cause = cause
+no_index_cause excludes pairs bytes index_error.DuplicateKey is some other cause = (excludes pairs bytes is).0 cause
+no_index_cause excludes pairs bytes index_error.Crowded is some other cause = other refl
+no_index_cause excludes pairs bytes index_error.CapacityExceeded is some other cause = let short = (excludes pairs bytes is).1 in omega (arith, short, cause)
+no_index_cause excludes pairs bytes index_error.OutOfMemory is some other cause = some refl
+
+-- the keys of what was built are not at fault
+keys_never : IndexExcludesCauses → (content : Content) (sorted : Bool) (pairs : Pairs) (bytes : List ℕ) (r : Refusal) → IsBuiltAs content sorted pairs bytes → AreAtFault content sorted pairs r → ⊥
+keys_never excludes (a_trie kind) sorted pairs bytes r built why =
+    no_cause (route_of sorted) kind pairs bytes r.error built.0 built.1 why.1 (none_searched kind pairs r.error r.first r.second why.0)
+keys_never excludes an_index sorted pairs bytes r built why = no_fault excludes sorted pairs bytes r built why
+
+-- no trie was built for which another cause holds
+trie_never : (content : Content) (sorted : Bool) (pairs : Pairs) (bytes : List ℕ) (e : ZeroTrieBuildError) → IsBuiltAs content sorted pairs bytes → IsTrieRefusedBy content sorted pairs e
+    → e ≢ CouldNotSolvePerfectHash → ⊥
+trie_never (a_trie kind) sorted pairs bytes e built why other = no_cause (route_of sorted) kind pairs bytes e built.0 built.1 why.0 other
+trie_never an_index sorted pairs bytes e built why other = why
+
+-- and no index
+index_never : IndexExcludesCauses → (content : Content) (sorted : Bool) (pairs : Pairs) (bytes : List ℕ) (e : ZeroIndexBuildError) → IsBuiltAs content sorted pairs bytes → IsIndexRefusedBy content sorted pairs e
+    → e ≢ index_error.Crowded → ⊥
+index_never excludes (a_trie kind) sorted pairs bytes e built why other = why
+index_never excludes an_index true pairs bytes e built why other = elim why.1 [
+  | inl unsorted ↦ unsorted.1 built.0
+  | inr cause ↦ no_index_cause excludes pairs bytes e built.1 why.0 other cause.2
+]
+index_never excludes an_index false pairs bytes e built why other = no_index_cause excludes pairs bytes e built why.0 other why.1
+
 -- an input is one list of pairs at most
 one_list : OneReading → (source : Source) (input : List ℕ) (pairs others : Pairs) → IsPairs source input pairs → IsPairs source input others → others ≡ pairs
 one_list one (Text format end) input pairs others h k = one format end input pairs others h k
@@ -112,20 +156,21 @@ of_one : OneReading → (plan : Plan) (input file : List ℕ) (e : MakeError) �
 of_one one plan input file e h made =
     (_, h.2, subst (λ ps. IsFileOfKept plan (lowered plan.lower_case ps) file) (one_list one plan.source input h.0 made.0 h.1 made.1) made.2)
 
-pub refused : OneReading → BadIsUnread → RefusedMakesNoFile
-refused one bad plan input file (Line number fault) h some other made = no_file bad plan.source input (Line number fault) made.0 h some made.1
-refused one bad plan input file (NotJson line column) h some other made = no_file bad plan.source input (NotJson line column) made.0 h some made.1
-refused one bad plan input file NotPairs h some other made = no_file bad plan.source input NotPairs made.0 h some made.1
-refused one bad plan input file (NotPair why) h some other made = no_file bad plan.source input (NotPair why) made.0 h some made.1
-refused one bad plan input file (Keys s) h some other made =
+pub refused : OneReading → BadIsUnread → IndexExcludesCauses → RefusedMakesNoFile
+refused one bad excludes plan input file (Line number fault) h some other crowd made = no_file bad plan.source input (Line number fault) made.0 h some made.1
+refused one bad excludes plan input file (NotJson line column) h some other crowd made = no_file bad plan.source input (NotJson line column) made.0 h some made.1
+refused one bad excludes plan input file NotPairs h some other crowd made = no_file bad plan.source input NotPairs made.0 h some made.1
+refused one bad excludes plan input file (NotPair why) h some other crowd made = no_file bad plan.source input (NotPair why) made.0 h some made.1
+refused one bad excludes plan input file (Keys s) h some other crowd made =
     let o = of_one one plan input file (Keys s) h made in
     let ps = kept plan.duplicates o.0 in
-    let kind = kind_for plan.kind ps in
-    let r = o.1.0 in
-    let why = o.1.1 in
-    no_cause (route_of plan.sorted) kind ps o.2.bytes r.error o.2.build.0 o.2.build.1 why.1 (none_searched kind ps r.error r.first r.second why.0)
-refused one bad plan input file (Refused e) h some other made =
+    keys_never excludes (content_of plan.form (kind_for plan.kind ps)) plan.sorted ps o.2.bytes o.1.0 o.2.build o.1.1
+refused one bad excludes plan input file (Refused e) h some other crowd made =
     let o = of_one one plan input file (Refused e) h made in
     let ps = kept plan.duplicates o.0 in
-    no_cause (route_of plan.sorted) (kind_for plan.kind ps) ps o.2.bytes e o.2.build.0 o.2.build.1 o.1.0 (λ is. other (ap Refused is))
-refused one bad plan input file OutOfMemory h some other made = some refl
+    trie_never (content_of plan.form (kind_for plan.kind ps)) plan.sorted ps o.2.bytes e o.2.build o.1 (λ is. other (ap Refused is))
+refused one bad excludes plan input file (IndexRefused e) h some other crowd made =
+    let o = of_one one plan input file (IndexRefused e) h made in
+    let ps = kept plan.duplicates o.0 in
+    index_never excludes (content_of plan.form (kind_for plan.kind ps)) plan.sorted ps o.2.bytes e o.2.build o.1 (λ is. crowd (ap IndexRefused is))
+refused one bad excludes plan input file OutOfMemory h some other crowd made = some refl

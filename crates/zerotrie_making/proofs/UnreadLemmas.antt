@@ -8,7 +8,7 @@ use Rattle.zerotrie_making.specs.Sources.{IsJson, IsPairs, NoPairs}
 use Rattle.zerotrie_making.specs.declared.making.Source.{Source}
 use Rattle.zerotrie_making.specs.declared.making.Source.TheVariants.{Text, Json}
 use Rattle.zerotrie_making.specs.declared.refused.MakeError.{MakeError}
-use Rattle.zerotrie_making.specs.declared.refused.MakeError.TheVariants.{Line, NotJson, NotPairs, NotPair, Keys, Refused, OutOfMemory}
+use Rattle.zerotrie_making.specs.declared.refused.MakeError.TheVariants.{Line, NotJson, NotPairs, NotPair, Keys, Refused, IndexRefused, OutOfMemory}
 
 pub some_is : {A : Type 0} (a b : A) → Some a ≡ Some b → a ≡ b
 some_is {A} a b e = ap (inside a) e
@@ -29,6 +29,7 @@ no_file bad (Text format end) input NotPairs pairs h some p = h
 no_file bad (Text format end) input (NotPair why) pairs h some p = h
 no_file bad (Text format end) input (Keys s) pairs h some p = h
 no_file bad (Text format end) input (Refused e) pairs h some p = h
+no_file bad (Text format end) input (IndexRefused e) pairs h some p = h
 no_file bad (Text format end) input OutOfMemory pairs h some p = some refl
 no_file bad Json input (Line number fault) pairs h some p = h
 no_file bad Json input (NotJson line column) pairs h some p = absurd (cc (sym (h p.1.0) ∙ p.1.1))
@@ -36,4 +37,5 @@ no_file bad Json input NotPairs pairs h some p = no_value input h.0 p.0 pairs h.
 no_file bad Json input (NotPair why) pairs h some p = no_value input h.0 p.0 pairs h.1 p.1 h.2 p.2
 no_file bad Json input (Keys s) pairs h some p = h
 no_file bad Json input (Refused e) pairs h some p = h
+no_file bad Json input (IndexRefused e) pairs h some p = h
 no_file bad Json input OutOfMemory pairs h some p = some refl

@@ -24,7 +24,7 @@ plan_of kind form = record { source = Json; kind = kind; sorted = false; lower_c
 abbrev pub OfBoth : Operation → Map → Map → (Pairs → Type 0) → Type 0
 OfBoth operation first second Fact = (pairs : Pairs) × IsCombined operation (entries first) (entries second) pairs × Fact pairs
 
--- the file is that of a trie of a combination of two maps
+-- the file is that of a combination of two maps
 abbrev pub IsFileOfBoth : Operation → Option TrieKind → FileForm → Map → Map → List ℕ → Type 0
 IsFileOfBoth operation kind form first second file = OfBoth operation first second (λ pairs. IsFileOf (plan_of kind form) pairs file)
 

@@ -10,27 +10,30 @@ use Rattle.zerotrie_queries.specs.declared.print.Form.TheVariants.{Lines}
 use Rattle.zerotrie_queries.specs.declared.print.Style.TheVariants as style
 use Rattle.zerotrie_core.specs.declared.TrieKind.{TrieKind}
 use Rattle.zerotrie_core.specs.declared.ZeroTrieBuildError.TheVariants.{CouldNotSolvePerfectHash}
+use Rattle.zerotrie_index.specs.declared.error.ZeroIndexBuildError.TheVariants.{Crowded}
 use Rattle.zerotrie_making.specs.Plans.{IsFormOf}
 use Rattle.zerotrie_making.specs.Made.{IsFile, Explains}
 use Rattle.zerotrie_making.specs.Sources.{NoPairs}
 use Rattle.zerotrie_making.specs.declared.refused.MakeError.{MakeError}
-use Rattle.zerotrie_making.specs.declared.refused.MakeError.TheVariants.{Refused, OutOfMemory}
+use Rattle.zerotrie_making.specs.declared.refused.MakeError.TheVariants.{Refused, IndexRefused, OutOfMemory}
+use Rattle.zerotrie_making.specs.declared.making.FileForm.TheVariants.{Index}
 use Rattle.zerotrie_making.specs.declared.making.Plan.{Plan}
 use Rattle.zerotrie_making.specs.declared.duplicates.Duplicates.TheVariants.{Refuse}
 use Rattle.zerotrie_making.specs.declared.making.Source.TheVariants.{Text}
 
--- a file of this kind that is made of the lines in which all pairs of a trie are listed has bytes that mean the map of that trie
+-- a trie file of this kind that is made of the lines in which all pairs of a trie are listed has bytes that mean the map of that trie
 abbrev pub ListedIsMadeAgain : Type 0
 ListedIsMadeAgain = (kind : TrieKind) (bytes file : List ℕ) (m : Map) (plan : Plan) (means : Means (kind_of kind) bytes m)
-    → (end : LineEnd) → plan.source ≡ Text Tsv end → plan.kind ≡ Some kind → plan.lower_case ≡ false → plan.duplicates ≡ Refuse → IsFile plan (listed (Lines style.Tsv) (beginning (kind_of kind) [] means.pairs)) file
+    → (end : LineEnd) → plan.source ≡ Text Tsv end → plan.form ≢ Index → plan.kind ≡ Some kind → plan.lower_case ≡ false → plan.duplicates ≡ Refuse → IsFile plan (listed (Lines style.Tsv) (beginning (kind_of kind) [] means.pairs)) file
     → (again : List ℕ) × IsFormOf plan.form (kind_of kind) again file × Means (kind_of kind) again m
 
 -- an input that is no pairs makes no file
 abbrev pub UnreadMakesNoFile : Type 0
 UnreadMakesNoFile = (plan : Plan) (input file : List ℕ) (e : MakeError) → NoPairs plan.source input e → e ≢ OutOfMemory → IsFile plan input file → ⊥
 
--- An input for which an error has a reason makes no file. Two errors are left out: an allocation may fail at any time, and that a
--- table has to be searched, which is all that is said of CouldNotSolvePerfectHash, does not exclude that the search finds one.
+-- An input for which an error has a reason makes no file. Three errors are left out: an allocation may fail at any time; that a
+-- table has to be searched, which is all that is said of CouldNotSolvePerfectHash, does not exclude that the search finds one; and
+-- pairs that crowd under the seeds of a build have an index under another.
 abbrev pub RefusedMakesNoFile : Type 0
-RefusedMakesNoFile = (plan : Plan) (input file : List ℕ) (e : MakeError) → Explains plan input e → e ≢ OutOfMemory → e ≢ Refused CouldNotSolvePerfectHash
+RefusedMakesNoFile = (plan : Plan) (input file : List ℕ) (e : MakeError) → Explains plan input e → e ≢ OutOfMemory → e ≢ Refused CouldNotSolvePerfectHash → e ≢ IndexRefused Crowded
     → IsFile plan input file → ⊥

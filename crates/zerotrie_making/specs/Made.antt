@@ -1,37 +1,52 @@
 -- Which file a plan makes of an input, and why it makes none.
-use Rattle.std.specs.Prelude.{◌≡◌, ℕ, List, Ok, Some}
-use Rattle.zerotrie_core.specs.Kind.{Kind}
+use Rattle.std.specs.Prelude.{◌≡◌, ◌≢◌, ℕ, List, Bool, true, false, Result, Ok, Err, Some}
+use Rattle.zerotrie_core.specs.Kind.{perfect_hash}
 use Rattle.zerotrie_core.specs.Maps.{Pairs}
-use Rattle.zerotrie_core.specs.Routes.{Route, HasCause, IsBuild}
+use Rattle.zerotrie_core.specs.Routes.{Takes, HasCause, IsBuild}
+use Rattle.zerotrie_core.specs.declared.ZeroTrieBuildError.{ZeroTrieBuildError}
+use Rattle.zerotrie_core.specs.declared.ZeroTrieBuildError.TheVariants as cause
 use Rattle.zerotrie_build.specs.Refused.{key_at, AreFaultless, IsWhyRefused}
 use Rattle.zerotrie_build.specs.declared.refusal.Refusal.{Refusal}
+use Rattle.zerotrie_index.specs.Built.{IsIndexBuild, IsSortedIndexBuild}
+use Rattle.zerotrie_index.specs.declared.error.ZeroIndexBuildError.{ZeroIndexBuildError}
+use Rattle.zerotrie_index.specs.declared.error.ZeroIndexBuildError.TheVariants as unindexed
 use Rattle.zerotrie_lines.specs.Tables.{lowered}
 use Rattle.zerotrie_lines.specs.declared.fault.ReadError.{ReadError}
 use Rattle.zerotrie_lines.specs.declared.fault.ReadError.TheVariants as fault
 use Rattle.zerotrie_making.specs.Sources.{IsPairs, NoPairs}
-use Rattle.zerotrie_making.specs.Plans.{route_of, kind_for, IsFormOf}
+use Rattle.zerotrie_making.specs.Plans.{Content, a_trie, an_index, content_of, route_of, kind_for, IsFormOf}
 use Rattle.zerotrie_making.specs.Kept.{kept, number_at}
 use Rattle.zerotrie_making.specs.declared.making.Plan.{Plan}
 use Rattle.zerotrie_making.specs.declared.refused.NumberedKey.{NumberedKey}
 use Rattle.zerotrie_making.specs.declared.refused.Shown.{Shown}
 use Rattle.zerotrie_making.specs.declared.refused.MakeError.{MakeError}
-use Rattle.zerotrie_making.specs.declared.refused.MakeError.TheVariants.{Line, NotJson, NotPairs, NotPair, Keys, Refused, OutOfMemory}
+use Rattle.zerotrie_making.specs.declared.refused.MakeError.TheVariants.{Line, NotJson, NotPairs, NotPair, Keys, Refused, IndexRefused, OutOfMemory}
 
 -- the input is pairs, and the fact holds of them, with their keys in lower case if the plan says so
 abbrev pub OfInput : Plan → List ℕ → (Pairs → Type 0) → Type 0
 OfInput plan input Fact = (pairs : Pairs) × IsPairs plan.source input pairs × Fact (lowered plan.lower_case pairs)
 
--- The file is that of a trie which a build of the pairs returns.
+-- the result of a build of an index of the pairs, whose keys are to ascend or may have any order
+abbrev pub IsIndexed : {B : Type 0} → Bool → (B → List ℕ) → Pairs → Result B ZeroIndexBuildError → Type 0
+IsIndexed true bytes pairs result = IsSortedIndexBuild 0 bytes pairs result
+IsIndexed false bytes pairs result = IsIndexBuild 0 bytes pairs result
+
+-- the bytes are the trie or the index that a build of the pairs returns
+abbrev pub IsBuiltAs : Content → Bool → Pairs → List ℕ → Type 0
+IsBuiltAs (a_trie kind) sorted pairs bytes = IsBuild (route_of sorted) kind (λ b. b) pairs (Ok bytes)
+IsBuiltAs an_index sorted pairs bytes = IsIndexed sorted (λ b. b) pairs (Ok bytes)
+
+-- The file is that of a trie or an index which a build of the pairs returns.
 pub record IsFileOf (plan : Plan) (pairs : Pairs) (file : List ℕ) : Type 0 where
   pub bytes : List ℕ
-  pub build : IsBuild (route_of plan.sorted) (kind_for plan.kind pairs) (λ b. b) pairs (Ok bytes)
+  pub build : IsBuiltAs (content_of plan.form (kind_for plan.kind pairs)) plan.sorted pairs bytes
   pub is : IsFormOf plan.form (kind_for plan.kind pairs) bytes file
 
--- the file is that of a trie of those of the pairs that are kept
+-- the file is that of those of the pairs that are kept
 abbrev pub IsFileOfKept : Plan → Pairs → List ℕ → Type 0
 IsFileOfKept plan pairs file = IsFileOf plan (kept plan.duplicates pairs) file
 
--- the file is that of a trie of the pairs that the input is, as far as they are kept
+-- the file is that of the pairs that the input is, as far as they are kept
 abbrev pub IsFile : Plan → List ℕ → List ℕ → Type 0
 IsFile plan input file = OfInput plan input (λ pairs. IsFileOfKept plan pairs file)
 
@@ -43,20 +58,40 @@ IsKeyAt number pairs index k = (k.number ≡ number index) × (k.key.items ≡ k
 abbrev pub Shows : (ℕ → ℕ) → Pairs → Refusal → Shown → Type 0
 Shows number pairs r s = (s.error ≡ r.error) × IsKeyAt number pairs r.first s.first × IsKeyAt number pairs r.second s.second
 
--- Why a build of the pairs by the route is refused: keys that show an error, a cause of the route though no keys show
--- one, or an allocation failed.
-abbrev pub IsRefusedAs : Route → Kind → (ℕ → ℕ) → Pairs → MakeError → Type 0
-IsRefusedAs route kind number pairs (Line m bad) = ⊥
-IsRefusedAs route kind number pairs (NotJson line column) = ⊥
-IsRefusedAs route kind number pairs NotPairs = ⊥
-IsRefusedAs route kind number pairs (NotPair bad) = ⊥
-IsRefusedAs route kind number pairs (Keys s) = (r : Refusal) × IsWhyRefused route kind pairs (Some r) × Shows number pairs r s
-IsRefusedAs route kind number pairs (Refused e) = HasCause route kind pairs e × AreFaultless route kind pairs
-IsRefusedAs route kind number pairs OutOfMemory = Unit {0}
+-- the error of an index that keys show: they don't ascend as they are to, or one comes twice
+abbrev pub fault_of : Bool → ZeroTrieBuildError
+fault_of true = cause.Unsorted
+fault_of false = cause.DuplicateKey
+
+-- keys show why a build of the pairs is refused; of an index as they do of a trie that takes any bytes
+abbrev pub AreAtFault : Content → Bool → Pairs → Refusal → Type 0
+AreAtFault (a_trie kind) sorted pairs r = IsWhyRefused (route_of sorted) kind pairs (Some r)
+AreAtFault an_index sorted pairs r = (r.error ≡ fault_of sorted) × IsWhyRefused (route_of sorted) perfect_hash pairs (Some r)
+
+-- the build of a trie is refused by a cause though no keys show one
+abbrev pub IsTrieRefusedBy : Content → Bool → Pairs → ZeroTrieBuildError → Type 0
+IsTrieRefusedBy (a_trie kind) sorted pairs e = HasCause (route_of sorted) kind pairs e × AreFaultless (route_of sorted) kind pairs
+IsTrieRefusedBy an_index sorted pairs e = ⊥
+
+-- the build of an index is
+abbrev pub IsIndexRefusedBy : Content → Bool → Pairs → ZeroIndexBuildError → Type 0
+IsIndexRefusedBy (a_trie kind) sorted pairs e = ⊥
+IsIndexRefusedBy an_index sorted pairs e = (e ≢ unindexed.OutOfMemory) × IsIndexed {B = List ℕ} sorted (λ b. b) pairs (Err e) × Takes (route_of sorted) pairs
+
+-- Why a build of the pairs is refused: keys that show an error, a cause though no keys show one, or an allocation failed.
+abbrev pub IsRefusedAs : Content → Bool → (ℕ → ℕ) → Pairs → MakeError → Type 0
+IsRefusedAs content sorted number pairs (Line m bad) = ⊥
+IsRefusedAs content sorted number pairs (NotJson line column) = ⊥
+IsRefusedAs content sorted number pairs NotPairs = ⊥
+IsRefusedAs content sorted number pairs (NotPair bad) = ⊥
+IsRefusedAs content sorted number pairs (Keys s) = (r : Refusal) × AreAtFault content sorted pairs r × Shows number pairs r s
+IsRefusedAs content sorted number pairs (Refused e) = IsTrieRefusedBy content sorted pairs e
+IsRefusedAs content sorted number pairs (IndexRefused e) = IsIndexRefusedBy content sorted pairs e
+IsRefusedAs content sorted number pairs OutOfMemory = Unit {0}
 
 -- why the plan makes no file of pairs that are kept, which have these numbers
 abbrev pub ExplainsOf : Plan → (ℕ → ℕ) → Pairs → MakeError → Type 0
-ExplainsOf plan number pairs e = IsRefusedAs (route_of plan.sorted) (kind_for plan.kind pairs) number pairs e
+ExplainsOf plan number pairs e = IsRefusedAs (content_of plan.form (kind_for plan.kind pairs)) plan.sorted number pairs e
 
 -- why the plan makes no file of those of the pairs that are kept
 abbrev pub ExplainsKept : Plan → Pairs → MakeError → Type 0
@@ -70,6 +105,7 @@ Explains plan input NotPairs = NoPairs plan.source input NotPairs
 Explains plan input (NotPair bad) = NoPairs plan.source input (NotPair bad)
 Explains plan input (Keys s) = OfInput plan input (λ pairs. ExplainsKept plan pairs (Keys s))
 Explains plan input (Refused e) = OfInput plan input (λ pairs. ExplainsKept plan pairs (Refused e))
+Explains plan input (IndexRefused e) = OfInput plan input (λ pairs. ExplainsKept plan pairs (IndexRefused e))
 Explains plan input OutOfMemory = Unit {0}
 
 -- the fault of an input as one of a plan

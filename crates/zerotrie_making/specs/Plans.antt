@@ -7,7 +7,7 @@ use Rattle.zerotrie_any.specs.Auto.{auto_kind}
 use Rattle.zerotrie_any.specs.Tagged.{tagged}
 use Rattle.zerotrie_core.specs.Kinds.{kind_of}
 use Rattle.zerotrie_core.specs.declared.TrieKind.{TrieKind}
-use Rattle.zerotrie_sealed.specs.Sealed.{IsSealed}
+use Rattle.zerotrie_sealed.specs.Sealed.{IsSealed, IsSealedIndex}
 use Rattle.zerotrie_making.specs.declared.making.FileForm.{FileForm}
 use Rattle.zerotrie_making.specs.declared.making.FileForm.TheVariants as form
 
@@ -21,8 +21,21 @@ abbrev pub kind_for : Option TrieKind → Pairs → Kind
 kind_for None pairs = auto_kind pairs
 kind_for (Some kind) pairs = kind_of kind
 
--- the file of a trie with these bytes: sealed, behind the number of the kind, or bare
+-- the file of a trie or an index with these bytes: sealed, behind the number of the kind, or bare
 abbrev pub IsFormOf : FileForm → Kind → List ℕ → List ℕ → Type 0
 IsFormOf form.Sealed kind bytes file = IsSealed kind bytes file
 IsFormOf form.Tagged kind bytes file = file ≡ tagged kind bytes
 IsFormOf form.Bare kind bytes file = file ≡ bytes
+IsFormOf form.Index kind bytes file = IsSealedIndex bytes file
+
+-- what is built of pairs
+pub data Content : Type 0 where
+  a_trie : Kind → Content
+  an_index : Content
+
+-- what a file of a form has: a trie of the kind, or an index
+abbrev pub content_of : FileForm → Kind → Content
+content_of form.Sealed kind = a_trie kind
+content_of form.Tagged kind = a_trie kind
+content_of form.Bare kind = a_trie kind
+content_of form.Index kind = an_index

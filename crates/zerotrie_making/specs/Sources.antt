@@ -14,7 +14,7 @@ use Rattle.zerotrie_making.specs.declared.making.Source.{Source}
 use Rattle.zerotrie_making.specs.declared.making.Source.TheVariants.{Text, Json}
 use Rattle.zerotrie_making.specs.declared.refused.NoPair.{NoPair}
 use Rattle.zerotrie_making.specs.declared.refused.MakeError.{MakeError}
-use Rattle.zerotrie_making.specs.declared.refused.MakeError.TheVariants.{Line, NotJson, NotPairs, NotPair, Keys, Refused, OutOfMemory}
+use Rattle.zerotrie_making.specs.declared.refused.MakeError.TheVariants.{Line, NotJson, NotPairs, NotPair, Keys, Refused, IndexRefused, OutOfMemory}
 
 -- the input is the text of this JSON value, after the byte order mark that may be in front
 abbrev pub IsJson : List ℕ → Value → Type 0
@@ -28,6 +28,7 @@ NoValue text NotPairs = ⊥
 NoValue text (NotPair bad) = ⊥
 NoValue text (Keys s) = ⊥
 NoValue text (Refused e) = ⊥
+NoValue text (IndexRefused e) = ⊥
 NoValue text OutOfMemory = Unit {0}
 
 -- it says that an input is no JSON value
@@ -47,6 +48,7 @@ NoText format end input NotPairs = ⊥
 NoText format end input (NotPair bad) = ⊥
 NoText format end input (Keys s) = ⊥
 NoText format end input (Refused e) = ⊥
+NoText format end input (IndexRefused e) = ⊥
 NoText format end input OutOfMemory = Unit {0}
 
 -- the input is a JSON value in which there are no pairs, and this member or item of it is the first that is none, if it has any
@@ -62,6 +64,7 @@ NoJson input NotPairs = IsUnread input None
 NoJson input (NotPair bad) = IsUnread input (Some bad)
 NoJson input (Keys s) = ⊥
 NoJson input (Refused e) = ⊥
+NoJson input (IndexRefused e) = ⊥
 NoJson input OutOfMemory = Unit {0}
 
 -- why an input is no pairs

@@ -1,4 +1,4 @@
-//! Makes the file of a trie from the tries of two others.
+//! Makes the file of a trie or an index from the tries of two others.
 
 ghost use Rattle.std.specs.Prelude.{◌≡◌, IfOk, IfErr};
 ghost use Rattle.std.specs.FinMap.{entries};
@@ -93,8 +93,7 @@ fn combine(
     collect(alloc, Combined::new(first, second, operation))
 }
 
-/// Makes the file of a trie of the union, the intersection or a difference of two tries, of any
-/// kinds.
+/// Makes the file of the union, the intersection or a difference of two tries, of any kinds.
 ///
 /// ```
 /// // the keys "a" and "b", and the keys "b" and "c"
@@ -115,8 +114,9 @@ fn combine(
 /// whatever those of the two tries are. Keys are equal if their bytes are, also in a kind that
 /// ignores case.
 ///
-/// The error is `Keys` if keys show why a build of the pairs fails, `Refused` if it fails and none
-/// do, and `OutOfMemory`. The numbers of keys are those of their pairs in the order of bytes.
+/// The error is `Keys` if keys show why a build of the pairs fails, `Refused` or `IndexRefused` if it
+/// fails and none do, and `OutOfMemory`. The numbers of keys are those of their pairs in the order of
+/// bytes.
 pub fn make_combined(
     alloc: Global,
     operation: Operation,

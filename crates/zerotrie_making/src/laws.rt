@@ -4,9 +4,10 @@
 ghost use Rattle.zerotrie_making.specs.Json.{WholeIsNumber};
 ghost use Rattle.zerotrie_making.specs.Laws.{ListedIsMadeAgain, UnreadMakesNoFile, RefusedMakesNoFile};
 
+use zerotrie_index::laws::index_excludes_causes;
 use zerotrie_lines::laws::{bad_is_unread, lines_read_back, one_reading};
 
-/// The lines in which a trie is listed, made into a file of the same kind, mean the same map.
+/// The lines in which a trie is listed, made into a trie file of the same kind, mean the same map.
 pub fn listed_is_made_again()
     ensures { ListedIsMadeAgain }
 {
@@ -25,12 +26,14 @@ pub fn unread_makes_no_file()
 /// says of it, exclude each other.
 ///
 /// `CouldNotSolvePerfectHash` is left out: it says that the trie needs a table that has to be
-/// searched, and a search may find one. So is `OutOfMemory`, which says nothing of the input.
+/// searched, and a search may find one. So is `Crowded`, as under another seed the pairs have an
+/// index, and `OutOfMemory`, which says nothing of the input.
 pub fn refused_makes_no_file()
     ensures { RefusedMakesNoFile }
 {
     one_reading();
     bad_is_unread();
+    index_excludes_causes();
 }
 
 /// A number in JSON is a value exactly if it is one on a line.

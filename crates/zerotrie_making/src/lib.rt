@@ -1,4 +1,4 @@
-//! Makes the bytes of a trie file from the bytes of a file of pairs.
+//! Makes the bytes of the file of a trie or an index from the bytes of a file of pairs.
 #![tactic(auto)]
 
 mod combining;

@@ -1,22 +1,23 @@
-//! Makes the file of a trie from the bytes of an input.
+//! Makes the file of a trie or an index from the bytes of an input.
 
-ghost use Rattle.std.specs.Prelude.{◌≡◌, length, IfOk, IfErr, IfSome};
+ghost use Rattle.std.specs.Prelude.{◌≡◌, length, IfOk, IfErr, IfSome, Err};
 ghost use Rattle.zerotrie_any.specs.Tagged.{tagged};
 ghost use Rattle.zerotrie_core.specs.Kinds.{kind_of};
 ghost use Rattle.zerotrie_core.specs.Items.{pairs_of};
 ghost use Rattle.zerotrie_core.specs.Routes.{IsRefusal};
-ghost use Rattle.zerotrie_making.specs.Plans.{route_of, IsFormOf};
-ghost use Rattle.zerotrie_making.specs.Made.{IsFile, IsFileOf, IsFileOfKept, IsRefusedAs, Explains, ExplainsOf, ExplainsKept};
+ghost use Rattle.zerotrie_making.specs.Plans.{a_trie, an_index, content_of, route_of, IsFormOf};
+ghost use Rattle.zerotrie_making.specs.Made.{IsIndexed, IsBuiltAs, IsFile, IsFileOf, IsFileOfKept, IsRefusedAs, Explains, ExplainsOf, ExplainsKept};
 ghost use Rattle.zerotrie_making.specs.Kept.{number_in, number_of};
 
 use crate::duplicates::{Duplicates, Kept, firsts, lasts};
 use crate::reading::{items_in, read_input};
 use crate::refused::{MakeError, show};
-use crate::tries::{bytes_of, kind_for, why_refused};
+use crate::tries::{bytes_of, index_bytes_of, kind_for, why_refused, why_unindexed};
 use std::alloc::{AllocError, Global};
 use zerotrie_core::{TrieKind, ZeroTrieBuildError};
+use zerotrie_index::ZeroIndexBuildError;
 use zerotrie_lines::{Format, LineEnd};
-use zerotrie_sealed::seal;
+use zerotrie_sealed::{seal, seal_index};
 
 /// How an input is pairs.
 #[derive(Clone, Copy, PartialEq, Eq, Debug)]
@@ -29,24 +30,26 @@ pub enum Source {
     Json,
 }
 
-/// What a file has beside the bytes of its trie.
+/// What a file has: a trie, with what is beside its bytes, or an index.
 #[derive(Clone, Copy, PartialEq, Eq, Debug)]
 pub enum FileForm {
-    /// A header in front, with the kind, the length and a checksum.
+    /// A trie with a header in front, which has the kind, the length and a checksum.
     Sealed,
-    /// The number of the kind in front.
+    /// A trie with the number of its kind in front.
     Tagged,
-    /// Nothing.
+    /// A trie alone.
     Bare,
+    /// An index for exact look-ups, which has no kind, with such a header in front.
+    Index,
 }
 
-/// How a trie file is made.
+/// How a file is made.
 #[derive(Clone, Copy, PartialEq, Eq, Debug)]
 pub struct Plan {
     /// How the input is pairs.
     pub source: Source,
     /// The kind of the trie. If `None`, it is `Simple` if all keys are ASCII and there are fewer
-    /// than `TrieKind::SIMPLE_LIMIT`, and else `Hash`.
+    /// than `TrieKind::SIMPLE_LIMIT`, and else `Hash`. An index has none.
     pub kind: Option<TrieKind>,
     /// Whether the keys must ascend strictly by their bytes. Else they may have any order.
     pub sorted: bool,
@@ -54,7 +57,7 @@ pub struct Plan {
     pub lower_case: bool,
     /// What is done with pairs that have one key.
     pub duplicates: Duplicates,
-    /// What the file has beside the bytes of the trie.
+    /// What the file has.
     pub form: FileForm,
 }
 
@@ -69,7 +72,7 @@ fn tag(kind: TrieKind, bytes: Vec<u8>) -> Result<Vec<u8>, AllocError>
     Ok(file)
 }
 
-/// Returns the file of a trie with these bytes, in this form.
+/// Returns the file of a trie or an index with these bytes, in this form.
 pub(crate) fn file_of(
     alloc: Global,
     form: FileForm,
@@ -82,11 +85,12 @@ pub(crate) fn file_of(
         FileForm::Sealed => seal(alloc, kind, bytes.as_slice()),
         FileForm::Tagged => tag(kind, bytes),
         FileForm::Bare => Ok(bytes),
+        FileForm::Index => seal_index(alloc, bytes.as_slice()),
     }
 }
 
-/// Explains an error of a build: with the keys that show it, if any do. Without numbers each pair has
-/// that of its place.
+/// Explains an error of a build of a trie: with the keys that show it, if any do. Without numbers each
+/// pair has that of its place.
 fn explain(
     alloc: Global,
     kind: TrieKind,
@@ -97,7 +101,7 @@ fn explain(
 ) -> Result<MakeError, AllocError>
     requires refusal { IsRefusal (route_of sorted) (kind_of kind) (pairs_of items.now) error }
     requires numbers { IfSome numbers (λ numbers. length numbers.now ≡ length items.now) }
-    ensures { IfOk result (IsRefusedAs (route_of sorted) (kind_of kind) (number_of numbers.entry)
+    ensures { IfOk result (IsRefusedAs (a_trie (kind_of kind)) sorted (number_of numbers.entry)
         (pairs_of items.now)) }
 {
     if error == ZeroTrieBuildError::OutOfMemory {
@@ -109,7 +113,88 @@ fn explain(
     }
 }
 
-/// Makes the file of the trie of the pairs.
+/// Builds a trie of the pairs, or explains why there is none.
+fn trie_of(
+    alloc: Global,
+    kind: TrieKind,
+    sorted: bool,
+    numbers: Option<&[usize]>,
+    items: &[(&[u8], usize)],
+) -> Result<Vec<u8>, MakeError>
+    requires { IfSome numbers (λ numbers. length numbers.now ≡ length items.now) }
+    ensures ok { IfOk result (λ bytes.
+        IsBuiltAs (a_trie (kind_of kind)) sorted (pairs_of items.now) bytes.items) }
+    ensures err { IfErr result (IsRefusedAs (a_trie (kind_of kind)) sorted (number_of numbers.entry)
+        (pairs_of items.now)) }
+{
+    match bytes_of(alloc, kind, sorted, items) {
+        Ok(bytes) => Ok(bytes),
+        Err(error) => Err(explain(alloc, kind, sorted, numbers, items, error)?),
+    }
+}
+
+/// Explains an error of a build of an index, as `explain` does of a trie.
+fn explain_index(
+    alloc: Global,
+    sorted: bool,
+    numbers: Option<&[usize]>,
+    items: &[(&[u8], usize)],
+    error: ZeroIndexBuildError,
+) -> Result<MakeError, AllocError>
+    requires refusal { IsIndexed sorted (λ bytes. bytes) (pairs_of items.now) (Err error) }
+    requires numbers { IfSome numbers (λ numbers. length numbers.now ≡ length items.now) }
+    ensures { IfOk result (IsRefusedAs an_index sorted (number_of numbers.entry) (pairs_of items.now)) }
+{
+    if error == ZeroIndexBuildError::OutOfMemory {
+        return Ok(MakeError::OutOfMemory);
+    }
+    match why_unindexed(alloc, sorted, items)? {
+        Some(refusal) => Ok(MakeError::Keys(show(alloc, numbers, items, refusal)?)),
+        None => Ok(MakeError::IndexRefused(error)),
+    }
+}
+
+/// Builds an index of the pairs, or explains why there is none.
+fn index_of(
+    alloc: Global,
+    sorted: bool,
+    numbers: Option<&[usize]>,
+    items: &[(&[u8], usize)],
+) -> Result<Vec<u8>, MakeError>
+    requires { IfSome numbers (λ numbers. length numbers.now ≡ length items.now) }
+    ensures ok { IfOk result (λ bytes. IsBuiltAs an_index sorted (pairs_of items.now) bytes.items) }
+    ensures err { IfErr result (IsRefusedAs an_index sorted (number_of numbers.entry) (pairs_of items.now)) }
+{
+    match index_bytes_of(alloc, sorted, items) {
+        Ok(bytes) => Ok(bytes),
+        Err(error) => Err(explain_index(alloc, sorted, numbers, items, error)?),
+    }
+}
+
+/// Builds what a file of this form has: a trie of the kind, or an index.
+fn build_of(
+    alloc: Global,
+    form: FileForm,
+    kind: TrieKind,
+    sorted: bool,
+    numbers: Option<&[usize]>,
+    items: &[(&[u8], usize)],
+) -> Result<Vec<u8>, MakeError>
+    requires { IfSome numbers (λ numbers. length numbers.now ≡ length items.now) }
+    ensures ok { IfOk result (λ bytes.
+        IsBuiltAs (content_of form (kind_of kind)) sorted (pairs_of items.now) bytes.items) }
+    ensures err { IfErr result (IsRefusedAs (content_of form (kind_of kind)) sorted
+        (number_of numbers.entry) (pairs_of items.now)) }
+{
+    match form {
+        FileForm::Sealed | FileForm::Tagged | FileForm::Bare => {
+            trie_of(alloc, kind, sorted, numbers, items)
+        }
+        FileForm::Index => index_of(alloc, sorted, numbers, items),
+    }
+}
+
+/// Makes the file of the pairs.
 pub(crate) fn make_of(
     alloc: Global,
     plan: Plan,
@@ -121,13 +206,11 @@ pub(crate) fn make_of(
     ensures err { IfErr result (λ e. ExplainsOf plan (number_of numbers.entry) (pairs_of items.now) e) }
 {
     let kind = kind_for(plan.kind, items);
-    match bytes_of(alloc, kind, plan.sorted, items) {
-        Ok(bytes) => Ok(file_of(alloc, plan.form, kind, bytes)?),
-        Err(error) => Err(explain(alloc, kind, plan.sorted, numbers, items, error)?),
-    }
+    let bytes = build_of(alloc, plan.form, kind, plan.sorted, numbers, items)?;
+    Ok(file_of(alloc, plan.form, kind, bytes)?)
 }
 
-/// Makes the file of the trie of pairs that are kept.
+/// Makes the file of pairs that are kept.
 fn make_kept(alloc: Global, plan: Plan, kept: Kept<'_>) -> Result<Vec<u8>, MakeError>
     requires { length kept.numbers.items ≡ length kept.items.items }
     ensures ok { IfOk result (λ file.
@@ -143,7 +226,7 @@ fn make_kept(alloc: Global, plan: Plan, kept: Kept<'_>) -> Result<Vec<u8>, MakeE
     )
 }
 
-/// Makes the file of the trie of those of the pairs that are kept.
+/// Makes the file of those of the pairs that are kept.
 fn make_from(alloc: Global, plan: Plan, items: &[(&[u8], usize)]) -> Result<Vec<u8>, MakeError>
     ensures ok { IfOk result (λ file. IsFileOfKept plan (pairs_of items.now) file.items) }
     ensures err { IfErr result (λ e. ExplainsKept plan (pairs_of items.now) e) }
@@ -155,7 +238,7 @@ fn make_from(alloc: Global, plan: Plan, items: &[(&[u8], usize)]) -> Result<Vec<
     }
 }
 
-/// Makes the file of the trie of the pairs of an input.
+/// Makes the file of the pairs of an input.
 ///
 /// ```
 /// let plan = Plan {
@@ -171,9 +254,9 @@ fn make_from(alloc: Global, plan: Plan, items: &[(&[u8], usize)]) -> Result<Vec<
 /// assert_eq!(rt; file.as_slice(), b"\x00ad\x90\x06ef\x90\x11".as_slice());
 /// ```
 ///
-/// It takes the input. If keys must be copied from it, it is freed before the trie is built. The
-/// error is `Line`, `NotJson`, `NotPairs` or `NotPair` if the input is no pairs, `Keys` if keys
-/// show why a build of the pairs fails, `Refused` if it fails and none do, and `OutOfMemory`.
+/// It takes the input. If keys must be copied from it, it is freed before the build. The error is
+/// `Line`, `NotJson`, `NotPairs` or `NotPair` if the input is no pairs, `Keys` if keys show why a
+/// build of the pairs fails, `Refused` or `IndexRefused` if it fails and none do, and `OutOfMemory`.
 pub fn make(alloc: Global, plan: Plan, input: Vec<u8>) -> Result<Vec<u8>, MakeError>
     ensures ok { IfOk result (λ file. IsFile plan input.items file.items) }
     ensures err { IfErr result (λ e. Explains plan input.items e) }

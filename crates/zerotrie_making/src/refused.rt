@@ -1,4 +1,4 @@
-//! Why no trie file is made.
+//! Why no file is made.
 
 ghost use Rattle.std.specs.Prelude.{◌≡◌, ◌<◌, ◌^◌, length, IfOk, IfSome};
 ghost use Rattle.zerotrie_core.specs.Items.{pairs_of};
@@ -9,6 +9,7 @@ ghost use Rattle.zerotrie_making.specs.declared.refused.MakeError.TheVariants.{O
 use std::alloc::{AllocError, Global};
 use zerotrie_build::Refusal;
 use zerotrie_core::ZeroTrieBuildError;
+use zerotrie_index::ZeroIndexBuildError;
 use zerotrie_lines::{BadLine, ReadError};
 
 /// A key, and the number of its pair, from 1 on: that of its line, its record, or its member or item
@@ -40,7 +41,7 @@ pub enum NoPair {
     Item(usize),
 }
 
-/// Why no trie file is made.
+/// Why no file is made.
 ///
 /// ```
 /// let plan = Plan {
@@ -67,8 +68,11 @@ pub enum MakeError {
     NotPair(NoPair),
     /// The build fails, and these keys show why.
     Keys(Shown),
-    /// The build fails though no key is at fault: `CapacityExceeded` or `CouldNotSolvePerfectHash`.
+    /// The build of a trie fails though no key is at fault: `CapacityExceeded` or
+    /// `CouldNotSolvePerfectHash`.
     Refused(ZeroTrieBuildError),
+    /// The build of an index fails though no key is at fault: `Crowded` or `CapacityExceeded`.
+    IndexRefused(ZeroIndexBuildError),
     /// An allocation failed.
     OutOfMemory,
 }

@@ -8,6 +8,7 @@ use Rattle.std.proofs.KnownBytes.{Appends-nil, Appends-trans}
 use Rattle.zerotrie_core.specs.Maps.{Map, look}
 use Rattle.zerotrie_core.specs.Prefixes.{fronts}
 use Rattle.zerotrie_core.specs.Borders.{at_borders}
+use Rattle.zerotrie_core.specs.Texts.{Means}
 use Rattle.zerotrie_core.specs.Kinds.{kind_of}
 use Rattle.zerotrie_core.specs.declared.TrieKind.{TrieKind}
 use Rattle.zerotrie_queries.specs.declared.lookups.Asked.{Asked}
@@ -17,6 +18,7 @@ use Rattle.zerotrie_queries.specs.declared.lookups.Spelling.TheVariants.{Plain, 
 use Rattle.zerotrie_queries.specs.declared.lookups.Query.{Query}
 use Rattle.zerotrie_queries.specs.Printed.{value_line, value_lines, key_line, found_line, fronts_text, are_found}
 use Rattle.zerotrie_queries.specs.Answers.{IsAnswer, IsAnswerAs, IsAdded, Belongs, AreAnswered, AreAnsweredInPart, as_is, with_escapes}
+use Rattle.zerotrie_queries.specs.Finders.{TrieFinds}
 use Rattle.zerotrie_lines.specs.Escapes.{Spells}
 use Rattle.zerotrie_lines.proofs.SpellingLemmas.{spells_or_not}
 use Rattle.zerotrie_files.specs.Parts.{AppendsPart}
@@ -52,15 +54,15 @@ values_asked at (key ∷ keys) =
     (value_line value, value_lines rest, is_some value, are_found rest, (refl, refl), values_asked at keys, refl, refl)
 
 -- no texts
-pub none_answered : (of : Query) (kind : TrieKind) (bytes : List ℕ) (a : Option (List ℕ)) → AreAnswered of kind bytes [] a a true
-none_answered of kind bytes a m means = ([], (refl, refl), Appends-nil a)
+pub none_answered : (of : Query) (Has : (List ℕ → Option ℕ) → Type 0) (a : Option (List ℕ)) → AreAnswered of Has [] a a true
+none_answered of Has a at has = ([], (refl, refl), Appends-nil a)
 
 -- texts, and then more of them
-pub more_answered : (of : Query) (kind : TrieKind) (bytes : List ℕ) (texts more : List (List ℕ)) (a b c : Option (List ℕ)) (all found : Bool) → AreAnswered of kind bytes texts a b all
-    → AreAnswered of kind bytes more b c found → AreAnswered of kind bytes (texts ++ more) a c (all && found)
-more_answered of kind bytes texts more a b c all found h k m means =
-    let x = h m means in
-    let y = k m means in (x.0 ++ y.0, more_asked of (look (kind_of kind) m) texts more x.0 y.0 all found x.1 y.1, Appends-trans a b c x.0 y.0 x.2 y.2)
+pub more_answered : (of : Query) (Has : (List ℕ → Option ℕ) → Type 0) (texts more : List (List ℕ)) (a b c : Option (List ℕ)) (all found : Bool) → AreAnswered of Has texts a b all
+    → AreAnswered of Has more b c found → AreAnswered of Has (texts ++ more) a c (all && found)
+more_answered of Has texts more a b c all found h k at has =
+    let x = h at has in
+    let y = k at has in (x.0 ++ y.0, more_asked of at texts more x.0 y.0 all found x.1 y.1, Appends-trans a b c x.0 y.0 x.2 y.2)
 
 -- one text more
 pub next_text : (texts : List (Bor (List ℕ))) (i : ℕ) → i < length texts → take (i + 1) (nows texts) ≡ take i (nows texts) ++ (get_or texts i no_key).now ∷ []
@@ -69,12 +71,12 @@ next_text texts i within =
     take_more (nows texts) i [] (omega arith) ∙ ap (λ t. take i (nows texts) ++ t ∷ []) (get_or-map (λ t. t.now) texts i no_key [] within)
 
 -- one text, whose answer was added to an empty buffer
-pub one_answered : (of : Query) (kind : TrieKind) (bytes text old line : List ℕ) (found : Bool) (b c : Option (List ℕ)) → old ≡ [] → IsAdded of kind bytes text old line found → Appends b c line
-    → AreAnswered of kind bytes (text ∷ []) b c found
-one_answered of kind bytes text old line found b c none added appends m means =
-    let x = added m means in
+pub one_answered : (of : Query) (Has : (List ℕ → Option ℕ) → Type 0) (text old line : List ℕ) (found : Bool) (b c : Option (List ℕ)) → old ≡ [] → IsAdded of Has text old line found → Appends b c line
+    → AreAnswered of Has (text ∷ []) b c found
+one_answered of Has text old line found b c none added appends at has =
+    let x = added at has in
     let is : line ≡ x.0 = x.2 ∙ ap (λ l. l ++ x.0) none in
-    (x.0, one_asked of (look (kind_of kind) m) text x.0 found x.1, subst (Appends b c) is appends)
+    (x.0, one_asked of at text x.0 found x.1, subst (Appends b c) is appends)
 
 -- any text has an answer
 abbrev HasAnswer : (List ℕ → Bool → Type 0) → Type 0
@@ -106,47 +108,47 @@ answered of at (text ∷ texts) =
     (one.0 ++ rest.0, one.1 && rest.1, (one.0, rest.0, one.1, rest.1, one.2, rest.2, refl, refl))
 
 -- all of them
-pub begun_all : (of : Query) (kind : TrieKind) (bytes : List ℕ) (texts : List (List ℕ)) (a b : Option (List ℕ)) (all : Bool) → AreAnswered of kind bytes texts a b all → AreAnsweredInPart of kind bytes texts a b
-begun_all of kind bytes texts a b all h m means = let x = h m means in (x.0, all, x.1, part_all a b x.0 x.2)
+pub begun_all : (of : Query) (Has : (List ℕ → Option ℕ) → Type 0) (texts : List (List ℕ)) (a b : Option (List ℕ)) (all : Bool) → AreAnswered of Has texts a b all → AreAnsweredInPart of Has texts a b
+begun_all of Has texts a b all h at has = let x = h at has in (x.0, all, x.1, part_all a b x.0 x.2)
 
 -- a beginning of the answers to the first texts is one of the answers to all
-pub begun_front : (of : Query) (kind : TrieKind) (bytes : List ℕ) (texts more : List (List ℕ)) (a b : Option (List ℕ)) → AreAnsweredInPart of kind bytes texts a b → AreAnsweredInPart of kind bytes (texts ++ more) a b
-begun_front of kind bytes texts more a b h m means =
-    let x = h m means in
-    let y = answered of (look (kind_of kind) m) more in
-    (x.0 ++ y.0, x.1 && y.1, more_asked of (look (kind_of kind) m) texts more x.0 y.0 x.1 y.1 x.2 y.2, part_front a b x.0 y.0 (x.0 ++ y.0) x.3 refl)
+pub begun_front : (of : Query) (Has : (List ℕ → Option ℕ) → Type 0) (texts more : List (List ℕ)) (a b : Option (List ℕ)) → AreAnsweredInPart of Has texts a b → AreAnsweredInPart of Has (texts ++ more) a b
+begun_front of Has texts more a b h at has =
+    let x = h at has in
+    let y = answered of at more in
+    (x.0 ++ y.0, x.1 && y.1, more_asked of at texts more x.0 y.0 x.1 y.1 x.2 y.2, part_front a b x.0 y.0 (x.0 ++ y.0) x.3 refl)
 
 -- nothing was printed
-pub begun_none : (of : Query) (kind : TrieKind) (bytes : List ℕ) (texts : List (List ℕ)) (a : Option (List ℕ)) → AreAnsweredInPart of kind bytes texts a a
-begun_none of kind bytes texts a = begun_front of kind bytes [] texts a a (begun_all of kind bytes [] a a true (none_answered of kind bytes a))
+pub begun_none : (of : Query) (Has : (List ℕ → Option ℕ) → Type 0) (texts : List (List ℕ)) (a : Option (List ℕ)) → AreAnsweredInPart of Has texts a a
+begun_none of Has texts a = begun_front of Has [] texts a a (begun_all of Has [] a a true (none_answered of Has a))
 
 -- all of the first texts, and a beginning of the answers to more of them
-pub more_begun : (of : Query) (kind : TrieKind) (bytes : List ℕ) (texts more : List (List ℕ)) (a b c : Option (List ℕ)) (all : Bool) → AreAnswered of kind bytes texts a b all
-    → AreAnsweredInPart of kind bytes more b c → AreAnsweredInPart of kind bytes (texts ++ more) a c
-more_begun of kind bytes texts more a b c all h k m means =
-    let x = h m means in
-    let y = k m means in
-    (x.0 ++ y.0, all && y.1, more_asked of (look (kind_of kind) m) texts more x.0 y.0 all y.1 x.1 y.2, part_behind a b c x.0 y.0 (x.0 ++ y.0) x.2 y.3 refl)
+pub more_begun : (of : Query) (Has : (List ℕ → Option ℕ) → Type 0) (texts more : List (List ℕ)) (a b c : Option (List ℕ)) (all : Bool) → AreAnswered of Has texts a b all
+    → AreAnsweredInPart of Has more b c → AreAnsweredInPart of Has (texts ++ more) a c
+more_begun of Has texts more a b c all h k at has =
+    let x = h at has in
+    let y = k at has in
+    (x.0 ++ y.0, all && y.1, more_asked of at texts more x.0 y.0 all y.1 x.1 y.2, part_behind a b c x.0 y.0 (x.0 ++ y.0) x.2 y.3 refl)
 
 -- all of the first texts, and nothing of the others
-pub begun_done : (of : Query) (kind : TrieKind) (bytes : List ℕ) (texts : List (List ℕ)) (n : ℕ) (a b : Option (List ℕ)) (all : Bool) → AreAnswered of kind bytes (take n texts) a b all
-    → AreAnsweredInPart of kind bytes texts a b
-begun_done of kind bytes texts n a b all h =
-    subst (λ ts. AreAnsweredInPart of kind bytes ts a b) (take-append-drop n texts) (begun_front of kind bytes (take n texts) (drop n texts) a b (begun_all of kind bytes (take n texts) a b all h))
+pub begun_done : (of : Query) (Has : (List ℕ → Option ℕ) → Type 0) (texts : List (List ℕ)) (n : ℕ) (a b : Option (List ℕ)) (all : Bool) → AreAnswered of Has (take n texts) a b all
+    → AreAnsweredInPart of Has texts a b
+begun_done of Has texts n a b all h =
+    subst (λ ts. AreAnsweredInPart of Has ts a b) (take-append-drop n texts) (begun_front of Has (take n texts) (drop n texts) a b (begun_all of Has (take n texts) a b all h))
 
 -- all of the first texts, and a beginning of the answer to the next
-pub begun_next : (of : Query) (kind : TrieKind) (bytes : List ℕ) (texts : List (List ℕ)) (n : ℕ) (text old line : List ℕ) (found : Bool) (a b c : Option (List ℕ)) (all : Bool)
-    → take (n + 1) texts ≡ take n texts ++ text ∷ [] → old ≡ [] → IsAdded of kind bytes text old line found → AppendsPart b c line → AreAnswered of kind bytes (take n texts) a b all
-    → AreAnsweredInPart of kind bytes texts a c
-begun_next of kind bytes texts n text old line found a b c all more none added part h =
-    let one : AreAnsweredInPart of kind bytes (text ∷ []) b c =
-    λ m means.
-    let x = added m means in
+pub begun_next : (of : Query) (Has : (List ℕ → Option ℕ) → Type 0) (texts : List (List ℕ)) (n : ℕ) (text old line : List ℕ) (found : Bool) (a b c : Option (List ℕ)) (all : Bool)
+    → take (n + 1) texts ≡ take n texts ++ text ∷ [] → old ≡ [] → IsAdded of Has text old line found → AppendsPart b c line → AreAnswered of Has (take n texts) a b all
+    → AreAnsweredInPart of Has texts a c
+begun_next of Has texts n text old line found a b c all more none added part h =
+    let one : AreAnsweredInPart of Has (text ∷ []) b c =
+    λ at has.
+    let x = added at has in
     let is : line ≡ x.0 = x.2 ∙ ap (λ l. l ++ x.0) none in
-    (x.0, found, one_asked of (look (kind_of kind) m) text x.0 found x.1, subst (AppendsPart b c) is part) in
-    let first : AreAnsweredInPart of kind bytes (take (n + 1) texts) a c =
-    subst (λ ts. AreAnsweredInPart of kind bytes ts a c) (sym more) (more_begun of kind bytes (take n texts) (text ∷ []) a b c all h one) in
-    subst (λ ts. AreAnsweredInPart of kind bytes ts a c) (take-append-drop (n + 1) texts) (begun_front of kind bytes (take (n + 1) texts) (drop (n + 1) texts) a c first)
+    (x.0, found, one_asked of at text x.0 found x.1, subst (AppendsPart b c) is part) in
+    let first : AreAnsweredInPart of Has (take (n + 1) texts) a c =
+    subst (λ ts. AreAnsweredInPart of Has ts a c) (sym more) (more_begun of Has (take n texts) (text ∷ []) a b c all h one) in
+    subst (λ ts. AreAnsweredInPart of Has ts a c) (take-append-drop (n + 1) texts) (begun_front of Has (take (n + 1) texts) (drop (n + 1) texts) a c first)
 
 -- the values of all keys
 pub values_are : (at : List ℕ → Option ℕ) (keys : List (Bor (List ℕ))) (all : Bool) → all ≡ are_found (answers_of at keys) → Belongs (as_is Value) at (nows keys) (value_lines (answers_of at keys)) all
@@ -161,9 +163,13 @@ values_begun at keys a b p =
     let found = answers_of at keys in (value_lines found, are_found found, values_are at keys (are_found found) refl, p)
 
 -- the answer to a text is one to a text that spells it
-pub added_spelled : (of : Asked) (kind : TrieKind) (bytes text key old new : List ℕ) (found : Bool) → Spells text key → IsAdded (as_is of) kind bytes key old new found
-    → IsAdded (with_escapes of) kind bytes text old new found
-added_spelled of kind bytes text key old new found spells added m means = let x = added m means in (x.0, inl (key, spells, x.1), x.2)
+pub added_spelled : (of : Asked) (Has : (List ℕ → Option ℕ) → Type 0) (text key old new : List ℕ) (found : Bool) → Spells text key → IsAdded (as_is of) Has key old new found
+    → IsAdded (with_escapes of) Has text old new found
+added_spelled of Has text key old new found spells added at has = let x = added at has in (x.0, inl (key, spells, x.1), x.2)
+
+-- what holds of the map that the bytes of a trie mean holds of the values that keys have in the trie
+pub in_map : (kind : TrieKind) (bytes : List ℕ) (P : (List ℕ → Option ℕ) → Type 0) → ((m : Map) → Means (kind_of kind) bytes m → P (look (kind_of kind) m)) → (at : List ℕ → Option ℕ) → TrieFinds kind bytes at → P at
+in_map kind bytes P h at has = subst P (sym has.2) (h has.0 has.1)
 
 -- what is asked of texts, by how they are written
 abbrev query_of : Asked → Spelling → Query

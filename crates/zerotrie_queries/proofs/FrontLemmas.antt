@@ -11,7 +11,7 @@ use Rattle.zerotrie_core.specs.Texts.{Means}
 use Rattle.zerotrie_base.proofs.CallerLemmas.{look-map_of}
 use Rattle.zerotrie_core.specs.Prefixes.{Along, Leaves, at_front, fronts, fronts_left, common_prefixes, NextFront}
 use Rattle.zerotrie_queries.specs.Printed.{front_line, front_lines, fronts_text}
-use Rattle.zerotrie_queries.specs.Answers.{IsAdded, as_is}
+use Rattle.zerotrie_queries.specs.Answers.{AddsAnswer, as_is}
 use Rattle.zerotrie_queries.specs.declared.lookups.Asked.TheVariants.{Prefixes}
 
 -- what was printed of the keys, and how many they are, belong to those to come and to all
@@ -84,7 +84,7 @@ text_some text (r ∷ found) some = (refl, grind (arith, nat_tests))
 
 -- no key is told as none
 pub added_none : (kind : TrieKind) (bytes text lines old new : List ℕ) (before : Along) → before ≡ at_front (kind_of kind) bytes text → PrintsAll text lines 0 before → new ≡ old ++ codes "none\n"
-    → IsAdded (as_is Prefixes) kind bytes text old new false
+    → (m : Map) → Means (kind_of kind) bytes m → AddsAnswer (as_is Prefixes) (look (kind_of kind) m) text old new false
 added_none kind bytes text lines old new before is h added m means =
     let keys = prints_fronts (kind_of kind) bytes text lines 0 before m is h means in
     let none = text_none text (common_prefixes (kind_of kind) m text) (sym keys.1) in
@@ -92,7 +92,7 @@ added_none kind bytes text lines old new before is h added m means =
 
 -- and some by their number and their lines
 pub added_some : (kind : TrieKind) (bytes text lines old new : List ℕ) (count : ℕ) (before : Along) → before ≡ at_front (kind_of kind) bytes text → PrintsAll text lines count before → (count ≡ 0 → ⊥)
-    → new ≡ old ++ (decimal count ++ (codes " found\n" ++ lines)) → IsAdded (as_is Prefixes) kind bytes text old new true
+    → new ≡ old ++ (decimal count ++ (codes " found\n" ++ lines)) → (m : Map) → Means (kind_of kind) bytes m → AddsAnswer (as_is Prefixes) (look (kind_of kind) m) text old new true
 added_some kind bytes text lines old new count before is h some added m means =
     let found = common_prefixes (kind_of kind) m text in
     let keys = prints_fronts (kind_of kind) bytes text lines count before m is h means in

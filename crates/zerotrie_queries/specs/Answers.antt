@@ -4,11 +4,8 @@ use Rattle.std.specs.Borrow.{Bor}
 use Rattle.std.specs.Io.KnownBytes.{Appends}
 use Rattle.zerotrie_core.specs.Kind.{Kind}
 use Rattle.zerotrie_core.specs.Maps.{Map, look}
-use Rattle.zerotrie_core.specs.Texts.{Means}
 use Rattle.zerotrie_core.specs.Prefixes.{IsLongest, fronts}
 use Rattle.zerotrie_core.specs.Borders.{at_borders}
-use Rattle.zerotrie_core.specs.Kinds.{kind_of}
-use Rattle.zerotrie_core.specs.declared.TrieKind.{TrieKind}
 use Rattle.zerotrie_files.specs.Parts.{AppendsPart}
 use Rattle.zerotrie_lines.specs.Escapes.{Spells}
 use Rattle.zerotrie_queries.specs.Printed.{value_line, key_line, found_line, fronts_text}
@@ -54,17 +51,19 @@ Belongs query at [] printed all = (printed ≡ []) × (all ≡ true)
 Belongs query at (text ∷ texts) printed all = (first rest : List ℕ) × (found others : Bool) × IsAnswerAs query.spelling query.asked at text first found × Belongs query at texts rest others
     × (printed ≡ first ++ rest) × (all ≡ (found && others))
 
--- what was printed belongs to texts, to what was asked of them, and to the map that the bytes mean, if they mean one
-abbrev pub AreAnswered : Query → TrieKind → (bytes : List ℕ) → (texts : List (List ℕ)) → (old new : Option (List ℕ)) → (all : Bool) → Type 0
-AreAnswered query kind bytes texts old new all = (m : Map) → Means (kind_of kind) bytes m
-    → (printed : List ℕ) × Belongs query (look (kind_of kind) m) texts printed all × Appends old new printed
+-- what was printed belongs to texts and to what was asked of them, whichever values keys may have
+abbrev pub AreAnswered : Query → ((List ℕ → Option ℕ) → Type 0) → (texts : List (List ℕ)) → (old new : Option (List ℕ)) → (all : Bool) → Type 0
+AreAnswered query MayHave texts old new all = (at : List ℕ → Option ℕ) → MayHave at → (printed : List ℕ) × Belongs query at texts printed all × Appends old new printed
 
--- a beginning of what belongs to texts, to what was asked of them, and to the map that the bytes mean, if they mean one, was printed
-abbrev pub AreAnsweredInPart : Query → TrieKind → (bytes : List ℕ) → (texts : List (List ℕ)) → (old new : Option (List ℕ)) → Type 0
-AreAnsweredInPart query kind bytes texts old new = (m : Map) → Means (kind_of kind) bytes m
-    → (printed : List ℕ) × (all : Bool) × Belongs query (look (kind_of kind) m) texts printed all × AppendsPart old new printed
+-- a beginning of what belongs to texts and to what was asked of them was printed, whichever values keys may have
+abbrev pub AreAnsweredInPart : Query → ((List ℕ → Option ℕ) → Type 0) → (texts : List (List ℕ)) → (old new : Option (List ℕ)) → Type 0
+AreAnsweredInPart query MayHave texts old new = (at : List ℕ → Option ℕ) → MayHave at
+    → (printed : List ℕ) × (all : Bool) × Belongs query at texts printed all × AppendsPart old new printed
 
--- the answer to a text was added to a buffer, if the bytes mean a map
-abbrev pub IsAdded : Query → TrieKind → (bytes : List ℕ) → (text old new : List ℕ) → (found : Bool) → Type 0
-IsAdded query kind bytes text old new found = (m : Map) → Means (kind_of kind) bytes m
-    → (printed : List ℕ) × IsAnswerAs query.spelling query.asked (look (kind_of kind) m) text printed found × (new ≡ old ++ printed)
+-- the answer to a text was added to a buffer
+abbrev pub AddsAnswer : Query → (List ℕ → Option ℕ) → (text old new : List ℕ) → (found : Bool) → Type 0
+AddsAnswer query at text old new found = (printed : List ℕ) × IsAnswerAs query.spelling query.asked at text printed found × (new ≡ old ++ printed)
+
+-- it was, whichever values keys may have
+abbrev pub IsAdded : Query → ((List ℕ → Option ℕ) → Type 0) → (text old new : List ℕ) → (found : Bool) → Type 0
+IsAdded query MayHave text old new found = (at : List ℕ → Option ℕ) → MayHave at → AddsAnswer query at text old new found

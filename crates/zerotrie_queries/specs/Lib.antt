@@ -6,6 +6,7 @@ pub mod Chosen
 pub mod Sorted
 pub mod Listed
 pub mod Diffs
+pub mod Finders
 pub mod Answers
 pub mod code
 pub mod views

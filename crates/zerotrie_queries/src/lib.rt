@@ -9,6 +9,7 @@
 pub mod code;
 mod diff;
 mod file;
+mod finder;
 mod first_pairs;
 mod json_listing;
 mod json_text;
@@ -25,6 +26,7 @@ mod views;
 pub use code::{Language, is_name, write_trie_code};
 pub use diff::write_diff;
 pub use file::{OpenError, looks_like_text};
+pub use finder::Finder;
 pub use listing::{ListError, write_list};
 pub use lookups::{Asked, Query, Spelling, write_answers};
 pub use print::{Form, Style};

@@ -1,15 +1,17 @@
 //! Look-ups of keys and of the keys that texts begin with.
 
 ghost use Rattle.std.specs.Prelude.{◌≡◌, ◌++◌, map, length, IfOk, OnErr};
-ghost use Rattle.zerotrie_core.specs.Maps.{Map, Pairs};
+ghost use Rattle.zerotrie_core.specs.Maps.{Map, Pairs, look};
 ghost use Rattle.zerotrie_core.specs.Prefixes.{Leaves, fronts_left};
 ghost use Rattle.zerotrie_core.specs.Texts.{Means};
 ghost use Rattle.zerotrie_core.specs.Kinds.{kind_of};
 ghost use Rattle.zerotrie_files.specs.Faults.{IsNoted};
 ghost use Rattle.zerotrie_queries.specs.Printed.{value_lines, are_found, front_lines};
-ghost use Rattle.zerotrie_queries.specs.Answers.{answers, as_is, with_escapes, IsAdded, AreAnswered, AreAnsweredInPart};
+ghost use Rattle.zerotrie_queries.specs.Finders.{Finds, IndexFinds, TrieFinds, asks_keys};
+ghost use Rattle.zerotrie_queries.specs.Answers.{answers, as_is, with_escapes, AddsAnswer, IsAdded, AreAnswered, AreAnsweredInPart};
 ghost use Rattle.zerotrie_queries.specs.declared.lookups.Asked.TheVariants.{Value, Prefixes};
 
+use crate::finder::Finder;
 use crate::print::{add_found, add_front, add_key_value, add_value};
 use crate::trie::Trie;
 use std::alloc::{AllocError, Global};
@@ -17,6 +19,7 @@ use std::io;
 use std::io::Write;
 use zerotrie_core::{CommonPrefixes, LookUps, ZeroTrieWithOptions, by_kind};
 use zerotrie_files::Noted;
+use zerotrie_index::get;
 use zerotrie_lines::{unescape, write_number};
 
 /// The number of keys whose lines are written at once.
@@ -37,6 +40,15 @@ pub enum Asked {
     LongestAt(u8),
     /// All keys that the text begins with, the shortest first, each with its value.
     Prefixes,
+}
+
+impl Asked {
+    /// Returns whether texts are asked for as keys.
+    pub fn asks_keys(self) -> bool
+        ensures { result ≡ asks_keys self }
+    {
+        matches!(self, Asked::Value | Asked::Pair)
+    }
 }
 
 /// How the keys and texts that are asked for are written.
@@ -93,9 +105,9 @@ fn write_values<W: Write>(
     keys: &[&[u8]],
     output: &mut Noted<W>,
 ) -> io::Result<bool>
-    ensures answered { IfOk result (AreAnswered (as_is Value) trie.now.kind trie.now.bytes.now
+    ensures answered { IfOk result (AreAnswered (as_is Value) (TrieFinds trie.now.kind trie.now.bytes.now)
         (map (λ key. key.now) keys.now) (W.contents output.old.inner) (W.contents output.new.inner)) }
-    ensures part { OnErr result (AreAnsweredInPart (as_is Value) trie.now.kind trie.now.bytes.now
+    ensures part { OnErr result (AreAnsweredInPart (as_is Value) (TrieFinds trie.now.kind trie.now.bytes.now)
         (map (λ key. key.now) keys.now) (W.contents output.old.inner) (W.contents output.new.inner)) }
     ensures noted { IsNoted result output.old.failed output.new.failed }
 {
@@ -140,8 +152,8 @@ fn add_prefixes(
     trie: &Trie<'_>,
     asked: &[u8],
 ) -> Result<bool, AllocError>
-    ensures { IfOk result (λ found. IsAdded (as_is Prefixes) trie.now.kind trie.now.bytes.now asked.now
-        text.old.items text.new.items found) }
+    ensures { IfOk result (λ found. (m : Map) → Means (kind_of trie.now.kind) trie.now.bytes.now m
+        → AddsAnswer (as_is Prefixes) (look (kind_of trie.now.kind) m) asked.now text.old.items text.new.items found) }
 {
     let mut lines = Vec::new(alloc);
     let mut fronts = trie.common_prefixes(asked);
@@ -156,16 +168,16 @@ fn add_prefixes(
     Ok(true)
 }
 
-/// Adds what was asked of a text, and returns whether it was found.
-fn add_answer(
+/// Adds what a trie was asked of a text, and returns whether it was found.
+fn add_trie_answer(
     alloc: Global,
     line: &mut Vec<u8>,
     trie: &Trie<'_>,
     asked: Asked,
     text: &[u8],
 ) -> Result<bool, AllocError>
-    ensures { IfOk result (λ found. IsAdded (as_is asked) trie.now.kind trie.now.bytes.now text.now
-        line.old.items line.new.items found) }
+    ensures { IfOk result (λ found. (m : Map) → Means (kind_of trie.now.kind) trie.now.bytes.now m
+        → AddsAnswer (as_is asked) (look (kind_of trie.now.kind) m) text.now line.old.items line.new.items found) }
 {
     match asked {
         Asked::Value => {
@@ -192,22 +204,62 @@ fn add_answer(
     }
 }
 
+/// Adds what an index was asked of a key, and returns whether it was found.
+fn add_index_answer(
+    line: &mut Vec<u8>,
+    index: &[u8],
+    asked: Asked,
+    key: &[u8],
+) -> Result<bool, AllocError>
+    ensures { IfOk result (λ found. IsAdded (as_is asked) (IndexFinds asked index.now) key.now
+        line.old.items line.new.items found) }
+{
+    let value = get(index, key);
+    match asked {
+        Asked::Pair => {
+            add_key_value(line, key, value)?;
+            Ok(value.is_some())
+        }
+        _ => {
+            add_value(line, value)?;
+            Ok(value.is_some())
+        }
+    }
+}
+
+/// Adds what was asked of a text, and returns whether it was found.
+fn add_answer(
+    alloc: Global,
+    line: &mut Vec<u8>,
+    finder: &Finder<'_>,
+    asked: Asked,
+    text: &[u8],
+) -> Result<bool, AllocError>
+    ensures { IfOk result (λ found. IsAdded (as_is asked) (Finds finder.now asked) text.now
+        line.old.items line.new.items found) }
+{
+    match finder {
+        Finder::Trie(trie) => add_trie_answer(alloc, line, trie, asked, text),
+        Finder::Index(index) => add_index_answer(line, index, asked, text),
+    }
+}
+
 /// Adds what was asked of the text that is written with these escapes, or `none` if one is
 /// malformed. Returns whether it was found. `buffer` is overwritten.
 fn add_spelled(
     alloc: Global,
     line: &mut Vec<u8>,
     buffer: &mut Vec<u8>,
-    trie: &Trie<'_>,
+    finder: &Finder<'_>,
     asked: Asked,
     text: &[u8],
 ) -> Result<bool, AllocError>
-    ensures { IfOk result (λ found. IsAdded (with_escapes asked) trie.now.kind trie.now.bytes.now text.now
+    ensures { IfOk result (λ found. IsAdded (with_escapes asked) (Finds finder.now asked) text.now
         line.old.items line.new.items found) }
 {
     if unescape(text, buffer)? {
         let key = buffer.as_slice();
-        return add_answer(alloc, line, trie, asked, key);
+        return add_answer(alloc, line, finder, asked, key);
     }
     line.extend_from_slice(b"none\n")?;
     Ok(false)
@@ -219,30 +271,30 @@ fn add_queried(
     alloc: Global,
     line: &mut Vec<u8>,
     buffer: &mut Vec<u8>,
-    trie: &Trie<'_>,
+    finder: &Finder<'_>,
     query: Query,
     text: &[u8],
 ) -> Result<bool, AllocError>
-    ensures { IfOk result (λ found. IsAdded query trie.now.kind trie.now.bytes.now text.now
+    ensures { IfOk result (λ found. IsAdded query (Finds finder.now query.asked) text.now
         line.old.items line.new.items found) }
 {
     match query.spelling {
-        Spelling::Plain => add_answer(alloc, line, trie, query.asked, text),
-        Spelling::Escaped => add_spelled(alloc, line, buffer, trie, query.asked, text),
+        Spelling::Plain => add_answer(alloc, line, finder, query.asked, text),
+        Spelling::Escaped => add_spelled(alloc, line, buffer, finder, query.asked, text),
     }
 }
 
 /// Writes the answer to each text, one after another, and returns whether all was found.
 fn write_each<W: Write>(
     alloc: Global,
-    trie: &Trie<'_>,
+    finder: &Finder<'_>,
     query: Query,
     texts: &[&[u8]],
     output: &mut Noted<W>,
 ) -> io::Result<bool>
-    ensures answered { IfOk result (AreAnswered query trie.now.kind trie.now.bytes.now
+    ensures answered { IfOk result (AreAnswered query (Finds finder.now query.asked)
         (map (λ t. t.now) texts.now) (W.contents output.old.inner) (W.contents output.new.inner)) }
-    ensures part { OnErr result (AreAnsweredInPart query trie.now.kind trie.now.bytes.now
+    ensures part { OnErr result (AreAnsweredInPart query (Finds finder.now query.asked)
         (map (λ t. t.now) texts.now) (W.contents output.old.inner) (W.contents output.new.inner)) }
     ensures noted { IsNoted result output.old.failed output.new.failed }
 {
@@ -251,7 +303,7 @@ fn write_each<W: Write>(
     let mut all = true;
     for text in texts {
         line.clear();
-        all &= add_queried(alloc, &mut line, &mut buffer, trie, query, text)?;
+        all &= add_queried(alloc, &mut line, &mut buffer, finder, query, text)?;
         output.write_bytes(line.as_slice())?;
     }
     Ok(all)
@@ -264,23 +316,27 @@ fn write_each<W: Write>(
 /// after the tab stands `none` if `Asked::Pair` looked for an absent key. With `Spelling::Escaped`
 /// the answer is that to the bytes that the text spells, and a line `none` if an escape is malformed.
 ///
-/// The answers are those of the trie's map. If the bytes are malformed, it still returns, and the
-/// answers are unspecified. If it fails, a beginning of the answers was written.
+/// The answers are those of the trie's map, or of the pairs of the index. If the bytes are
+/// malformed, it still returns, and the answers are unspecified; so are those of an index to
+/// anything but `Asked::Value` and `Asked::Pair`. If it fails, a beginning of the answers was
+/// written.
 pub fn write_answers<W: Write>(
     alloc: Global,
-    trie: &Trie<'_>,
+    finder: &Finder<'_>,
     query: Query,
     texts: &[&[u8]],
     output: &mut Noted<W>,
 ) -> io::Result<bool>
-    ensures answered { IfOk result (AreAnswered query trie.now.kind trie.now.bytes.now
+    ensures answered { IfOk result (AreAnswered query (Finds finder.now query.asked)
         (map (λ t. t.now) texts.now) (W.contents output.old.inner) (W.contents output.new.inner)) }
-    ensures part { OnErr result (AreAnsweredInPart query trie.now.kind trie.now.bytes.now
+    ensures part { OnErr result (AreAnsweredInPart query (Finds finder.now query.asked)
         (map (λ t. t.now) texts.now) (W.contents output.old.inner) (W.contents output.new.inner)) }
     ensures noted { IsNoted result output.old.failed output.new.failed }
 {
-    match (query.asked, query.spelling) {
-        (Asked::Value, Spelling::Plain) => write_values(alloc, trie, texts, output),
-        _ => write_each(alloc, trie, query, texts, output),
+    match (finder, query.asked, query.spelling) {
+        (Finder::Trie(trie), Asked::Value, Spelling::Plain) => {
+            write_values(alloc, trie, texts, output)
+        }
+        _ => write_each(alloc, finder, query, texts, output),
     }
 }

@@ -17,7 +17,9 @@ use Rattle.zerotrie_queries.proofs.AnswerLemmas.{begun_all}
 use Rattle.zerotrie_files.specs.Disks.{Story}
 use Rattle.zerotrie_files.specs.Faults.{Watched}
 use Rattle.zerotrie_queries.specs.declared.file.OpenError.TheVariants.{BadTag, Damaged, NotWellFormed, OutOfMemory}
-use Rattle.zerotrie_run.specs.Runs.{Answers, AnswersInPart, AreKeys, KeysAnswered, KeysAnsweredInPart, IsNoAnswer, IsRead, IsUnanswered, Opens, EndsAsk, ask_refusal, are_lines, of_lines}
+use Rattle.zerotrie_queries.specs.Finders.{TrieFinds, IndexFinds}
+use Rattle.zerotrie_run.specs.Runs.Content.{of_trie, of_index}
+use Rattle.zerotrie_run.specs.Runs.{Answers, AnswersInPart, Content, ContentAnswers, ContentAnswersInPart, IndexAnswers, IndexAnswersInPart, AreKeys, KeysAnswered, KeysAnsweredInPart, IsNoAnswer, IsRead, IsUnanswered, Opens, EndsAsk, ask_refusal, are_lines, of_lines}
 use Rattle.zerotrie_run.specs.Told.{HasReason}
 use Rattle.zerotrie_run.specs.declared.asking.AskError.{AskError}
 use Rattle.zerotrie_run.specs.declared.asking.AskError.TheVariants.{TwoInputs, Unread, NoTrie, NotText, Unanswered}
@@ -30,19 +32,31 @@ use Rattle.zerotrie_run.specs.declared.command.Question.{Question}
 use Rattle.zerotrie_run.specs.declared.command.Question.TheVariants.{LookUp, List as Listing, Code, Report, Verify, View}
 
 -- a flush leaves what was answered
-pub kept_texts : (of : Query) (kind : TrieKind) (bytes : List ℕ) (texts : List (List ℕ)) (a b c : Option (List ℕ)) (all : Bool) → AreAnswered of kind bytes texts a b all → Keeps b c
-    → AreAnswered of kind bytes texts a c all
-kept_texts of kind bytes texts a b c all h k m means = let x = h m means in (x.0, x.1, Appends-kept a b c x.0 x.2 k)
+pub kept_texts : (of : Query) (Has : (List ℕ → Option ℕ) → Type 0) (texts : List (List ℕ)) (a b c : Option (List ℕ)) (all : Bool) → AreAnswered of Has texts a b all → Keeps b c
+    → AreAnswered of Has texts a c all
+kept_texts of Has texts a b c all h k at has = let x = h at has in (x.0, x.1, Appends-kept a b c x.0 x.2 k)
 
 -- it leaves the answer to any question
-pub kept_answer : (q : Question) (input : Option (List ℕ)) (kind : TrieKind) (bytes : List ℕ) (a b c : Option (List ℕ)) (all : Bool) → Answers q input kind bytes a b all → Keeps b c
+kept_answer : (q : Question) (input : Option (List ℕ)) (kind : TrieKind) (bytes : List ℕ) (a b c : Option (List ℕ)) (all : Bool) → Answers q input kind bytes a b all → Keeps b c
     → Answers q input kind bytes a c all
-kept_answer (LookUp of keys) input kind bytes a b c all h k = (h.0, h.1, kept_texts of kind bytes h.0 a b c all h.2 k)
+kept_answer (LookUp of keys) input kind bytes a b c all h k = (h.0, h.1, kept_texts of (TrieFinds kind bytes) h.0 a b c all h.2 k)
 kept_answer (Listing form choice order limit) input kind bytes a b c all h k = (h.0, λ pairs lists. let x = h.1 pairs lists in (x.0, Appends-kept a b c (listed form (limited limit (picked order kind choice pairs))) x.1 k))
 kept_answer (Code language name) input kind bytes a b c all h k = (h.0, Appends-kept a b c (whole_code language kind name.now bytes) h.1 k)
 kept_answer Verify input kind bytes a b c all h k = (h.0, Keeps-trans a b c h.1 k)
 kept_answer (Report form) input kind bytes a b c all h k = (h.0, Appends-kept a b c (reported form (report_of kind bytes)) h.1 k)
 kept_answer (View view) input kind bytes a b c all h k = (h.0, Appends-kept a b c (shown view kind bytes) h.1 k)
+
+kept_index : (q : Question) (input : Option (List ℕ)) (bytes : List ℕ) (a b c : Option (List ℕ)) (all : Bool) → IndexAnswers q input bytes a b all → Keeps b c → IndexAnswers q input bytes a c all
+kept_index (LookUp of keys) input bytes a b c all h k = (h.0, h.1, kept_texts of (IndexFinds of.asked bytes) h.0 a b c all h.2 k)
+kept_index (Listing form choice order limit) input bytes a b c all h k = (h.0, Keeps-trans a b c h.1 k)
+kept_index (Code language name) input bytes a b c all h k = (h.0, Keeps-trans a b c h.1 k)
+kept_index Verify input bytes a b c all h k = (h.0, Keeps-trans a b c h.1 k)
+kept_index (Report form) input bytes a b c all h k = (h.0, Keeps-trans a b c h.1 k)
+kept_index (View view) input bytes a b c all h k = (h.0, Keeps-trans a b c h.1 k)
+
+pub kept_content : (x : Content) (q : Question) (input : Option (List ℕ)) (a b c : Option (List ℕ)) (all : Bool) → ContentAnswers x q input a b all → Keeps b c → ContentAnswers x q input a c all
+kept_content (of_trie kind bytes) q input a b c all h k = kept_answer q input kind bytes a b c all h k
+kept_content (of_index bytes) q input a b c all h k = kept_index q input bytes a b c all h k
 
 -- words are the same keys whatever standard input has
 other_keys : (keys : Keys) (i j : Option (List ℕ)) (ks : List (List ℕ)) → (are_lines keys ≡ true → ⊥) → AreKeys keys i ks → AreKeys keys j ks
@@ -50,7 +64,7 @@ other_keys (Words words) i j ks apart h = h
 other_keys Lines i j ks apart h = absurd (apart refl)
 
 -- an answer whose keys are no lines is one whatever standard input has
-pub other_input : (q : Question) (i j : Option (List ℕ)) (kind : TrieKind) (bytes : List ℕ) (a b : Option (List ℕ)) (all : Bool) → (of_lines q ≡ true → ⊥) → Answers q i kind bytes a b all
+other_input : (q : Question) (i j : Option (List ℕ)) (kind : TrieKind) (bytes : List ℕ) (a b : Option (List ℕ)) (all : Bool) → (of_lines q ≡ true → ⊥) → Answers q i kind bytes a b all
     → Answers q j kind bytes a b all
 other_input (LookUp of keys) i j kind bytes a b all apart h = (h.0, other_keys keys i j h.0 apart h.1, h.2)
 other_input (Listing form choice order limit) i j kind bytes a b all apart h = h
@@ -59,25 +73,49 @@ other_input Verify i j kind bytes a b all apart h = h
 other_input (Report form) i j kind bytes a b all apart h = h
 other_input (View view) i j kind bytes a b all apart h = h
 
+other_input_index : (q : Question) (i j : Option (List ℕ)) (bytes : List ℕ) (a b : Option (List ℕ)) (all : Bool) → (of_lines q ≡ true → ⊥) → IndexAnswers q i bytes a b all → IndexAnswers q j bytes a b all
+other_input_index (LookUp of keys) i j bytes a b all apart h = (h.0, other_keys keys i j h.0 apart h.1, h.2)
+other_input_index (Listing form choice order limit) i j bytes a b all apart h = h
+other_input_index (Code language name) i j bytes a b all apart h = h
+other_input_index Verify i j bytes a b all apart h = h
+other_input_index (Report form) i j bytes a b all apart h = h
+other_input_index (View view) i j bytes a b all apart h = h
+
+other_input_content : (x : Content) (q : Question) (i j : Option (List ℕ)) (a b : Option (List ℕ)) (all : Bool) → (of_lines q ≡ true → ⊥) → ContentAnswers x q i a b all → ContentAnswers x q j a b all
+other_input_content (of_trie kind bytes) q i j a b all apart h = other_input q i j kind bytes a b all apart h
+other_input_content (of_index bytes) q i j a b all apart h = other_input_index q i j bytes a b all apart h
+
 -- the input that is left after a file was read answers as all of it
-pub same_answer : {R : Type 0} (place : Place) (remaining : R → Option (List ℕ)) (old new : Watched R) (q : Question) (kind : TrieKind) (bytes : List ℕ) (a b : Option (List ℕ)) (all : Bool)
-    → ((place ≡ Stream) × (of_lines q ≡ true) → ⊥) → (place ≡ Stream) ⊎ (new ≡ old) → Answers q (remaining new.inner) kind bytes a b all → Answers q (remaining old.inner) kind bytes a b all
-same_answer place remaining old new q kind bytes a b all apart (inl is) h = other_input q (remaining new.inner) (remaining old.inner) kind bytes a b all (λ lines. apart (is, lines)) h
-same_answer place remaining old new q kind bytes a b all apart (inr is) h = subst (λ r. Answers q (remaining r.inner) kind bytes a b all) is h
+pub same_answer : {R : Type 0} (place : Place) (remaining : R → Option (List ℕ)) (old new : Watched R) (x : Content) (q : Question) (a b : Option (List ℕ)) (all : Bool)
+    → ((place ≡ Stream) × (of_lines q ≡ true) → ⊥) → (place ≡ Stream) ⊎ (new ≡ old) → ContentAnswers x q (remaining new.inner) a b all → ContentAnswers x q (remaining old.inner) a b all
+same_answer place remaining old new x q a b all apart (inl is) h = other_input_content x q (remaining new.inner) (remaining old.inner) a b all (λ lines. apart (is, lines)) h
+same_answer place remaining old new x q a b all apart (inr is) h = subst (λ r. ContentAnswers x q (remaining r.inner) a b all) is h
 
 -- an answer to keys is a beginning of itself
-keys_in_part : (of : Query) (keys : Keys) (input : Option (List ℕ)) (kind : TrieKind) (bytes : List ℕ) (a b : Option (List ℕ)) (all : Bool) → KeysAnswered of keys input kind bytes a b all
-    → KeysAnsweredInPart of keys input kind bytes a b
-keys_in_part of keys input kind bytes a b all h = (h.0, h.1, begun_all of kind bytes h.0 a b all h.2)
+keys_in_part : (of : Query) (keys : Keys) (input : Option (List ℕ)) (Has : (List ℕ → Option ℕ) → Type 0) (a b : Option (List ℕ)) (all : Bool) → KeysAnswered of keys input Has a b all
+    → KeysAnsweredInPart of keys input Has a b
+keys_in_part of keys input Has a b all h = (h.0, h.1, begun_all of Has h.0 a b all h.2)
 
 -- an answer is a beginning of itself
-pub answer_in_part : (q : Question) (input : Option (List ℕ)) (kind : TrieKind) (bytes : List ℕ) (a b : Option (List ℕ)) (all : Bool) → Answers q input kind bytes a b all → AnswersInPart q input kind bytes a b
-answer_in_part (LookUp of keys) input kind bytes a b all h = keys_in_part of keys input kind bytes a b all h
-answer_in_part (Listing form choice order limit) input kind bytes a b all h = λ pairs lists. part_all a b (listed form (limited limit (picked order kind choice pairs))) (h.1 pairs lists).1
-answer_in_part (Code language name) input kind bytes a b all h = part_all a b (whole_code language kind name.now bytes) h.1
-answer_in_part Verify input kind bytes a b all h = h.1
-answer_in_part (Report form) input kind bytes a b all h = part_all a b (reported form (report_of kind bytes)) h.1
-answer_in_part (View view) input kind bytes a b all h = part_all a b (shown view kind bytes) h.1
+trie_in_part : (q : Question) (input : Option (List ℕ)) (kind : TrieKind) (bytes : List ℕ) (a b : Option (List ℕ)) (all : Bool) → Answers q input kind bytes a b all → AnswersInPart q input kind bytes a b
+trie_in_part (LookUp of keys) input kind bytes a b all h = keys_in_part of keys input (TrieFinds kind bytes) a b all h
+trie_in_part (Listing form choice order limit) input kind bytes a b all h = λ pairs lists. part_all a b (listed form (limited limit (picked order kind choice pairs))) (h.1 pairs lists).1
+trie_in_part (Code language name) input kind bytes a b all h = part_all a b (whole_code language kind name.now bytes) h.1
+trie_in_part Verify input kind bytes a b all h = h.1
+trie_in_part (Report form) input kind bytes a b all h = part_all a b (reported form (report_of kind bytes)) h.1
+trie_in_part (View view) input kind bytes a b all h = part_all a b (shown view kind bytes) h.1
+
+index_in_part : (q : Question) (input : Option (List ℕ)) (bytes : List ℕ) (a b : Option (List ℕ)) (all : Bool) → IndexAnswers q input bytes a b all → IndexAnswersInPart q input bytes a b
+index_in_part (LookUp of keys) input bytes a b all h = keys_in_part of keys input (IndexFinds of.asked bytes) a b all h
+index_in_part (Listing form choice order limit) input bytes a b all h = h.1
+index_in_part (Code language name) input bytes a b all h = h.1
+index_in_part Verify input bytes a b all h = h.1
+index_in_part (Report form) input bytes a b all h = h.1
+index_in_part (View view) input bytes a b all h = h.1
+
+pub answer_in_part : (x : Content) (q : Question) (input : Option (List ℕ)) (a b : Option (List ℕ)) (all : Bool) → ContentAnswers x q input a b all → ContentAnswersInPart x q input a b
+answer_in_part (of_trie kind bytes) q input a b all h = trie_in_part q input kind bytes a b all h
+answer_in_part (of_index bytes) q input a b all h = index_in_part q input bytes a b all h
 
 -- a beginning of an answer whose keys are no lines is one whatever standard input has
 other_part : (q : Question) (i j : Option (List ℕ)) (kind : TrieKind) (bytes : List ℕ) (a b : Option (List ℕ)) → (of_lines q ≡ true → ⊥) → AnswersInPart q i kind bytes a b → AnswersInPart q j kind bytes a b
@@ -88,10 +126,22 @@ other_part Verify i j kind bytes a b apart h = h
 other_part (Report form) i j kind bytes a b apart h = h
 other_part (View view) i j kind bytes a b apart h = h
 
-pub same_part : {R : Type 0} (place : Place) (remaining : R → Option (List ℕ)) (old new : Watched R) (q : Question) (kind : TrieKind) (bytes : List ℕ) (a b : Option (List ℕ))
-    → ((place ≡ Stream) × (of_lines q ≡ true) → ⊥) → (place ≡ Stream) ⊎ (new ≡ old) → AnswersInPart q (remaining new.inner) kind bytes a b → AnswersInPart q (remaining old.inner) kind bytes a b
-same_part place remaining old new q kind bytes a b apart (inl is) h = other_part q (remaining new.inner) (remaining old.inner) kind bytes a b (λ lines. apart (is, lines)) h
-same_part place remaining old new q kind bytes a b apart (inr is) h = subst (λ r. AnswersInPart q (remaining r.inner) kind bytes a b) is h
+other_part_index : (q : Question) (i j : Option (List ℕ)) (bytes : List ℕ) (a b : Option (List ℕ)) → (of_lines q ≡ true → ⊥) → IndexAnswersInPart q i bytes a b → IndexAnswersInPart q j bytes a b
+other_part_index (LookUp of keys) i j bytes a b apart h = (h.0, other_keys keys i j h.0 apart h.1, h.2)
+other_part_index (Listing form choice order limit) i j bytes a b apart h = h
+other_part_index (Code language name) i j bytes a b apart h = h
+other_part_index Verify i j bytes a b apart h = h
+other_part_index (Report form) i j bytes a b apart h = h
+other_part_index (View view) i j bytes a b apart h = h
+
+other_part_content : (x : Content) (q : Question) (i j : Option (List ℕ)) (a b : Option (List ℕ)) → (of_lines q ≡ true → ⊥) → ContentAnswersInPart x q i a b → ContentAnswersInPart x q j a b
+other_part_content (of_trie kind bytes) q i j a b apart h = other_part q i j kind bytes a b apart h
+other_part_content (of_index bytes) q i j a b apart h = other_part_index q i j bytes a b apart h
+
+pub same_part : {R : Type 0} (place : Place) (remaining : R → Option (List ℕ)) (old new : Watched R) (x : Content) (q : Question) (a b : Option (List ℕ))
+    → ((place ≡ Stream) × (of_lines q ≡ true) → ⊥) → (place ≡ Stream) ⊎ (new ≡ old) → ContentAnswersInPart x q (remaining new.inner) a b → ContentAnswersInPart x q (remaining old.inner) a b
+same_part place remaining old new x q a b apart (inl is) h = other_part_content x q (remaining new.inner) (remaining old.inner) a b (λ lines. apart (is, lines)) h
+same_part place remaining old new x q a b apart (inr is) h = subst (λ r. ContentAnswersInPart x q (remaining r.inner) a b) is h
 
 -- what is false is not so
 pub is_not : (b : Bool) → b ≡ false → IsTrue b → ⊥
@@ -99,7 +149,7 @@ is_not b is so = absurd (cc)
 
 -- what was read has no answer, and so the question ends
 pub ends_unanswered : (file : TrieFile) (q : Question) (i j : Option (List ℕ)) (files : Option Story) (held : List ℕ) (old new : Option (List ℕ)) (e : AskError) → IsRead file.place i files held
-    → ((kind : TrieKind) (bytes : List ℕ) → AnswersInPart q j kind bytes old new → AnswersInPart q i kind bytes old new) → IsUnanswered file q j held old new e
+    → ((x : Content) → ContentAnswersInPart x q j old new → ContentAnswersInPart x q i old new) → IsUnanswered file q j held old new e
     → EndsAsk file q i files old new (ask_refusal e)
 ends_unanswered file q i j files held old new TwoInputs read same h = absurd h
 ends_unanswered file q i j files held old new (Unread e) read same h = absurd h
@@ -107,7 +157,7 @@ ends_unanswered file q i j files held old new (NoTrie (BadTag why) t) read same 
 ends_unanswered file q i j files held old new (NoTrie (Damaged why) t) read same h = ((held, read, Damaged why, h.0), h.2)
 ends_unanswered file q i j files held old new (NoTrie (NotWellFormed k f) t) read same h = ((held, read, NotWellFormed k f, h.0), h.2)
 ends_unanswered file q i j files held old new (NoTrie OutOfMemory t) read same h = inl h.2
-ends_unanswered file q i j files held old new (Unanswered e) read same h = inr (record { held = held; read = read; kind = h.0; bytes = h.1; opens = h.2; begun = same h.0 h.1 h.3 })
+ends_unanswered file q i j files held old new (Unanswered e) read same h = inr (record { held = held; read = read; content = h.0; opens = h.1; begun = same h.0 h.2 })
 ends_unanswered file q i j files held old new (NotText key) read same h = (key.items, record { held = held; read = read; kind = h.0; bytes = h.1; opens = h.2; shows = h.3 }, h.4)
 
 -- why it has none is so of what was read
@@ -116,7 +166,7 @@ pub reason_unanswered : (file : TrieFile) (q : Question) (i j : Option (List ℕ
     → HasReason file q i files e
 reason_unanswered file q i j files held old new TwoInputs read h = tt
 reason_unanswered file q i j files held old new (Unread e) read h = tt
-reason_unanswered file q i j files held old new (NoTrie why t) read h = (held, read, h.0, h.1)
+reason_unanswered file q i j files held old new (NoTrie why t) read h = (held, read, h.0.0, h.1)
 reason_unanswered file q i j files held old new (Unanswered e) read h = tt
 reason_unanswered file q i j files held old new (NotText key) read h = record { held = held; read = read; kind = h.0; bytes = h.1; opens = h.2; shows = h.3 }
 
@@ -128,4 +178,4 @@ unanswered_of file q input held old new kind bytes TwoInputs opens h = h
 unanswered_of file q input held old new kind bytes (Unread e) opens h = h
 unanswered_of file q input held old new kind bytes (NoTrie why t) opens h = absurd h
 unanswered_of file q input held old new kind bytes (NotText key) opens h = (kind, bytes, opens, h.0, h.1)
-unanswered_of file q input held old new kind bytes (Unanswered e) opens h = (kind, bytes, opens, h)
+unanswered_of file q input held old new kind bytes (Unanswered e) opens h = (of_trie kind bytes, opens, h)

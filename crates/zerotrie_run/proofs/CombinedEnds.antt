@@ -1,5 +1,5 @@
 -- How a run ends in which no trie file is made of two others.
-use Rattle.std.proofs.Common.{◌≡◌, ℕ, List, Option, Some, None, Bool, true, false, Result, Ok, Err, Vec, Global, inl, inr}
+use Rattle.std.proofs.Common.{◌≡◌, ℕ, List, Option, Some, None, Bool, true, false, Result, Ok, Err, Vec, Global, inl}
 use Rattle.std.specs.Prelude.{unwrap_or}
 use Rattle.std.specs.declared.alloc.AllocError.{AllocError}
 use Rattle.zerotrie_queries.specs.declared.file.OpenError.TheVariants as unopened
@@ -30,6 +30,7 @@ made_ends made.NotPairs = input
 made_ends (made.NotPair bad) = input
 made_ends (made.Keys shown) = refused
 made_ends (made.Refused why) = refused
+made_ends (made.IndexRefused why) = refused
 made_ends made.OutOfMemory = failed
 
 ends_of : (e : CombineError) → Ends (combine_refusal e)

@@ -1,5 +1,5 @@
 -- What is opened of a file that was made of two others, and when none is made.
-use Rattle.std.proofs.Common.{◌≡◌, ◌⊎◌, ◌≤◌, ℕ, List, Option, Some, refl, sym, subst, arith, inl, inr}
+use Rattle.std.proofs.Common.{◌≡◌, ◌⊎◌, ◌≤◌, ℕ, List, Some, false, refl, subst, arith, inl, inr}
 use Rattle.zerotrie_core.specs.Maps.{Map}
 use Rattle.zerotrie_sealed.specs.Laws.{OneTrie}
 use Rattle.zerotrie_files.specs.Disks.{Story}
@@ -14,7 +14,7 @@ use Rattle.zerotrie_run.specs.declared.command.Side.TheVariants.{First, Second}
 use Rattle.zerotrie_run.specs.declared.status.Status.{Status}
 use Rattle.zerotrie_run.specs.declared.status.Status.TheVariants.{Done, Absent, Refused, Taken, BadUsage, BadInput, Unread, Unwritten, OutOfMemory, Closed}
 use Rattle.zerotrie_run.proofs.FileLemmas.{opened}
-use Rattle.zerotrie_run.proofs.MadeLemmas.{read_back, opens_made}
+use Rattle.zerotrie_run.proofs.MadeLemmas.{read_back, built_means, opens_made}
 use Rattle.zerotrie_run.proofs.RefusedLemmas.{read_once}
 
 pub combined_opens : OneTrie → CombinedOpens
@@ -35,7 +35,8 @@ combined_opens one c input before after held files known same made file stdin aw
         (
           pairs,
           both.4.1,
-          λ as_made. opens_made one c.form (kind_for c.kind pairs) pairs f.bytes made.file file stdin after.files back f.is f.build.1.means as_made,
+          λ as_made. opens_made one c.form (kind_for c.kind pairs) pairs f.bytes made.file file stdin after.files back f.is
+              (built_means c.form (kind_for c.kind pairs) false pairs f.bytes file.bare f.build as_made) as_made,
         ),
       ),
     )

@@ -1,5 +1,5 @@
--- A trie file that is made of two others: what was read of them, how the command ends, and why.
-use Rattle.std.proofs.Common.{◌≡◌, ◌⊎◌, ℕ, List, Option, Some, None, Bool, true, false, refl, sym, subst, inl, inr}
+-- A file that is made of two others: what was read of them, how the command ends, and why.
+use Rattle.std.proofs.Common.{◌≡◌, ◌⊎◌, ℕ, List, Option, None, false, refl, subst, inl, inr}
 use Rattle.std.specs.Prelude.{is_none}
 use Rattle.zerotrie_core.specs.Kinds.{kind_of}
 use Rattle.zerotrie_core.specs.Maps.{Map}
@@ -20,7 +20,6 @@ use Rattle.zerotrie_run.specs.declared.command.Check.TheVariants.{Full}
 use Rattle.zerotrie_run.specs.declared.command.Combine.{Combine}
 use Rattle.zerotrie_run.specs.declared.command.Place.{Place}
 use Rattle.zerotrie_run.specs.declared.command.Place.TheVariants.{File, Stream}
-use Rattle.zerotrie_run.specs.declared.command.Side.{Side}
 use Rattle.zerotrie_run.specs.declared.command.Side.TheVariants.{First, Second}
 
 -- a place that is read after another holds what it held, unless both are standard input
@@ -87,6 +86,7 @@ none_pair c bad m n (inr h) = h.2
 pub data IsOfPairs : MakeError → Type 0 where
   keys : (s : _) → IsOfPairs (made.Keys s)
   refused : (why : _) → IsOfPairs (made.Refused why)
+  index_refused : (why : _) → IsOfPairs (made.IndexRefused why)
   memory : IsOfPairs made.OutOfMemory
 
 pub of_pairs : (c : Combine) (e : MakeError) (m n : Map) → ExplainsMaps c e m n → IsOfPairs e
@@ -96,12 +96,14 @@ of_pairs c made.NotPairs m n h = absurd (none_pairs c m n h)
 of_pairs c (made.NotPair bad) m n h = absurd (none_pair c bad m n h)
 of_pairs c (made.Keys s) m n h = keys s
 of_pairs c (made.Refused why) m n h = refused why
+of_pairs c (made.IndexRefused why) m n h = index_refused why
 of_pairs c made.OutOfMemory m n h = memory
 
 made_ends : (c : Combine) (i : Option (List ℕ)) (files left : Option Story) (printed : Option (List ℕ)) (held other : List ℕ) (e : MakeError) → AreRead c i files held other → left ≡ files
     → OfHeld held other (ExplainsMaps c e) → IsOfPairs e → EndsCombine c i (world files printed) (world left printed) (combine_refusal (NotBuilt (build.NotMade e)))
 made_ends c i files left printed held other _ read same h (keys s) = (made.Keys s, (held, other, read, h), refl, (refl, same))
 made_ends c i files left printed held other _ read same h (refused why) = (made.Refused why, (held, other, read, h), refl, (refl, same))
+made_ends c i files left printed held other _ read same h (index_refused why) = (made.IndexRefused why, (held, other, read, h), refl, (refl, same))
 made_ends c i files left printed held other _ read same h memory = inl (refl, same)
 
 -- nothing is made of what was read, and so the command ends

@@ -20,7 +20,7 @@ use Rattle.zerotrie_run.specs.declared.command.Combine.{Combine}
 use Rattle.zerotrie_run.specs.declared.command.Command.{Command}
 use Rattle.zerotrie_run.specs.declared.command.Command.TheVariants as commands
 use Rattle.zerotrie_run.proofs.CombinedLemmas.{IsOfPairs, of_pairs}
-use Rattle.zerotrie_run.proofs.CombinedLemmas.IsOfPairs.{keys, refused, memory}
+use Rattle.zerotrie_run.proofs.CombinedLemmas.IsOfPairs.{keys, refused, index_refused, memory}
 use Rattle.zerotrie_run.proofs.ToldLemmas.{told_last, no_memory, failure_told}
 
 made_told : (o : Combine) (input : Option (List ℕ)) (files : Option Story) (a b c : Option (List ℕ)) (text : List ℕ) (read write closed : Bool) (e : MakeError) → OfFiles o input files (ExplainsMaps o e)
@@ -28,6 +28,7 @@ made_told : (o : Combine) (input : Option (List ℕ)) (files : Option Story) (a 
     → IsTold (commands.Combine o) input files a c (unwrap_or (combine_refusal (NotBuilt (build.NotMade e))) (failure read write closed))
 made_told o input files a b c text read write closed _ cause tells more h (keys s) = (made.Keys s, cause, refl, text, tells.0, tells.1, told_last a b c text more h)
 made_told o input files a b c text read write closed _ cause tells more h (refused why) = (made.Refused why, cause, refl, text, tells.0, tells.1, told_last a b c text more h)
+made_told o input files a b c text read write closed _ cause tells more h (index_refused why) = (made.IndexRefused why, cause, refl, text, tells.0, tells.1, told_last a b c text more h)
 made_told o input files a b c text read write closed _ cause tells more h memory = failure_told (commands.Combine o) input files a b c text read write closed tells.0 more h
 
 text_told : (o : Combine) (input : Option (List ℕ)) (files : Option Story) (a b c : Option (List ℕ)) (text : List ℕ) (read write closed : Bool) (e : CombineError) → HasCombineCause o input files e → TellsCombine e text

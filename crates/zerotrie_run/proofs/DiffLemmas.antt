@@ -1,22 +1,20 @@
 -- Two files that are compared.
-use Rattle.std.proofs.Common.{◌≡◌, ◌⊎◌, ◌||◌, ◌++◌, ◌∙◌, ℕ, List, Option, Some, None, Bool, true, false, Result, Ok, Err, Vec, refl, sym, subst, ap, inl, inr}
+use Rattle.std.proofs.Common.{◌≡◌, ◌⊎◌, ◌++◌, ◌∙◌, ℕ, List, Option, Bool, true, false, Result, Ok, Err, Vec, refl, sym, subst, inl, inr}
 use Rattle.std.specs.Prelude.{unwrap_or, IfOk, IsTrue}
 use Rattle.std.specs.Global.{Global}
 use Rattle.std.specs.declared.alloc.AllocError.{AllocError}
-use Rattle.std.specs.Io.KnownBytes.{Appends, Keeps}
+use Rattle.std.specs.Io.KnownBytes.{Keeps}
 use Rattle.std.proofs.KnownBytes.{Appends-kept, Appends-trans}
-use Rattle.zerotrie_core.specs.declared.TrieKind.{TrieKind}
 use Rattle.zerotrie_files.specs.Disks.{Story}
 use Rattle.zerotrie_files.specs.Faults.{Watched}
 use Rattle.zerotrie_queries.specs.Diffs.{change_lines}
 use Rattle.zerotrie_queries.specs.declared.file.OpenError.TheVariants.{BadTag, Damaged, NotWellFormed}
 use Rattle.zerotrie_queries.specs.declared.file.OpenError.TheVariants as unopened
 use Rattle.zerotrie_queries.proofs.PartLemmas.{part_all}
-use Rattle.zerotrie_run.specs.Runs.{HasNumberToo, IsDoubtful, IsRead, IsUnopened, HasNoTrie, ask_refusal}
+use Rattle.zerotrie_run.specs.Runs.{HasNumberToo, IsDoubtful, IsRead, ask_refusal}
 use Rattle.zerotrie_run.specs.Statuses.{failure}
-use Rattle.zerotrie_run.specs.Messages.{TellsAsk}
-use Rattle.zerotrie_run.specs.Told.{HasReason, HasDiffReason, IsTold, TellsMore, ended, last_text}
-use Rattle.zerotrie_run.specs.Diffs.{old_file, new_file, IsFileOf, IsDiffed, IsDiffedInPart, FailsDiff, RunsDiff, EndsDiff, HasNoTrieIn, IsEitherDoubtful, IsUnread, IsUnanswered, IsOneUnopened, NotesNumbers, TellsIfDoubtful, AreHeldCompared, AreHeldComparedInPart, AreUncompared}
+use Rattle.zerotrie_run.specs.Told.{HasReason, HasDiffReason, IsTold, TellsMore, ended}
+use Rattle.zerotrie_run.specs.Diffs.{old_file, new_file, IsFileOf, IsDiffed, IsDiffedInPart, FailsDiff, RunsDiff, EndsDiff, HasNoTrieIn, IsEitherDoubtful, IsUnread, IsUnanswered, NotesNumbers, TellsIfDoubtful, AreHeldCompared, AreHeldComparedInPart, AreUncompared}
 use Rattle.zerotrie_run.specs.declared.asking.AskError.{AskError}
 use Rattle.zerotrie_run.specs.declared.asking.AskError.TheVariants as ask
 use Rattle.zerotrie_run.specs.declared.comparing.DiffError.{DiffError}
@@ -28,7 +26,6 @@ use Rattle.zerotrie_run.specs.declared.command.Question.TheVariants.{Verify}
 use Rattle.zerotrie_run.specs.declared.command.TrieFile.{TrieFile}
 use Rattle.zerotrie_run.specs.declared.status.Status.{Status}
 use Rattle.zerotrie_run.specs.declared.status.Status.TheVariants.{Done, Absent, Refused, Taken, BadUsage, BadInput, Unread, Unwritten, OutOfMemory, Closed}
-use Rattle.zerotrie_run.proofs.ToldLemmas.{ask_told}
 
 -- a flush leaves what was told of two files
 pub kept_compared : (diff : Diff) (held other : List ℕ) (a b c : Option (List ℕ)) (same : Bool) → AreHeldCompared diff held other a b same → Keeps b c → AreHeldCompared diff held other a c same

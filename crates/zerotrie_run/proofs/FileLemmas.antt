@@ -1,5 +1,5 @@
 -- A file has one trie at most, and what is opened is not refused.
-use Rattle.std.proofs.Common.{◌≡◌, ◌++◌, ℕ, List, [], ◌∷◌, Option, Some, None, refl, sym, subst, ap, ◌∙◌, inl, inr, arith, take, drop, take-append-drop}
+use Rattle.std.proofs.Common.{◌≡◌, ◌<◌, ◌^◌, ◌++◌, ℕ, List, [], ◌∷◌, Option, Some, None, refl, sym, subst, ap, ◌∙◌, inl, inr, arith, take, drop, take-append-drop}
 use Rattle.zerotrie_core.specs.Kind.{Kind, simple_ascii, ignore_case, perfect_hash, extended_capacity, tag}
 use Rattle.zerotrie_core.specs.WellFormed.{IsWellFormed}
 use Rattle.zerotrie_core.specs.Kinds.{kind_of, IsTag}
@@ -7,8 +7,8 @@ use Rattle.zerotrie_core.specs.declared.TrieKind.{TrieKind}
 use Rattle.zerotrie_core.specs.declared.TrieKind.TheVariants.{Simple, Ignore, Hash, Ext}
 use Rattle.zerotrie_any.specs.Tagged.{tagged, IsTagFault}
 use Rattle.zerotrie_any.specs.declared.bytes.TagError.{TagError}
-use Rattle.zerotrie_sealed.specs.Sealed.{IsSealed}
-use Rattle.zerotrie_sealed.specs.Laws.{OneTrie}
+use Rattle.zerotrie_sealed.specs.Sealed.{IsSealedAs, IsSealedIndex, index_number}
+use Rattle.zerotrie_sealed.specs.Laws.{OneTrie, OneContent}
 use Rattle.zerotrie_sealed.specs.declared.reading.SealError.{SealError}
 use Rattle.zerotrie_queries.specs.Files.{Holds, HoldsUnsealed, HoldsSealed, HasMagic, HasNoKind, IsDamaged}
 use Rattle.zerotrie_queries.specs.declared.file.OpenError.{OpenError}
@@ -54,15 +54,15 @@ no_tag ignore_case is = omega (arith, is)
 no_tag perfect_hash is = omega (arith, is)
 no_tag extended_capacity is = omega (arith, is)
 
-sealed_magic : (j : Kind) (a file : List ℕ) → IsSealed j a file → HasMagic file
-sealed_magic j a file sealed = ap (take 8) sealed.parts
+sealed_magic : (number : ℕ) (a file : List ℕ) → IsSealedAs number a file → HasMagic file
+sealed_magic number a file sealed = ap (take 8) sealed.parts
 
 tagged_magic : (k : Kind) (b file : List ℕ) → file ≡ tagged k b → HasMagic file → ⊥
 tagged_magic k b file is has = no_tag k (ap first_of (ap (λ m. m ++ drop 8 file) (sym has) ∙ take-append-drop 8 file ∙ is))
 
 -- no file is sealed and has the number of a kind in front
 apart : (named : Option TrieKind) (file : List ℕ) (j k : TrieKind) (a b : List ℕ) → HoldsSealed named file j a → HoldsUnsealed named file k b → ⊥
-apart None file j k a b sealed is = tagged_magic (kind_of k) b file is (sealed_magic (kind_of j) a file sealed)
+apart None file j k a b sealed is = tagged_magic (kind_of k) b file is (sealed_magic (tag (kind_of j)) a file sealed)
 apart (Some n) file j k a b sealed is = sealed
 
 same_unsealed : (named : Option TrieKind) (file : List ℕ) (j k : TrieKind) (a b : List ℕ) → HoldsUnsealed named file j a → HoldsUnsealed named file k b → (kind_of j ≡ kind_of k) × (a ≡ b)
@@ -82,6 +82,24 @@ held_once one named file j k a b (inl h) (inr i) = absurd (apart named file j k 
 held_once one named file j k a b (inr h) (inl i) = absurd (apart named file k j b a i h)
 held_once one named file j k a b (inr h) (inr i) = same_unsealed named file j k a b h i
 
+tag_below : (k : Kind) → tag k < 2 ^ 16
+tag_below simple_ascii = omega arith
+tag_below ignore_case = omega arith
+tag_below perfect_hash = omega arith
+tag_below extended_capacity = omega arith
+
+-- the number of an index is that of no kind
+no_index_tag : (k : Kind) → index_number ≡ tag k → ⊥
+no_index_tag simple_ascii is = omega (arith, is)
+no_index_tag ignore_case is = omega (arith, is)
+no_index_tag perfect_hash is = omega (arith, is)
+no_index_tag extended_capacity is = omega (arith, is)
+
+-- the file of an index has no trie
+pub no_trie : OneContent → (file : List ℕ) (k : TrieKind) (index b : List ℕ) → IsSealedIndex index file → Holds None file k b → ⊥
+no_trie one file k index b is (inl sealed) = no_index_tag (kind_of k) (one index_number (tag (kind_of k)) index b file (omega arith) (tag_below (kind_of k)) is sealed).0
+no_trie one file k index b is (inr bare) = tagged_magic (kind_of k) b file bare (sealed_magic index_number index file is)
+
 -- what is opened of a file it has
 pub holds_of : (by : Check) (named : Option TrieKind) (file : List ℕ) (k : TrieKind) (b : List ℕ) → OpensBy by named file k b → Holds named file k b
 holds_of check.Skip named file k b h = h
@@ -98,7 +116,7 @@ opens_of check.Full named file k b h good = (h, good)
 
 -- a file that has bytes of a kind has a known kind
 has_kind : (named : Option TrieKind) (file : List ℕ) (k : TrieKind) (b : List ℕ) (why : TagError) → HasNoKind named file why → Holds named file k b → ⊥
-has_kind None file k b why none (inl sealed) = none.0 (sealed_magic (kind_of k) b file sealed)
+has_kind None file k b why none (inl sealed) = none.0 (sealed_magic (tag (kind_of k)) b file sealed)
 has_kind None file k b why none (inr is) =
     let told : IsTagFault IsTag (tagged (kind_of k) b) why = subst (λ f. IsTagFault IsTag f why) is none.1 in
     told.1 (k, refl)

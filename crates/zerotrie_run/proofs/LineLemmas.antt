@@ -7,7 +7,6 @@ use Rattle.std.proofs.KnownBytes.{Consumes-nil, Consumes-trans, Consumes-whole}
 use Rattle.zerotrie_lines.specs.Lines.{lines_of}
 use Rattle.zerotrie_lines.specs.Blocks.{AreWhole, HasFeed}
 use Rattle.zerotrie_files.specs.Reads.{Gives}
-use Rattle.zerotrie_core.specs.declared.TrieKind.{TrieKind}
 use Rattle.zerotrie_queries.specs.declared.lookups.Query.{Query}
 use Rattle.zerotrie_queries.specs.Answers.{AreAnswered, AreAnsweredInPart}
 use Rattle.zerotrie_queries.proofs.AnswerLemmas.{none_answered, more_answered, begun_all, begun_front, more_begun}
@@ -16,24 +15,24 @@ use Rattle.zerotrie_run.specs.Runs.{KeysAnswered, KeysAnsweredInPart, AreKeys}
 use Rattle.zerotrie_run.specs.declared.command.Keys.TheVariants.{Lines}
 
 -- What was read of an input and answered, and what was read and is held. What was answered is whole lines.
-pub record LinesAnswered (of : Query) (kind : TrieKind) (bytes : List ℕ) (input left : Option (List ℕ)) (held : List ℕ) (old new : Option (List ℕ)) (all : Bool) : Type 0 where
+pub record LinesAnswered (of : Query) (Has : (List ℕ → Option ℕ) → Type 0) (input left : Option (List ℕ)) (held : List ℕ) (old new : Option (List ℕ)) (all : Bool) : Type 0 where
   pub done : List ℕ
   pub whole : AreWhole done
   pub consumes : Consumes input left (done ++ held)
-  pub answered : AreAnswered of kind bytes (lines_of done) old new all
+  pub answered : AreAnswered of Has (lines_of done) old new all
 
-pub lines_first : (of : Query) (kind : TrieKind) (bytes : List ℕ) (input old : Option (List ℕ)) → LinesAnswered of kind bytes input input [] old old true
-lines_first of kind bytes input old = record {
+pub lines_first : (of : Query) (Has : (List ℕ → Option ℕ) → Type 0) (input old : Option (List ℕ)) → LinesAnswered of Has input input [] old old true
+lines_first of Has input old = record {
   done = [];
   whole = λ rest. refl;
   consumes = Consumes-nil input;
-  answered = none_answered of kind bytes old;
+  answered = none_answered of Has old;
 }
 
 -- more was read
-pub lines_read : (of : Query) (kind : TrieKind) (bytes : List ℕ) (input left after : Option (List ℕ)) (held more : List ℕ) (old new : Option (List ℕ)) (all ended : Bool)
-    → LinesAnswered of kind bytes input left held old new all → Gives left after held more ended → LinesAnswered of kind bytes input after more old new all
-lines_read of kind bytes input left after held more old new all ended t g = record {
+pub lines_read : (of : Query) (Has : (List ℕ → Option ℕ) → Type 0) (input left after : Option (List ℕ)) (held more : List ℕ) (old new : Option (List ℕ)) (all ended : Bool)
+    → LinesAnswered of Has input left held old new all → Gives left after held more ended → LinesAnswered of Has input after more old new all
+lines_read of Has input left after held more old new all ended t g = record {
   done = t.done;
   whole = t.whole;
   consumes = subst (Consumes input after) (append_assoc t.done held g.bytes ∙ ap (λ l. t.done ++ l) (sym g.adds)) (Consumes-trans input left after (t.done ++ held) g.bytes t.consumes g.consumes);
@@ -41,10 +40,10 @@ lines_read of kind bytes input left after held more old new all ended t g = reco
 }
 
 -- a part of what is held was answered
-answered_part : (of : Query) (kind : TrieKind) (bytes : List ℕ) (input left : Option (List ℕ)) (held part : List ℕ) (old mid new : Option (List ℕ)) (all found : Bool)
-    → (t : LinesAnswered of kind bytes input left held old mid all) → AreAnswered of kind bytes (lines_of part) mid new found → AreAnswered of kind bytes (lines_of (t.done ++ part)) old new (all && found)
-answered_part of kind bytes input left held part old mid new all found t h =
-    subst (λ lines. AreAnswered of kind bytes lines old new (all && found)) (sym (t.whole part)) (more_answered of kind bytes (lines_of t.done) (lines_of part) old mid new all found t.answered h)
+answered_part : (of : Query) (Has : (List ℕ → Option ℕ) → Type 0) (input left : Option (List ℕ)) (held part : List ℕ) (old mid new : Option (List ℕ)) (all found : Bool)
+    → (t : LinesAnswered of Has input left held old mid all) → AreAnswered of Has (lines_of part) mid new found → AreAnswered of Has (lines_of (t.done ++ part)) old new (all && found)
+answered_part of Has input left held part old mid new all found t h =
+    subst (λ lines. AreAnswered of Has lines old new (all && found)) (sym (t.whole part)) (more_answered of Has (lines_of t.done) (lines_of part) old mid new all found t.answered h)
 
 whole-append : (a b : List ℕ) → AreWhole a → AreWhole b → AreWhole (a ++ b)
 whole-append a b h k rest =
@@ -55,24 +54,24 @@ whole-append a b h k rest =
     ∙ ap (λ l. l ++ lines_of rest) (sym (h b))
 
 -- whole lines were answered, and the rest is held
-pub lines_part : (of : Query) (kind : TrieKind) (bytes : List ℕ) (input left : Option (List ℕ)) (held part rest : List ℕ) (old mid new : Option (List ℕ)) (all found next : Bool)
-    → LinesAnswered of kind bytes input left held old mid all → held ≡ part ++ rest → AreWhole part → AreAnswered of kind bytes (lines_of part) mid new found → next ≡ (all && found)
-    → LinesAnswered of kind bytes input left rest old new next
-lines_part of kind bytes input left held part rest old mid new all found next t cut whole h is = rw is (record {
+pub lines_part : (of : Query) (Has : (List ℕ → Option ℕ) → Type 0) (input left : Option (List ℕ)) (held part rest : List ℕ) (old mid new : Option (List ℕ)) (all found next : Bool)
+    → LinesAnswered of Has input left held old mid all → held ≡ part ++ rest → AreWhole part → AreAnswered of Has (lines_of part) mid new found → next ≡ (all && found)
+    → LinesAnswered of Has input left rest old new next
+lines_part of Has input left held part rest old mid new all found next t cut whole h is = rw is (record {
   done = t.done ++ part;
   whole = whole-append t.done part t.whole whole;
   consumes = subst (Consumes input left) (ap (λ l. t.done ++ l) cut ∙ sym (append_assoc t.done part rest)) t.consumes;
-  answered = answered_part of kind bytes input left held part old mid new all found t h;
+  answered = answered_part of Has input left held part old mid new all found t h;
 })
 
 -- all that is held was answered, and the input has ended
-pub lines_ends : (of : Query) (kind : TrieKind) (bytes : List ℕ) (input left : Option (List ℕ)) (held part : List ℕ) (old mid new : Option (List ℕ)) (all found next : Bool)
-    → LinesAnswered of kind bytes input left held old mid all → part ≡ held → IsAtEnd left → AreAnswered of kind bytes (lines_of part) mid new found → next ≡ (all && found)
-    → KeysAnswered of Lines input kind bytes old new next
-lines_ends of kind bytes input left held part old mid new all found next t same end h is = rw is (
+pub lines_ends : (of : Query) (Has : (List ℕ → Option ℕ) → Type 0) (input left : Option (List ℕ)) (held part : List ℕ) (old mid new : Option (List ℕ)) (all found next : Bool)
+    → LinesAnswered of Has input left held old mid all → part ≡ held → IsAtEnd left → AreAnswered of Has (lines_of part) mid new found → next ≡ (all && found)
+    → KeysAnswered of Lines input Has old new next
+lines_ends of Has input left held part old mid new all found next t same end h is = rw is (
   lines_of (t.done ++ part),
   Consumes-whole input left (t.done ++ held) (λ known. lines_of (t.done ++ part) ≡ lines_of known) t.consumes end (ap (λ l. lines_of (t.done ++ l)) same),
-  answered_part of kind bytes input left held part old mid new all found t h,
+  answered_part of Has input left held part old mid new all found t h,
 )
 
 -- what was answered are the first lines of the input, and more of them may follow
@@ -82,11 +81,11 @@ first_lines (Some known) None done held whole c = absurd c
 first_lines (Some known) (Some l) done held whole c = (lines_of (held ++ l), sym (ap lines_of (c ∙ append_assoc done held l) ∙ whole (held ++ l)))
 
 -- no more is answered
-pub lines_stops : (of : Query) (kind : TrieKind) (bytes : List ℕ) (input left : Option (List ℕ)) (held : List ℕ) (old new : Option (List ℕ)) (all : Bool) → LinesAnswered of kind bytes input left held old new all
-    → KeysAnsweredInPart of Lines input kind bytes old new
-lines_stops of kind bytes input left held old new all t =
+pub lines_stops : (of : Query) (Has : (List ℕ → Option ℕ) → Type 0) (input left : Option (List ℕ)) (held : List ℕ) (old new : Option (List ℕ)) (all : Bool) → LinesAnswered of Has input left held old new all
+    → KeysAnsweredInPart of Lines input Has old new
+lines_stops of Has input left held old new all t =
     let k = first_lines input left t.done held t.whole t.consumes in
-    (lines_of t.done ++ k.0, k.1, begun_front of kind bytes (lines_of t.done) k.0 old new (begun_all of kind bytes (lines_of t.done) old new all t.answered))
+    (lines_of t.done ++ k.0, k.1, begun_front of Has (lines_of t.done) k.0 old new (begun_all of Has (lines_of t.done) old new all t.answered))
 
 -- What of the bytes that are held is answered: whole lines, or all if no more come.
 pub record IsNext (ended : Bool) (left : Option (List ℕ)) (held part rest : List ℕ) : Type 0 where
@@ -114,12 +113,12 @@ next_lines false (Some known) (Some l) done held part rest whole c n =
     (lines_of (rest ++ l), sym lines)
 
 -- a beginning of the answers to what is next was printed
-pub lines_fails : (of : Query) (kind : TrieKind) (bytes : List ℕ) (input left : Option (List ℕ)) (held part rest : List ℕ) (old mid new : Option (List ℕ)) (all ended : Bool)
-    → LinesAnswered of kind bytes input left held old mid all → IsNext ended left held part rest → AreAnsweredInPart of kind bytes (lines_of part) mid new → KeysAnsweredInPart of Lines input kind bytes old new
-lines_fails of kind bytes input left held part rest old mid new all ended t n h =
+pub lines_fails : (of : Query) (Has : (List ℕ → Option ℕ) → Type 0) (input left : Option (List ℕ)) (held part rest : List ℕ) (old mid new : Option (List ℕ)) (all ended : Bool)
+    → LinesAnswered of Has input left held old mid all → IsNext ended left held part rest → AreAnsweredInPart of Has (lines_of part) mid new → KeysAnsweredInPart of Lines input Has old new
+lines_fails of Has input left held part rest old mid new all ended t n h =
     let k = next_lines ended input left t.done held part rest t.whole t.consumes n in
     let first = lines_of t.done ++ lines_of part in
-    (first ++ k.0, k.1, begun_front of kind bytes first k.0 old new (more_begun of kind bytes (lines_of t.done) (lines_of part) old mid new all t.answered h))
+    (first ++ k.0, k.1, begun_front of Has first k.0 old new (more_begun of Has (lines_of t.done) (lines_of part) old mid new all t.answered h))
 
 below_or_not : (a b : ℕ) → (a < b) ⊎ (b ≤ a)
 below_or_not zero zero = inr (omega arith)
@@ -147,9 +146,9 @@ consumes_kept (Some known) (Some l) None bytes c k = absurd k
 consumes_kept (Some known) (Some l) (Some a) bytes c k = rw k c
 
 -- no more can be read, and all whole lines so far were answered
-pub lines_break : {IsHanded : Type 0} (of : Query) (kind : TrieKind) (bytes : List ℕ) (input left after : Option (List ℕ)) (held : List ℕ) (old new : Option (List ℕ)) (all : Bool)
-    → LinesAnswered of kind bytes input left held old new all → Keeps left after → ((k : ℕ) → HasFeed held k → ⊥) → IsHanded → WholeAnswered of kind bytes input after old new IsHanded
-lines_break of kind bytes input left after held old new all t keeps none handed = record {
+pub lines_break : {IsHanded : Type 0} (of : Query) (Has : (List ℕ → Option ℕ) → Type 0) (input left after : Option (List ℕ)) (held : List ℕ) (old new : Option (List ℕ)) (all : Bool)
+    → LinesAnswered of Has input left held old new all → Keeps left after → ((k : ℕ) → HasFeed held k → ⊥) → IsHanded → WholeAnswered of Has input after old new IsHanded
+lines_break of Has input left after held old new all t keeps none handed = record {
   whole = t.done;
   part = held;
   read = consumes_kept input left after (t.done ++ held) t.consumes keeps;

@@ -1,5 +1,5 @@
 -- What a file that was made holds, when it is read again.
-use Rattle.std.proofs.Common.{◌≡◌, ℕ, List, Option, Some, refl, sym, subst, ap, ◌∙◌, inl, inr}
+use Rattle.std.proofs.Common.{◌≡◌, ℕ, List, Bool, true, false, Option, Some, None, refl, sym, subst, ap, ◌∙◌, inl, inr, arith}
 use Rattle.std.specs.Prelude.{IfSome}
 use Rattle.std.proofs.lemmas.Option.{same_Some}
 use Rattle.zerotrie_core.specs.Kind.{Kind}
@@ -8,23 +8,27 @@ use Rattle.zerotrie_core.specs.Texts.{Means}
 use Rattle.zerotrie_core.specs.WellFormed.{IsWellFormed}
 use Rattle.zerotrie_lines.specs.Tables.{lowered}
 use Rattle.zerotrie_any.specs.Tagged.{tagged}
-use Rattle.zerotrie_sealed.specs.Sealed.{IsSealed}
-use Rattle.zerotrie_sealed.specs.Laws.{OneTrie}
+use Rattle.zerotrie_sealed.specs.Sealed.{IsSealed, IsSealedIndex, index_number}
+use Rattle.zerotrie_sealed.specs.Laws.{OneTrie, OneContent}
+use Rattle.zerotrie_index.specs.Built.{IsIndexOf}
 use Rattle.zerotrie_core.specs.Kinds.{kind_of}
 use Rattle.zerotrie_queries.specs.Files.{Holds}
 use Rattle.zerotrie_core.specs.declared.TrieKind.{TrieKind}
 use Rattle.zerotrie_files.specs.Disks.{Story, Known}
 use Rattle.zerotrie_files.specs.Stores.{WasReplaced}
 use Rattle.zerotrie_making.specs.Kept.{kept}
-use Rattle.zerotrie_making.specs.Plans.{kind_for, IsFormOf}
+use Rattle.zerotrie_making.specs.Plans.{content_of, an_index, kind_for, IsFormOf}
+use Rattle.zerotrie_making.specs.Made.{IsBuiltAs}
 use Rattle.zerotrie_making.specs.declared.making.FileForm.{FileForm}
 use Rattle.zerotrie_making.specs.declared.making.FileForm.TheVariants as form
-use Rattle.zerotrie_run.specs.Runs.{World, IsRead, IsWritten}
-use Rattle.zerotrie_run.specs.Laws.{IsNamedAsMade, MadeOpens, OpensAsMade}
+use Rattle.zerotrie_run.specs.Runs.{World, Content, IsRead, IsWritten, OpensFor}
+use Rattle.zerotrie_run.specs.Runs.Content.{of_trie, of_index}
+use Rattle.zerotrie_run.specs.Laws.{IsNamedAsMade, MadeOpens, OpensAsMade, MadeIndexOpens, IndexOpensAsMade, IsIndexAsMade}
+use Rattle.zerotrie_run.specs.declared.command.Question.{Question}
 use Rattle.zerotrie_run.specs.declared.command.TrieFile.{TrieFile}
 use Rattle.zerotrie_run.specs.declared.command.Place.{Place}
 use Rattle.zerotrie_run.specs.declared.command.Place.TheVariants.{File, Stream}
-use Rattle.zerotrie_run.proofs.FileLemmas.{named, held_once, holds_of, opens_of, opened}
+use Rattle.zerotrie_run.proofs.FileLemmas.{named, held_once, holds_of, no_trie, opens_of, opened}
 
 -- what was written to a place is read of it
 pub read_back : (place : Place) (stdin : Option (List ℕ)) (bytes got : List ℕ) (before after : World) (held files : Story) → before.files ≡ Some held → after.files ≡ Some files
@@ -47,6 +51,15 @@ made_holds form.Tagged kind bytes file choice is as_made =
     (n.0, n.1, subst (λ o. Holds o file n.0 bytes) (sym as_made) (inr (is ∙ ap (λ j. tagged j bytes) (sym n.1))))
 made_holds form.Bare kind bytes file choice is as_made =
     (as_made.0, as_made.2, subst (λ o. Holds o file as_made.0 bytes) (sym as_made.1) (inr (refl, sym is)))
+made_holds form.Index kind bytes file choice is as_made = absurd as_made
+
+-- the bytes of such a file mean the map of the pairs
+pub built_means : (of : FileForm) (kind : Kind) (sorted : Bool) (pairs : Pairs) (bytes : List ℕ) (choice : Option TrieKind) → IsBuiltAs (content_of of kind) sorted pairs bytes → IsNamedAsMade of kind choice
+    → Means kind bytes (map_of pairs)
+built_means form.Sealed kind sorted pairs bytes choice built as_made = built.1.means
+built_means form.Tagged kind sorted pairs bytes choice built as_made = built.1.means
+built_means form.Bare kind sorted pairs bytes choice built as_made = built.1.means
+built_means form.Index kind sorted pairs bytes choice built as_made = absurd as_made
 
 -- a file that holds what was made opens as it was made
 pub opens_made : OneTrie → (of : FileForm) (kind : Kind) (pairs : Pairs) (bytes made : List ℕ) (file : TrieFile) (stdin : Option (List ℕ)) (files : Option Story)
@@ -76,5 +89,44 @@ made_opens one build input before after held files known same made file stdin aw
     λ got read. read_back build.to stdin made.file got before after held files known same away made.written (subst (λ p. IsRead p stdin after.files got) at read) in (
       made.made.0,
       made.made.1,
-      λ as_made. opens_made one build.plan.form kind pairs f.bytes made.file file stdin after.files back f.is f.build.1.means as_made,
+      λ as_made. opens_made one build.plan.form kind pairs f.bytes made.file file stdin after.files back f.is
+          (built_means build.plan.form kind build.plan.sorted pairs f.bytes file.bare f.build as_made) as_made,
+    )
+
+-- what a build of an index returns is one of the pairs
+index_built : (sorted : Bool) (pairs : Pairs) (bytes : List ℕ) → IsBuiltAs an_index sorted pairs bytes → IsIndexOf pairs bytes
+index_built true pairs bytes built = built.1
+index_built false pairs bytes built = built
+
+-- what is opened of a file that is a sealed index is that index
+index_opened : OneContent → (pairs : Pairs) (bytes made : List ℕ) (file : TrieFile) → file.bare ≡ None → IsSealedIndex bytes made → IsIndexOf pairs bytes
+    → (question : Question) (content : Content) → OpensFor file question made content → IsIndexAsMade pairs made content
+index_opened one pairs bytes made file plain is index question (of_trie k b) opens =
+    absurd (no_trie one made k bytes b is (subst (λ o. Holds o made k b) plain (holds_of file.check file.bare made k b opens)))
+index_opened one pairs bytes made file plain is index question (of_index b) opens =
+    let same = (one index_number index_number bytes b made (omega arith) (omega arith) is opens.1.1).1 in
+    (opens.1.1, subst (λ x. IsIndexOf pairs x) same index)
+
+-- a file that holds a sealed index opens as it
+index_opens : OneContent → (pairs : Pairs) (bytes made : List ℕ) (file : TrieFile) (stdin : Option (List ℕ)) (files : Option Story)
+    → ((got : List ℕ) → IsRead file.place stdin files got → got ≡ made) → file.bare ≡ None → IsSealedIndex bytes made → IsIndexOf pairs bytes
+    → IndexOpensAsMade file stdin files pairs made
+index_opens one pairs bytes made file stdin files back plain is index = record {
+  taken = λ question asks none.
+      none.3.1 bytes (asks, (plain, subst (λ x. IsSealedIndex bytes x) (sym (back none.0 none.1)) is, λ full. (index.0, index.1)));
+  opened = λ question got content read opens.
+      index_opened one pairs bytes made file plain is index question content (subst (λ x. OpensFor file question x content) (back got read) opens);
+}
+
+pub made_index_opens : OneContent → MadeIndexOpens
+made_index_opens one build input before after held files known same made file stdin away at as_index plain =
+    let f = made.made.2 in
+    let pairs = kept build.plan.duplicates (lowered build.plan.lower_case made.made.0) in
+    let kind = kind_for build.plan.kind pairs in
+    let back : (got : List ℕ) → IsRead file.place stdin after.files got → got ≡ made.file =
+    λ got read. read_back build.to stdin made.file got before after held files known same away made.written (subst (λ p. IsRead p stdin after.files got) at read) in (
+      made.made.0,
+      made.made.1,
+      index_opens one pairs f.bytes made.file file stdin after.files back plain (subst (λ of. IsFormOf of kind f.bytes made.file) as_index f.is)
+          (index_built build.plan.sorted pairs f.bytes (subst (λ of. IsBuiltAs (content_of of kind) build.plan.sorted pairs f.bytes) as_index f.build)),
     )

@@ -8,7 +8,7 @@ use Rattle.zerotrie_making.specs.declared.refused.Shown.{Shown}
 use Rattle.zerotrie_making.specs.declared.refused.NoPair.{NoPair}
 use Rattle.zerotrie_making.specs.declared.refused.NoPair.TheVariants.{Member, Item}
 use Rattle.zerotrie_making.specs.declared.refused.MakeError.{MakeError}
-use Rattle.zerotrie_making.specs.declared.refused.MakeError.TheVariants.{Line, NotJson, NotPairs, NotPair, Keys, Refused, OutOfMemory}
+use Rattle.zerotrie_making.specs.declared.refused.MakeError.TheVariants.{Line, NotJson, NotPairs, NotPair, Keys, Refused, IndexRefused, OutOfMemory}
 use Rattle.zerotrie_run.specs.Told.{told_step}
 use Rattle.zerotrie_run.specs.declared.asking.AskError.{AskError}
 use Rattle.zerotrie_run.specs.declared.asking.AskError.TheVariants as ask
@@ -77,6 +77,7 @@ made_on NotPairs a b h e = tt
 made_on (NotPair bad) a b h e = no_pair_on bad a b h e
 made_on (Keys s) a b h e = (pairs_on s a b h.0 e, keys_on s a b h.1 e)
 made_on (Refused why) a b h e = tt
+made_on (IndexRefused why) a b h e = tt
 made_on OutOfMemory a b h e = tt
 
 -- a key that is told whole

@@ -3,8 +3,10 @@ use Rattle.std.proofs.Common.{◌≡◌, ◌⊎◌, ◌≤◌, arith, ℕ, List,
 use Rattle.std.proofs.lemmas.Option.{same_Some}
 use Rattle.zerotrie_sealed.specs.Laws.{OneTrie}
 use Rattle.zerotrie_files.specs.Disks.{Story}
-use Rattle.zerotrie_run.specs.Runs.{World, IsRead, IsUnopened, RunsAsk, RunsBuild}
-use Rattle.zerotrie_run.specs.Laws.{HasTrie, MakesFile, RefusedExactly, UnmadeIsRefused}
+use Rattle.zerotrie_run.specs.Runs.{World, Content, IsRead, IsUnopenedFor, OpensFor, RunsAsk, RunsBuild}
+use Rattle.zerotrie_run.specs.Runs.Content.{of_trie, of_index}
+use Rattle.zerotrie_queries.specs.declared.file.OpenError.{OpenError}
+use Rattle.zerotrie_run.specs.Laws.{HasAnswer, MakesFile, RefusedExactly, UnmadeIsRefused}
 use Rattle.zerotrie_run.specs.Statuses.{number_of}
 use Rattle.zerotrie_run.specs.declared.status.Status.{Status}
 use Rattle.zerotrie_run.specs.declared.status.Status.TheVariants.{Done, Absent, Refused, Taken, BadUsage, BadInput, Unread, Unwritten, OutOfMemory, Closed}
@@ -20,17 +22,21 @@ pub read_once : (place : Place) (input : List ℕ) (files : Story) (a b : List �
 read_once (File path) input files a b h k = same_Some a b (sym h ∙ k)
 read_once Stream input files a b h k = h ∙ sym k
 
-only_so : OneTrie → (file : TrieFile) (q : Question) (input : List ℕ) (files : Story) (old new : Option (List ℕ)) → RunsAsk file q (Some input) (Some files) old new BadInput → HasTrie file input files → ⊥
+only_so : OneTrie → (file : TrieFile) (q : Question) (input : List ℕ) (files : Story) (old new : Option (List ℕ)) → RunsAsk file q (Some input) (Some files) old new BadInput → HasAnswer file q input files → ⊥
 only_so one file q input files old new runs has =
     let none = runs.0 in
     let same = read_once file.place input files none.0 has.0 none.1 has.1 in
-    opened one file.check file.bare has.0 none.2 has.2 has.3 (subst (λ held. IsUnopened file held none.2) same none.3) has.4
+    not_opened one file q has.0 none.2 has.2 (subst (λ held. IsUnopenedFor file q held none.2) same none.3) has.3
+  where
+    not_opened : OneTrie → (file : TrieFile) (q : Question) (held : List ℕ) (why : OpenError) (x : Content) → IsUnopenedFor file q held why → OpensFor file q held x → ⊥
+    not_opened one file q held why (of_trie kind bytes) none h = opened one file.check file.bare held why kind bytes none.0 h
+    not_opened one file q held why (of_index bytes) none h = none.1 bytes h
 
-always_so : (file : TrieFile) (q : Question) (input : List ℕ) (files : Story) (old new : Option (List ℕ)) (status : Status) → RunsAsk file q (Some input) (Some files) old new status → (HasTrie file input files → ⊥)
+always_so : (file : TrieFile) (q : Question) (input : List ℕ) (files : Story) (old new : Option (List ℕ)) (status : Status) → RunsAsk file q (Some input) (Some files) old new status → (HasAnswer file q input files → ⊥)
     → (status ≡ BadInput) ⊎ (status ≡ BadUsage) ⊎ (3 ≤ number_of status)
-always_so file q input files old new Done h none = absurd (none (h.held, h.read, h.kind, h.bytes, h.opens))
-always_so file q input files old new Absent h none = absurd (none (h.held, h.read, h.kind, h.bytes, h.opens))
-always_so file q input files old new Refused h none = absurd (none (h.1.held, h.1.read, h.1.kind, h.1.bytes, h.1.opens))
+always_so file q input files old new Done h none = absurd (none (h.held, h.read, h.content, h.opens))
+always_so file q input files old new Absent h none = absurd (none (h.held, h.read, h.content, h.opens))
+always_so file q input files old new Refused h none = absurd (none (h.1.held, h.1.read, of_trie h.1.kind h.1.bytes, h.1.opens))
 always_so file q input files old new Taken h none = absurd h
 always_so file q input files old new BadUsage h none = inr (inl refl)
 always_so file q input files old new BadInput h none = inl refl

@@ -53,6 +53,7 @@ build_text_told build input files a b c text read write closed (unmade.NotMade m
 build_text_told build input files a b c text read write closed (unmade.NotMade (made.NotPair bad)) cause tells more h = (cause.0, cause.1, made.NotPair bad, cause.2, refl, text, tells.0, tells.1, told_last a b c text more h)
 build_text_told build input files a b c text read write closed (unmade.NotMade (made.Keys s)) cause tells more h = (cause.0, cause.1, made.Keys s, cause.2, refl, text, tells.0, tells.1, told_last a b c text more h)
 build_text_told build input files a b c text read write closed (unmade.NotMade (made.Refused why)) cause tells more h = (cause.0, cause.1, made.Refused why, cause.2, refl, text, tells.0, tells.1, told_last a b c text more h)
+build_text_told build input files a b c text read write closed (unmade.NotMade (made.IndexRefused why)) cause tells more h = (cause.0, cause.1, made.IndexRefused why, cause.2, refl, text, tells.0, tells.1, told_last a b c text more h)
 build_text_told build input files a b c text read write closed (unmade.NotMade made.OutOfMemory) cause tells more h = failure_told (commands.Build build) input files a b c text read write closed tells.0 more h
 build_text_told build input files a b c text read write closed (unmade.Unwritten e) cause tells more h = failure_told (commands.Build build) input files a b c text read write closed tells more h
 build_text_told build input files a b c text read write closed unmade.Taken cause tells more h = (text, tells, told_last a b c text more h)

@@ -1,5 +1,5 @@
--- What comes of a command that makes a trie file of the tries of two others.
-use Rattle.std.specs.Prelude.{◌≡◌, ◌⊎◌, ℕ, List, Option, Some, None, Result, Ok, Err, Bool, true, false, is_none}
+-- What comes of a command that makes a file of the tries of two others.
+use Rattle.std.specs.Prelude.{◌≡◌, ◌⊎◌, ℕ, List, Option, Some, None, Result, Ok, Err, Bool, false, is_none}
 use Rattle.zerotrie_core.specs.Kinds.{kind_of}
 use Rattle.zerotrie_core.specs.Maps.{Map}
 use Rattle.zerotrie_core.specs.Texts.{Means}
@@ -51,7 +51,7 @@ AreRead c input files held other = IsRead c.first input files held × IsRead c.s
 abbrev pub OfFiles : Combine → Option (List ℕ) → Option Story → (Map → Map → Type 0) → Type 0
 OfFiles c input files Fact = (held : List ℕ) × (other : List ℕ) × AreRead c input files held other × OfHeld held other Fact
 
--- the new file is that of a trie of the combination
+-- the new file is that of the combination
 abbrev pub IsOfMaps : Combine → List ℕ → Map → Map → Type 0
 IsOfMaps c file m n = IsFileOfBoth c.operation c.kind c.form m n file
 

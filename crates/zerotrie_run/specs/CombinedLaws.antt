@@ -1,4 +1,4 @@
--- A trie file is made of two others, and then opened; and when no file is.
+-- A file is made of two others, and then opened; and when no file is.
 use Rattle.std.specs.Prelude.{◌≡◌, ◌⊎◌, ◌≤◌, ℕ, List, Option, Some}
 use Rattle.zerotrie_files.specs.Disks.{Story}
 use Rattle.zerotrie_making.specs.Combinations.{OfBoth}

@@ -74,6 +74,7 @@ TellsMade made.NotPairs text = Unit {0}
 TellsMade (made.NotPair bad) text = TellsNoPair bad text
 TellsMade (made.Keys s) text = NamesPairs s text × SaysKeys s text
 TellsMade (made.Refused e) text = Unit {0}
+TellsMade (made.IndexRefused e) text = Unit {0}
 TellsMade made.OutOfMemory text = Unit {0}
 
 -- a message tells why a file has no trie, by whether it looks like text: that it does, or the rule and the place of the first fault

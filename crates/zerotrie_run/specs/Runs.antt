@@ -3,6 +3,7 @@ use Rattle.std.specs.Prelude.{◌≡◌, ◌≢◌, ◌⊎◌, ℕ, List, [], Op
 use Rattle.std.specs.Io.KnownBytes.{Appends, Keeps}
 use Rattle.std.specs.Io.Buffered.{writer_buffer}
 use Rattle.std.specs.declared.io.buffered.BufWriter.{BufWriter}
+use Rattle.zerotrie_core.specs.Maps.{Pairs}
 use Rattle.zerotrie_core.specs.WellFormed.{IsWellFormed}
 use Rattle.zerotrie_lines.specs.Lines.{lines_of}
 use Rattle.zerotrie_any.specs.Tagged.{tagged}
@@ -15,6 +16,9 @@ use Rattle.zerotrie_queries.specs.declared.file.OpenError.{OpenError}
 use Rattle.zerotrie_queries.specs.declared.file.OpenError.TheVariants as unopened
 use Rattle.zerotrie_files.specs.Parts.{AppendsPart}
 use Rattle.zerotrie_queries.specs.Answers.{AreAnswered, AreAnsweredInPart}
+use Rattle.zerotrie_queries.specs.Finders.{TrieFinds, IndexFinds, asks_keys}
+use Rattle.zerotrie_index.specs.Layout.{IsIndex}
+use Rattle.zerotrie_sealed.specs.Sealed.{IsSealedIndex}
 use Rattle.zerotrie_queries.specs.Sorted.{picked}
 use Rattle.zerotrie_queries.specs.Listed.{AreListed, AreListedInPart, AreNoText}
 use Rattle.zerotrie_queries.specs.declared.lookups.Query.{Query}
@@ -121,6 +125,29 @@ OpensBy check.Full named all kind bytes = Holds named all kind bytes × IsWellFo
 abbrev pub Opens : TrieFile → List ℕ → TrieKind → List ℕ → Type 0
 Opens file all kind bytes = OpensBy file.check file.bare all kind bytes
 
+-- whether an index answers a question: what values keys have, and whether it is one
+abbrev pub asks_index : Question → Bool
+asks_index (LookUp query keys) = asks_keys query.asked
+asks_index (Listing form choice order limit) = false
+asks_index (Code language name) = false
+asks_index (Report form) = false
+asks_index Verify = true
+asks_index (View view) = false
+
+-- a file is the bytes of an index, sealed, and what a test of it in full shows: that they are one
+abbrev pub OpensIndex : TrieFile → List ℕ → List ℕ → Type 0
+OpensIndex file all bytes = (file.bare ≡ None) × IsSealedIndex bytes all × (file.check ≡ check.Full → (pairs : Pairs) × IsIndex pairs bytes)
+
+-- what a file has: the bytes of a trie of this kind, or of an index
+pub data Content : Type 0 where
+  of_trie : TrieKind → List ℕ → Content
+  of_index : List ℕ → Content
+
+-- it has this, which is asked the question
+abbrev pub OpensFor : TrieFile → Question → List ℕ → Content → Type 0
+OpensFor file question all (of_trie kind bytes) = Opens file all kind bytes
+OpensFor file question all (of_index bytes) = (asks_index question ≡ true) × OpensIndex file all bytes
+
 -- a file has bytes of this kind that mean no map of it
 abbrev pub IsUnsound : Option TrieKind → List ℕ → TrieKind → List ℕ → Type 0
 IsUnsound named all kind bytes = Holds named all kind bytes × (IsWellFormed (kind_of kind) bytes → ⊥)
@@ -142,31 +169,63 @@ IsUnopenedBy check.Full named all why = ExplainsInFull named all why
 abbrev pub IsUnopened : TrieFile → List ℕ → OpenError → Type 0
 IsUnopened file all why = IsUnopenedBy file.check file.bare all why
 
--- what was printed, and whether all was found, belong to the keys and to the map that the bytes mean, if they mean one
-abbrev pub KeysAnswered : Query → Keys → (input : Option (List ℕ)) → TrieKind → List ℕ → (old new : Option (List ℕ)) → Bool → Type 0
-KeysAnswered query keys input kind bytes old new all = (ks : List (List ℕ)) × AreKeys keys input ks × AreAnswered query kind bytes ks old new all
+-- why a file has nothing that is asked the question: no trie, for this reason, nor an index that answers it
+abbrev pub IsUnopenedFor : TrieFile → Question → List ℕ → OpenError → Type 0
+IsUnopenedFor file question all why = IsUnopened file all why × ((bytes : List ℕ) → OpensFor file question all (of_index bytes) → ⊥)
+
+-- what was printed, and whether all was found, belong to the keys, whichever values keys may have
+abbrev pub KeysAnswered : Query → Keys → (input : Option (List ℕ)) → ((List ℕ → Option ℕ) → Type 0) → (old new : Option (List ℕ)) → Bool → Type 0
+KeysAnswered query keys input MayHave old new all = (ks : List (List ℕ)) × AreKeys keys input ks × AreAnswered query MayHave ks old new all
 
 -- what was printed, and whether all was found, belong to the question and to bytes of this kind
 abbrev pub Answers : Question → (input : Option (List ℕ)) → TrieKind → List ℕ → (old new : Option (List ℕ)) → Bool → Type 0
-Answers (LookUp query keys) input kind bytes old new all = KeysAnswered query keys input kind bytes old new all
+Answers (LookUp query keys) input kind bytes old new all = KeysAnswered query keys input (TrieFinds kind bytes) old new all
 Answers (Listing form choice order limit) input kind bytes old new all = (all ≡ true) × AreListed form (picked order kind choice) limit kind bytes old new
 Answers (Code language name) input kind bytes old new all = (all ≡ true) × Appends old new (whole_code language kind name.now bytes)
 Answers Verify input kind bytes old new all = (all ≡ true) × Keeps old new
 Answers (Report form) input kind bytes old new all = (all ≡ true) × Appends old new (reported form (report_of kind bytes))
 Answers (View view) input kind bytes old new all = (all ≡ true) × Appends old new (shown view kind bytes)
 
--- a beginning of what belongs to the keys and to the map that the bytes mean, if they mean one, was printed
-abbrev pub KeysAnsweredInPart : Query → Keys → (input : Option (List ℕ)) → TrieKind → List ℕ → (old new : Option (List ℕ)) → Type 0
-KeysAnsweredInPart query keys input kind bytes old new = (ks : List (List ℕ)) × AreKeys keys input ks × AreAnsweredInPart query kind bytes ks old new
+-- the same of the bytes of an index; nothing is printed if it is only tested
+abbrev pub IndexAnswers : Question → (input : Option (List ℕ)) → List ℕ → (old new : Option (List ℕ)) → Bool → Type 0
+IndexAnswers (LookUp query keys) input bytes old new all = KeysAnswered query keys input (IndexFinds query.asked bytes) old new all
+IndexAnswers (Listing form choice order limit) input bytes old new all = (all ≡ true) × Keeps old new
+IndexAnswers (Code language name) input bytes old new all = (all ≡ true) × Keeps old new
+IndexAnswers Verify input bytes old new all = (all ≡ true) × Keeps old new
+IndexAnswers (Report form) input bytes old new all = (all ≡ true) × Keeps old new
+IndexAnswers (View view) input bytes old new all = (all ≡ true) × Keeps old new
+
+-- the same of what a file has
+abbrev pub ContentAnswers : Content → Question → (input : Option (List ℕ)) → (old new : Option (List ℕ)) → Bool → Type 0
+ContentAnswers (of_trie kind bytes) question input old new all = Answers question input kind bytes old new all
+ContentAnswers (of_index bytes) question input old new all = IndexAnswers question input bytes old new all
+
+-- a beginning of what belongs to the keys was printed, whichever values keys may have
+abbrev pub KeysAnsweredInPart : Query → Keys → (input : Option (List ℕ)) → ((List ℕ → Option ℕ) → Type 0) → (old new : Option (List ℕ)) → Type 0
+KeysAnsweredInPart query keys input MayHave old new = (ks : List (List ℕ)) × AreKeys keys input ks × AreAnsweredInPart query MayHave ks old new
 
 -- a beginning of what belongs to the question and to bytes of this kind was printed
 abbrev pub AnswersInPart : Question → (input : Option (List ℕ)) → TrieKind → List ℕ → (old new : Option (List ℕ)) → Type 0
-AnswersInPart (LookUp query keys) input kind bytes old new = KeysAnsweredInPart query keys input kind bytes old new
+AnswersInPart (LookUp query keys) input kind bytes old new = KeysAnsweredInPart query keys input (TrieFinds kind bytes) old new
 AnswersInPart (Listing form choice order limit) input kind bytes old new = AreListedInPart form (picked order kind choice) limit kind bytes old new
 AnswersInPart (Code language name) input kind bytes old new = AppendsPart old new (whole_code language kind name.now bytes)
 AnswersInPart Verify input kind bytes old new = Keeps old new
 AnswersInPart (Report form) input kind bytes old new = AppendsPart old new (reported form (report_of kind bytes))
 AnswersInPart (View view) input kind bytes old new = AppendsPart old new (shown view kind bytes)
+
+-- the same of the bytes of an index
+abbrev pub IndexAnswersInPart : Question → (input : Option (List ℕ)) → List ℕ → (old new : Option (List ℕ)) → Type 0
+IndexAnswersInPart (LookUp query keys) input bytes old new = KeysAnsweredInPart query keys input (IndexFinds query.asked bytes) old new
+IndexAnswersInPart (Listing form choice order limit) input bytes old new = Keeps old new
+IndexAnswersInPart (Code language name) input bytes old new = Keeps old new
+IndexAnswersInPart Verify input bytes old new = Keeps old new
+IndexAnswersInPart (Report form) input bytes old new = Keeps old new
+IndexAnswersInPart (View view) input bytes old new = Keeps old new
+
+-- the same of what a file has
+abbrev pub ContentAnswersInPart : Content → Question → (input : Option (List ℕ)) → (old new : Option (List ℕ)) → Type 0
+ContentAnswersInPart (of_trie kind bytes) question input old new = AnswersInPart question input kind bytes old new
+ContentAnswersInPart (of_index bytes) question input old new = IndexAnswersInPart question input bytes old new
 
 -- the pairs that are asked for can't be printed so: this is the first of their keys that is not UTF-8
 abbrev pub IsUnprintable : Question → TrieKind → List ℕ → List ℕ → Type 0
@@ -186,27 +245,29 @@ IsNoAnswer question input kind bytes old new (ask.NoTrie why is_text) = ⊥
 IsNoAnswer question input kind bytes old new (ask.Unanswered e) = AnswersInPart question input kind bytes old new
 IsNoAnswer question input kind bytes old new (ask.NotText key) = IsUnprintable question kind bytes key.items × (new ≡ old)
 
--- The trie of a file was asked: what was read, its bytes and their kind, and the answer.
+-- The trie or the index of a file was asked: what was read, what it has, and the answer.
 pub record IsAsked (file : TrieFile) (question : Question) (input : Option (List ℕ)) (files : Option Story) (old new : Option (List ℕ)) (all : Bool) : Type 0 where
   pub held : List ℕ
   pub read : IsRead file.place input files held
-  pub kind : TrieKind
-  pub bytes : List ℕ
-  pub opens : Opens file held kind bytes
-  pub answers : Answers question input kind bytes old new all
+  pub content : Content
+  pub opens : OpensFor file question held content
+  pub answers : ContentAnswers content question input old new all
 
--- The trie of a file was asked, and a beginning of the answer was printed.
+-- It was asked, and a beginning of the answer was printed.
 pub record IsAskedInPart (file : TrieFile) (question : Question) (input : Option (List ℕ)) (files : Option Story) (old new : Option (List ℕ)) : Type 0 where
   pub held : List ℕ
   pub read : IsRead file.place input files held
-  pub kind : TrieKind
-  pub bytes : List ℕ
-  pub opens : Opens file held kind bytes
-  pub begun : AnswersInPart question input kind bytes old new
+  pub content : Content
+  pub opens : OpensFor file question held content
+  pub begun : ContentAnswersInPart content question input old new
 
 -- the file has no trie
 abbrev pub HasNoTrie : TrieFile → Option (List ℕ) → Option Story → Type 0
 HasNoTrie file input files = (held : List ℕ) × IsRead file.place input files held × (why : OpenError) × IsUnopened file held why
+
+-- the file has no trie, nor an index that answers the question
+abbrev pub HasNoAnswer : TrieFile → Question → Option (List ℕ) → Option Story → Type 0
+HasNoAnswer file question input files = (held : List ℕ) × IsRead file.place input files held × (why : OpenError) × IsUnopenedFor file question held why
 
 -- The trie of a file was asked for pairs that can't be printed so, and nothing was.
 pub record IsUnprinted (file : TrieFile) (question : Question) (input : Option (List ℕ)) (files : Option Story) (key : List ℕ) : Type 0 where
@@ -217,27 +278,28 @@ pub record IsUnprinted (file : TrieFile) (question : Question) (input : Option (
   pub opens : Opens file held kind bytes
   pub shows : IsUnprintable question kind bytes key
 
--- what a file holds has no answer: it has no trie, and nothing was printed; or it has one, and there is no answer, or not all of it
+-- what a file holds has no answer: nothing in it is asked the question, and nothing was printed; or something is, and there is no answer,
+-- or not all of it
 abbrev pub IsUnanswered : TrieFile → Question → (input : Option (List ℕ)) → List ℕ → (old new : Option (List ℕ)) → AskError → Type 0
 IsUnanswered file question input held old new ask.TwoInputs = ⊥
 IsUnanswered file question input held old new (ask.Unread e) = ⊥
-IsUnanswered file question input held old new (ask.NoTrie why is_text) = IsUnopened file held why × (is_text ≡ looks_like_text held) × (new ≡ old)
+IsUnanswered file question input held old new (ask.NoTrie why is_text) = IsUnopenedFor file question held why × (is_text ≡ looks_like_text held) × (new ≡ old)
 IsUnanswered file question input held old new (ask.NotText key) = (kind : TrieKind) × (bytes : List ℕ) × Opens file held kind bytes × IsUnprintable question kind bytes key.items × (new ≡ old)
-IsUnanswered file question input held old new (ask.Unanswered e) = (kind : TrieKind) × (bytes : List ℕ) × Opens file held kind bytes × AnswersInPart question input kind bytes old new
+IsUnanswered file question input held old new (ask.Unanswered e) = (content : Content) × OpensFor file question held content × ContentAnswersInPart content question input old new
 
--- a question to the trie of a file failed: nothing was printed, or the file has a trie and a beginning of the answer was
+-- a question to a file failed: nothing was printed, or a beginning of the answer was
 abbrev pub FailsAsk : TrieFile → Question → Option (List ℕ) → Option Story → (old new : Option (List ℕ)) → Type 0
 FailsAsk file question input files old new = (new ≡ old) ⊎ IsAskedInPart file question input files old new
 
--- How a question to the trie of a file ends. The answer was printed, and all was found or not; the file and the keys are
--- both standard input; the file has no trie; its pairs can't be printed so; or something failed.
+-- How a question to a file ends. The answer was printed, and all was found or not; the file and the keys are both standard input; the
+-- file has nothing that is asked it; its pairs can't be printed so; or something failed.
 abbrev pub RunsAsk : TrieFile → Question → Option (List ℕ) → Option Story → (old new : Option (List ℕ)) → Status → Type 0
 RunsAsk file question input files old new Done = IsAsked file question input files old new true
 RunsAsk file question input files old new Absent = IsAsked file question input files old new false
 RunsAsk file question input files old new Refused = (key : List ℕ) × IsUnprinted file question input files key × (new ≡ old)
 RunsAsk file question input files old new Taken = ⊥
 RunsAsk file question input files old new BadUsage = (file.place ≡ Stream) × (of_lines question ≡ true) × (new ≡ old)
-RunsAsk file question input files old new BadInput = HasNoTrie file input files × (new ≡ old)
+RunsAsk file question input files old new BadInput = HasNoAnswer file question input files × (new ≡ old)
 RunsAsk file question input files old new Unread = FailsAsk file question input files old new
 RunsAsk file question input files old new Unwritten = FailsAsk file question input files old new
 RunsAsk file question input files old new OutOfMemory = FailsAsk file question input files old new
@@ -287,7 +349,7 @@ IsSparedAt to no_clobber before after = (no_clobber ≡ true) × IsThere to befo
 abbrev pub IsFreshAt : Place → Bool → Option Story → Type 0
 IsFreshAt to no_clobber files = no_clobber ≡ true → IsFree to files
 
--- The file of a trie was made: what was read, and the file that was written.
+-- A file was made: what was read, and the file that was written.
 pub record IsMade (build : Build) (input : Option (List ℕ)) (before after : World) : Type 0 where
   pub all : List ℕ
   pub read : IsRead build.from input before.files all
@@ -305,7 +367,7 @@ abbrev pub IsKept : Place → List ℕ → World → World → Type 0
 IsKept (File path) bytes before after = (after.printed ≡ before.printed) × Known before.files after.files (WasKept path.now bytes)
 IsKept Stream bytes before after = AppendsPart before.printed after.printed bytes × (after.files ≡ before.files)
 
--- The file of a trie was made, and could not be written, or not to the end.
+-- A file was made, and could not be written, or not to the end.
 pub record IsUnwritten (build : Build) (input : Option (List ℕ)) (before after : World) : Type 0 where
   pub all : List ℕ
   pub read : IsRead build.from input before.files all

@@ -27,6 +27,7 @@ made_refusal error.NotPairs = Some BadInput
 made_refusal (error.NotPair bad) = Some BadInput
 made_refusal (error.Keys shown) = Some Refused
 made_refusal (error.Refused why) = Some Refused
+made_refusal (error.IndexRefused why) = Some Refused
 made_refusal error.OutOfMemory = None
 
 -- how a run ends if something failed, by whether a read and a write did, and whether that was since the output is closed: if neither

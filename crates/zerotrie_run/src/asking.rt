@@ -1,11 +1,12 @@
-//! A question to the trie of a file.
+//! A question to the trie or the index of a file.
 
-ghost use Rattle.std.specs.Prelude.{◌≡◌, ◌↔◌, ℕ, List, true, false, Ok, Err, IfOk, IfErr, IsTrue, OnOk, OnErr};
+ghost use Rattle.std.specs.Prelude.{◌≡◌, ◌↔◌, ℕ, List, true, false, Ok, Err, IfOk, IfErr, IfSome, IfNone, IsTrue, OnOk, OnErr};
 ghost use Rattle.std.specs.Io.Buffered.{writer_contents};
-ghost use Rattle.zerotrie_core.specs.declared.TrieKind.{TrieKind};
 ghost use Rattle.zerotrie_files.specs.Notes.{NothingFailed, SameNotes};
 ghost use Rattle.zerotrie_run.specs.Commands.{ReadsTwice};
-ghost use Rattle.zerotrie_run.specs.Runs.{Opens, OpensBy, ExplainsInFull, IsUnopened, KeysAnswered, KeysAnsweredInPart, Answers, IsNoAnswer, IsAsked, EndsAsk, IsUnanswered, IsDoubtful, LeavesKeys, LeavesInputOf, HandsOn, ask_fails, ask_refusal, asked_refusal, are_lines, of_lines};
+ghost use Rattle.zerotrie_queries.specs.Finders.{Finds};
+ghost use Rattle.zerotrie_run.specs.Runs.{Opens, OpensBy, OpensFor, Content, ContentAnswers, IndexAnswers, IndexAnswersInPart, asks_index, ExplainsInFull, IsUnopened, KeysAnswered, KeysAnsweredInPart, Answers, IsNoAnswer, IsAsked, EndsAsk, IsUnanswered, IsDoubtful, LeavesKeys, LeavesInputOf, HandsOn, ask_fails, ask_refusal, asked_refusal, are_lines, of_lines};
+ghost use Rattle.zerotrie_run.specs.Runs.Content.{of_index};
 ghost use Rattle.zerotrie_run.specs.Told.{HasReason, NotesNumber, TellsMore};
 ghost use Rattle.zerotrie_run.specs.declared.command.Place.TheVariants.{Stream};
 ghost use Rattle.zerotrie_run.specs.declared.command.Check.TheVariants.{Full};
@@ -23,10 +24,12 @@ use std::io;
 use std::io::{BufWriter, ErrorKind, Read, Write};
 use zerotrie_core::TrieKind;
 use zerotrie_files::{Disk, Noted, Store};
+use zerotrie_index::is_well_formed;
 use zerotrie_queries::{
-    ListError, OpenError, Query, Trie, looks_like_text, write_answers, write_list, write_trie_code,
-    write_trie_report, write_trie_view,
+    Finder, ListError, OpenError, Query, Trie, looks_like_text, write_answers, write_list,
+    write_trie_code, write_trie_report, write_trie_view,
 };
+use zerotrie_sealed::laws::one_content;
 
 /// Why a question has no answer.
 #[derive(Debug, Drop)]
@@ -35,7 +38,7 @@ pub enum AskError {
     TwoInputs,
     /// The file can't be read, or memory was refused before it was opened.
     Unread(io::Error),
-    /// The file has no trie, and looks like text or not.
+    /// The file has no trie, nor an index that answers the question. It looks like text or not.
     NoTrie(OpenError, bool),
     /// The pairs can't be one JSON value, as this key is not UTF-8.
     NotText(Vec<u8>),
@@ -141,26 +144,59 @@ fn open<'a>(alloc: Global, file: TrieFile<'_>, held: &'a [u8]) -> Result<Trie<'a
     }
 }
 
+/// Returns whether an index answers a question.
+fn asks_index(question: Question<'_>) -> bool
+    ensures { result ≡ asks_index question.entry }
+{
+    match question {
+        Question::LookUp(query, _) => query.asked.asks_keys(),
+        Question::Verify => true,
+        _ => false,
+    }
+}
+
+/// Returns the index in the bytes of a file, if it answers the question. A test in full validates
+/// its bytes.
+fn open_index<'a>(file: TrieFile<'_>, question: Question<'_>, held: &'a [u8]) -> Option<&'a [u8]>
+    ensures some { IfSome result (λ bytes.
+        OpensFor file.entry question.entry held.now (of_index bytes.now)) }
+    ensures none { IfNone result ((bytes : List ℕ)
+        → OpensFor file.entry question.entry held.now (of_index bytes) → ⊥) }
+{
+    one_content();
+    if file.bare.is_some() || !asks_index(question) {
+        return None;
+    }
+    let bytes = match zerotrie_sealed::open_index(held) {
+        Ok(bytes) => bytes,
+        Err(_) => return None,
+    };
+    match file.check {
+        Check::Full if !is_well_formed(bytes) => None,
+        _ => Some(bytes),
+    }
+}
+
 /// Answers keys or texts: the given words, or the lines of standard input. Returns whether all was
 /// found.
 fn answer_keys<R: Read, W: Write + Drop>(
     alloc: Global,
-    trie: &Trie<'_>,
+    finder: &Finder<'_>,
     query: Query,
     keys: Keys<'_>,
     input: &mut Noted<R>,
     output: &mut Noted<BufWriter<W>>,
 ) -> Result<bool, AnswerError>
     ensures answered { IfOk result (KeysAnswered query keys.entry (R.remaining input.old.inner)
-        trie.now.kind trie.now.bytes.now (writer_contents W.contents output.old.inner) (writer_contents W.contents output.new.inner)) }
+        (Finds finder.now query.asked) (writer_contents W.contents output.old.inner) (writer_contents W.contents output.new.inner)) }
     ensures part { OnErr result (KeysAnsweredInPart query keys.entry (R.remaining input.old.inner)
-        trie.now.kind trie.now.bytes.now (writer_contents W.contents output.old.inner) (writer_contents W.contents output.new.inner)) }
+        (Finds finder.now query.asked) (writer_contents W.contents output.old.inner) (writer_contents W.contents output.new.inner)) }
     ensures noted { OnOk result (SameNotes input.old input.new output.old output.new) }
     ensures unread { are_lines keys.entry ≡ false → input.new ≡ input.old }
 {
     match keys {
-        Keys::Words(words) => Ok(write_answers(alloc, trie, query, words, output)?),
-        Keys::Lines => answer_lines(alloc, trie, query, input, output),
+        Keys::Words(words) => Ok(write_answers(alloc, finder, query, words, output)?),
+        Keys::Lines => answer_lines(alloc, finder, query, input, output),
     }
 }
 
@@ -182,7 +218,8 @@ fn answer<R: Read, W: Write + Drop>(
 {
     match question {
         Question::LookUp(query, keys) => {
-            Ok(answer_keys(alloc, trie, query, keys, input, output)?)
+            let finder = Finder::Trie(*trie);
+            Ok(answer_keys(alloc, &finder, query, keys, input, output)?)
         }
         Question::List(form, choice, order, limit) => {
             match write_list(alloc, trie, form, choice, order, limit, output) {
@@ -207,7 +244,32 @@ fn answer<R: Read, W: Write + Drop>(
     }
 }
 
-/// Answers a question to the trie in the bytes of a file, and returns whether all was found.
+/// Answers a question to an index, whose keys may be the lines of standard input, and returns
+/// whether all was found.
+fn answer_of_index<R: Read, W: Write + Drop>(
+    alloc: Global,
+    index: &[u8],
+    question: Question<'_>,
+    input: &mut Noted<R>,
+    output: &mut Noted<BufWriter<W>>,
+) -> Result<bool, AnswerError>
+    ensures answered { IfOk result (IndexAnswers question.entry (R.remaining input.old.inner)
+        index.now (writer_contents W.contents output.old.inner) (writer_contents W.contents output.new.inner)) }
+    ensures part { OnErr result (IndexAnswersInPart question.entry (R.remaining input.old.inner)
+        index.now (writer_contents W.contents output.old.inner) (writer_contents W.contents output.new.inner)) }
+    ensures noted { OnOk result (SameNotes input.old input.new output.old output.new) }
+    ensures unread { of_lines question.entry ≡ false → input.new ≡ input.old }
+{
+    match question {
+        Question::LookUp(query, keys) => {
+            let finder = Finder::Index(index);
+            answer_keys(alloc, &finder, query, keys, input, output)
+        }
+        _ => Ok(true),
+    }
+}
+
+/// Answers a question to what is in the bytes of a file, and returns whether all was found.
 fn answer_held<R: Read, W: Write + Drop>(
     alloc: Global,
     file: TrieFile<'_>,
@@ -216,9 +278,9 @@ fn answer_held<R: Read, W: Write + Drop>(
     input: &mut Noted<R>,
     output: &mut Noted<BufWriter<W>>,
 ) -> Result<bool, AskError>
-    ensures ok { IfOk result (λ all. (kind : TrieKind) × (bytes : List ℕ)
-        × Opens file.entry held.now kind bytes
-        × Answers question.entry (R.remaining input.old.inner) kind bytes
+    ensures ok { IfOk result (λ all. (content : Content)
+        × OpensFor file.entry question.entry held.now content
+        × ContentAnswers content question.entry (R.remaining input.old.inner)
         (writer_contents W.contents output.old.inner) (writer_contents W.contents output.new.inner) all) }
     ensures err { IfErr result (IsUnanswered file.entry question.entry (R.remaining input.old.inner)
         held.now (writer_contents W.contents output.old.inner) (writer_contents W.contents output.new.inner)) }
@@ -226,6 +288,12 @@ fn answer_held<R: Read, W: Write + Drop>(
         → SameNotes input.old input.new output.old output.new }
     ensures unread { LeavesKeys question.entry (asked_refusal result) → input.new ≡ input.old }
 {
+    if let Some(index) = open_index(file, question, held) {
+        return match answer_of_index(alloc, index, question, input, output) {
+            Ok(all) => Ok(all),
+            Err(error) => Err(AskError::Unanswered(error)),
+        };
+    }
     let trie = match open(alloc, file, held) {
         Ok(trie) => trie,
         Err(why) => return Err(AskError::NoTrie(why, looks_like_text(held))),
@@ -233,7 +301,7 @@ fn answer_held<R: Read, W: Write + Drop>(
     answer(alloc, &trie, question, input, output)
 }
 
-/// Answers a question to the trie of a file, and returns whether all was found. If the file is read
+/// Answers a question to the trie or the index of a file, and returns whether all was found. If the file is read
 /// as bare bytes and begins with the number of a kind, a message says so.
 pub fn ask<D: Disk, R: Read, W: Write + Drop, M: Write>(
     alloc: Global,

@@ -1,4 +1,4 @@
-//! A trie file that is made.
+//! A file that is made of pairs.
 
 ghost use Rattle.std.specs.Prelude.{◌≡◌, false, IfErr, OnOk};
 ghost use Rattle.zerotrie_files.specs.Notes.{NothingFailed};
@@ -19,7 +19,7 @@ use std::io::{BufWriter, ErrorKind, Read, Write};
 use zerotrie_files::{Disk, Noted, Store};
 use zerotrie_making::{MakeError, make};
 
-/// Why no trie file is made.
+/// Why no file is made.
 #[derive(Debug, Drop)]
 pub enum BuildError {
     /// The input can't be read.
@@ -63,7 +63,7 @@ impl From<AllocError> for BuildError {
     }
 }
 
-/// Makes a trie file, and writes it to its place. It reports each step as it ends, if that was
+/// Makes a file of pairs, and writes it to its place. It reports each step as it ends, if that was
 /// asked for.
 fn make_file<D: Disk, R: Read, W: Write + Drop, M: Write>(
     alloc: Global,
@@ -143,7 +143,7 @@ pub fn spare<D: Disk>(
     }
 }
 
-/// Makes a trie file, and writes it to its place, unless there is a file already that is to be left
+/// Makes a file of pairs, and writes it to its place, unless there is a file already that is to be left
 /// as it is. It reports each step as it ends, if that was asked for.
 pub fn build<D: Disk, R: Read, W: Write + Drop, M: Write>(
     alloc: Global,

@@ -1,4 +1,4 @@
-//! A trie file that is made of the tries of two others.
+//! A file that is made of the tries of two others.
 
 ghost use Rattle.std.specs.Prelude.{◌≡◌, ◌<◌, ◌⊎◌, false, true, None, IfOk, IfErr, OnOk};
 ghost use Rattle.std.specs.Io.Buffered.{writer_contents};
@@ -28,7 +28,7 @@ use zerotrie_files::{Disk, Noted, Store};
 use zerotrie_making::make_combined;
 use zerotrie_queries::{OpenError, Trie, looks_like_text};
 
-/// Why no trie file is made of two others.
+/// Why no file is made of two others.
 #[derive(Debug, Drop)]
 pub enum CombineError {
     /// This file can't be read.
@@ -163,7 +163,7 @@ fn make_both<D: Disk, R: Read, W: Write + Drop>(
     }
 }
 
-/// Makes a trie file of the tries of two others, and writes it to its place, unless there is a file
+/// Makes a file of the tries of two others, and writes it to its place, unless there is a file
 /// already that is to be left as it is.
 fn combine<D: Disk, R: Read, W: Write + Drop>(
     alloc: Global,

@@ -97,7 +97,7 @@ pub struct TrieFile<'a> {
     pub check: Check,
 }
 
-/// How a trie file is made, of what, and where.
+/// How a file is made, of what, and where.
 #[derive(Clone, Copy, Debug)]
 pub struct Build<'a> {
     pub from: Place<'a>,
@@ -125,7 +125,7 @@ pub enum Side {
     Second,
 }
 
-/// How a trie file is made of the tries of two files, and where. Each of these says its kind.
+/// How a file is made of the tries of two files, and where. Each of these says its kind.
 #[derive(Clone, Copy, Debug)]
 pub struct Combine<'a> {
     /// What is made of the pairs of both.
@@ -135,7 +135,7 @@ pub struct Combine<'a> {
     pub to: Place<'a>,
     /// The kind of the new trie. If `None`, it is the one that a build of its pairs takes.
     pub kind: Option<TrieKind>,
-    /// What the new file has beside the bytes of the trie.
+    /// What the new file has.
     pub form: FileForm,
     /// Whether a file that is there already is left as it is, and the build refused.
     pub no_clobber: bool,
@@ -144,12 +144,12 @@ pub struct Combine<'a> {
 /// What the program is asked to do.
 #[derive(Clone, Copy, Debug)]
 pub enum Command<'a> {
-    /// Make a trie file.
+    /// Make a file of a trie or an index.
     Build(Build<'a>),
     /// Answer a question to the trie of a file.
     Ask(TrieFile<'a>, Question<'a>),
     /// Print what changed from the trie of one file to that of another.
     Diff(Diff<'a>),
-    /// Make a trie file of the tries of two others.
+    /// Make such a file of the tries of two others.
     Combine(Combine<'a>),
 }

@@ -2,20 +2,28 @@
 //! into the caller's proof.
 
 ghost use Rattle.zerotrie_run.specs.CombinedLaws.{CombinedOpens, CombineRefusedExactly};
-ghost use Rattle.zerotrie_run.specs.Laws.{MadeOpens, RefusedExactly, UnmadeIsRefused};
+ghost use Rattle.zerotrie_run.specs.Laws.{MadeIndexOpens, MadeOpens, RefusedExactly, UnmadeIsRefused};
 
-use zerotrie_sealed::laws::one_trie;
+use zerotrie_sealed::laws::{one_content, one_trie};
 
-/// A file that a build made opens as the trie of the pairs that the build read, if its kind is
-/// named as it was for the build. So each question to it is answered by them.
+/// The file of a trie that a build made opens as the trie of the pairs that the build read, if its kind
+/// is named as it was for the build. So each question to it is answered by them.
 pub fn made_opens()
     ensures { MadeOpens }
 {
     one_trie();
 }
 
-/// A question to a file is refused exactly if the file has no trie, by the test that was asked for,
-/// unless the usage is bad or something failed.
+/// The file of an index that a build made opens as an index of the pairs that the build read, if no
+/// kind is named. So each look-up in it is answered by them.
+pub fn made_index_opens()
+    ensures { MadeIndexOpens }
+{
+    one_content();
+}
+
+/// A question to a file is refused exactly if the file has no trie, nor an index that answers it, by
+/// the test that was asked for, unless the usage is bad or something failed.
 pub fn refused_exactly()
     ensures { RefusedExactly }
 {
@@ -27,8 +35,9 @@ pub fn unmade_is_refused()
     ensures { UnmadeIsRefused }
 {}
 
-/// A file that was made of the tries of two others opens as the trie of the combination of their
-/// maps, if its kind is named as it was when it was made. So each question to it is answered by that.
+/// The file of a trie that was made of the tries of two others opens as the trie of the combination of
+/// their maps, if its kind is named as it was when it was made. So each question to it is answered by
+/// that.
 pub fn combined_opens()
     ensures { CombinedOpens }
 {

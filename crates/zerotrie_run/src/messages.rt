@@ -9,7 +9,7 @@ ghost use Rattle.zerotrie_run.specs.Told.{LineTold, TellsMore, place_name, told_
 
 use crate::asking::AskError;
 use crate::building::BuildError;
-use crate::command::{Build, Place, TrieFile};
+use crate::command::{Build, Place, Question, TrieFile};
 use crate::stdin_lines::AnswerError;
 use std::alloc::{AllocError, Global};
 use std::io;
@@ -17,10 +17,11 @@ use std::io::{ErrorKind, Write};
 use zerotrie_any::TagError;
 use zerotrie_core::{Fault, TrieKind, ZeroTrieBuildError};
 use zerotrie_files::Noted;
+use zerotrie_index::ZeroIndexBuildError;
 use zerotrie_lines::{BadLine, Format, ValueFault, write_escaped, write_number};
 use zerotrie_making::{MakeError, NoPair, Shown, Source};
 use zerotrie_queries::{OpenError, Trie};
-use zerotrie_sealed::SealError;
+use zerotrie_sealed::{INDEX_NUMBER, SealError};
 
 const STANDARD_INPUT: &str = "standard input";
 
@@ -197,10 +198,17 @@ fn no_kind(alloc: Global, place: &str, why: &TagError, is_text: bool) -> Result<
     }
 }
 
-/// A line that tells that a sealed file is damaged.
+/// A line that tells that a sealed file is damaged, or holds an index.
 fn damaged(alloc: Global, place: &str, why: SealError) -> Result<Vec<u8>, AllocError>
     ensures { IfOk result (λ text. IsLine text.items) }
 {
+    if why == SealError::UnknownKind(INDEX_NUMBER) {
+        return line_on(
+            alloc,
+            place,
+            "it holds an index, which answers get and verify alone",
+        );
+    }
     let mut text = Vec::new(alloc);
     write!(text, "zerotrie: {place}: {why}").map_err(|_| AllocError)?;
     end_line(&mut text)?;
@@ -375,6 +383,34 @@ pub fn ask_text(alloc: Global, file: TrieFile<'_>, error: &AskError) -> Result<V
             STANDARD_OUTPUT,
             error,
         ),
+    }
+}
+
+/// Returns whether a file that is tested in full holds an index. Only one that is malformed is an
+/// error of the test.
+fn is_index(question: Question<'_>, why: SealError) -> bool {
+    match question {
+        Question::Verify => why == SealError::UnknownKind(INDEX_NUMBER),
+        _ => false,
+    }
+}
+
+/// A line that tells why this question has no answer.
+pub fn question_text(
+    alloc: Global,
+    file: TrieFile<'_>,
+    question: Question<'_>,
+    error: &AskError,
+) -> Result<Vec<u8>, AllocError>
+    ensures { IfOk result (λ text. TellsAsk error.now text.items) }
+{
+    match error {
+        AskError::NoTrie(OpenError::Damaged(why), _) if is_index(question, *why) => line_on(
+            alloc,
+            source_name(file.place),
+            "the index in it is malformed",
+        ),
+        _ => ask_text(alloc, file, error),
     }
 }
 
@@ -645,7 +681,7 @@ fn add_shown(text: &mut Vec<u8>, unit: &str, shown: &Shown) -> Result<(), AllocE
     add_keys(text, shown)
 }
 
-/// What is said of a refusal that no keys show.
+/// What is said of a refusal of a trie that no keys show.
 fn refused(error: &ZeroTrieBuildError) -> &'static str {
     match error {
         ZeroTrieBuildError::CapacityExceeded => {
@@ -653,6 +689,19 @@ fn refused(error: &ZeroTrieBuildError) -> &'static str {
         }
         ZeroTrieBuildError::CouldNotSolvePerfectHash => {
             "no hashed table was found for the bytes that keys go on with at some place, as happens if these are random: take --kind simple if all keys are ASCII, or other keys, as their hexadecimal digits"
+        }
+        _ => "the build of the pairs is refused",
+    }
+}
+
+/// What is said of a refusal of an index that no keys show.
+fn index_refused(error: &ZeroIndexBuildError) -> &'static str {
+    match error {
+        ZeroIndexBuildError::CapacityExceeded => {
+            "the pairs of the index would have 4 GiB or more: leave out --index, or take fewer pairs"
+        }
+        ZeroIndexBuildError::Crowded => {
+            "more than 16 keys share a bucket of the index, whichever of 8 seeds is taken, as happens if they are chosen for that: leave out --index, or take other keys"
         }
         _ => "the build of the pairs is refused",
     }
@@ -670,6 +719,7 @@ fn add_refusal(text: &mut Vec<u8>, source: Source, error: &MakeError) -> Result<
         MakeError::NotPair(bad) => add_no_pair(text, bad),
         MakeError::Keys(shown) => add_shown(text, unit_of(source), shown),
         MakeError::Refused(error) => add(text, refused(error)),
+        MakeError::IndexRefused(error) => add(text, index_refused(error)),
         MakeError::OutOfMemory => add(text, "out of memory"),
     }
 }

@@ -15,7 +15,7 @@ use crate::building::build;
 use crate::combining::run_combine;
 use crate::command::Command;
 use crate::comparing::run_diff;
-use crate::messages::{NO_MEMORY, ask_text, build_text, tell, tell_two_inputs};
+use crate::messages::{NO_MEMORY, build_text, question_text, tell, tell_two_inputs};
 use crate::status::Status;
 use std::alloc::{AllocError, Global};
 use std::io::{BufWriter, Read, Write};
@@ -104,7 +104,7 @@ pub(crate) fn end<M: Write>(
 /// messages are then the steps of a build, if they were asked for, and a warning for a file that is
 /// read as bare bytes and begins with the number of a kind. If the file and the keys, or two files,
 /// are both standard input, the usage is bad. Standard input is not read unless the command needs
-/// it; keys are not read from it if the file has no trie.
+/// it; keys are not read from it if nothing in the file answers.
 pub fn run<D: Disk, R: Read, W: Write + Drop, M: Write>(
     alloc: Global,
     command: Command<'_>,
@@ -157,7 +157,11 @@ pub fn run<D: Disk, R: Read, W: Write + Drop, M: Write>(
                 Ok(false) => Status::Absent,
                 Err(error) => {
                     let status = end_of(error.refusal(), files, input, output, error.is_closed());
-                    end(messages, status, ask_text(alloc, file, &error))
+                    end(
+                        messages,
+                        status,
+                        question_text(alloc, file, question, &error),
+                    )
                 }
             }
         }

@@ -7,6 +7,7 @@ ghost use Rattle.zerotrie_files.specs.Notes.{SameNotes};
 ghost use Rattle.zerotrie_lines.specs.Lines.{lines_of};
 ghost use Rattle.zerotrie_lines.specs.Blocks.{AreWhole, HasFeed};
 ghost use Rattle.zerotrie_queries.specs.Answers.{AreAnswered, AreAnsweredInPart};
+ghost use Rattle.zerotrie_queries.specs.Finders.{Finds};
 ghost use Rattle.zerotrie_run.specs.Runs.{KeysAnswered, KeysAnsweredInPart, HandsOn};
 ghost use Rattle.zerotrie_run.specs.Streams.{AreAnsweredSoFar};
 ghost use Rattle.zerotrie_run.specs.declared.command.Keys.TheVariants.{Lines};
@@ -17,7 +18,7 @@ use std::io;
 use std::io::{BufWriter, ErrorKind, Read, Write};
 use zerotrie_files::Noted;
 use zerotrie_lines::{read_lines, whole_lines};
-use zerotrie_queries::{Query, Trie, write_answers};
+use zerotrie_queries::{Finder, Query, write_answers};
 
 /// Why there is no answer, or not all of it.
 #[derive(Debug, Drop)]
@@ -39,20 +40,20 @@ impl From<io::Error> for AnswerError {
 /// Answers some lines, flushes the answers, and returns whether all was found.
 fn answer_part<W: Write + Drop>(
     alloc: Global,
-    trie: &Trie<'_>,
+    finder: &Finder<'_>,
     query: Query,
     part: &[u8],
     output: &mut Noted<BufWriter<W>>,
 ) -> io::Result<bool>
-    ensures answered { IfOk result (AreAnswered query trie.now.kind trie.now.bytes.now
+    ensures answered { IfOk result (AreAnswered query (Finds finder.now query.asked)
         (lines_of part.now) (writer_contents W.contents output.old.inner) (writer_contents W.contents output.new.inner)) }
-    ensures part { OnErr result (AreAnsweredInPart query trie.now.kind trie.now.bytes.now
+    ensures part { OnErr result (AreAnsweredInPart query (Finds finder.now query.asked)
         (lines_of part.now) (writer_contents W.contents output.old.inner) (writer_contents W.contents output.new.inner)) }
     ensures handed { OnOk result (HandsOn output.old.inner output.new.inner) }
     ensures noted { IsNoted result output.old.failed output.new.failed }
 {
     let lines = read_lines(alloc, part)?;
-    let all = write_answers(alloc, trie, query, lines.as_slice(), output)?;
+    let all = write_answers(alloc, finder, query, lines.as_slice(), output)?;
     output.hand_on()?;
     Ok(all)
 }
@@ -86,16 +87,16 @@ fn drop_front(held: &mut Vec<u8>, len: usize)
 /// list of its lines and the lines of 4,096 answers.
 pub fn answer_lines<R: Read, W: Write + Drop>(
     alloc: Global,
-    trie: &Trie<'_>,
+    finder: &Finder<'_>,
     query: Query,
     input: &mut Noted<R>,
     output: &mut Noted<BufWriter<W>>,
 ) -> Result<bool, AnswerError>
     ensures answered { IfOk result (KeysAnswered query Lines (R.remaining input.old.inner)
-        trie.now.kind trie.now.bytes.now (writer_contents W.contents output.old.inner) (writer_contents W.contents output.new.inner)) }
+        (Finds finder.now query.asked) (writer_contents W.contents output.old.inner) (writer_contents W.contents output.new.inner)) }
     ensures part { OnErr result (KeysAnsweredInPart query Lines (R.remaining input.old.inner)
-        trie.now.kind trie.now.bytes.now (writer_contents W.contents output.old.inner) (writer_contents W.contents output.new.inner)) }
-    ensures before { IfErr result (λ e. AreAnsweredSoFar query trie.now.kind trie.now.bytes.now
+        (Finds finder.now query.asked) (writer_contents W.contents output.old.inner) (writer_contents W.contents output.new.inner)) }
+    ensures before { IfErr result (λ e. AreAnsweredSoFar query (Finds finder.now query.asked)
         (R.remaining input.old.inner) (R.remaining input.new.inner)
         (writer_contents W.contents output.old.inner) (writer_contents W.contents output.new.inner)
         (HandsOn output.old.inner output.new.inner) e) }
@@ -111,7 +112,7 @@ pub fn answer_lines<R: Read, W: Write + Drop>(
             Err(error) => return Err(AnswerError::Input(error)),
         };
         let len = part_len(held.as_slice(), before, ended);
-        all &= answer_part(alloc, trie, query, &held[..len], output)?;
+        all &= answer_part(alloc, finder, query, &held[..len], output)?;
         drop_front(&mut held, len);
         if ended {
             return Ok(all);

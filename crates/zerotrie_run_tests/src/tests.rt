@@ -9,12 +9,14 @@ use std::process::Abort;
 use std::test::Fail;
 use zerotrie_core::TrieKind;
 use zerotrie_files::{Disk, Noted, Store};
+use zerotrie_index::ZeroIndex;
 use zerotrie_lines::{Format, LineEnd};
 use zerotrie_making::{Duplicates, FileForm, Plan, Source};
 use zerotrie_queries::{
     Asked, Choice, Form, Language, Order, Query, ReportForm, Spelling, Style, View,
 };
 use zerotrie_run::{Build, Check, Command, Keys, Place, Question, Status, TrieFile, run};
+use zerotrie_sealed::seal_index;
 
 /// A run of the program: the files that are there, the words that are typed in, and what is to come of it.
 struct Row {
@@ -55,8 +57,31 @@ const BUILD: Build<'static> = Build {
     progress: false,
 };
 
-/// Builds of that file, told and untold, and on standard output.
-const BUILDS: [Row; 3] = [
+/// The file of an index of the names, by the page on the format.
+const INDEXED: &[u8] =
+    b"ztri\x89\x8a\r\n\x01\0\x10\0\x6F\0\0\0\0\0\0\0\xfa\x99\x2D\x16\0\0\0\0\0\0\0\0\x06\0\0\0\0\0\0\0\
+    \0\0\0\0\0\0\0\0\0\0\0@\0\0\0\0\0\0\0\0\x0f\0\0\0\0\0\0\0\x0f\0\0\0\0\0\0\x02\x0f\0\0\0@\0\0\0\x1b\0\0\0\0\0\0\0\x27\0\0\0\
+    \x06\x03\0\0\0\0\0\0\0bazzoo\x03\x02\0\0\0\0\0\0\0bar\x03\x01\0\0\0\0\0\0\0foo";
+
+/// How an index of any pairs is made.
+const INDEXING: Build<'static> = Build {
+    plan: Plan {
+        form: FileForm::Index,
+        ..PLAN
+    },
+    ..BUILD
+};
+
+/// Builds of that file, told and untold, on standard output, and of an index.
+const BUILDS: [Row; 4] = [
+    Row {
+        files: &[("names.tsv", NAMES)],
+        command: Command::Build(INDEXING),
+        status: Status::Done,
+        printed: b"",
+        told: b"",
+        left: ("names.trie", INDEXED),
+    },
     Row {
         files: &[("names.tsv", NAMES)],
         command: Command::Build(BUILD),
@@ -179,7 +204,15 @@ const SEALS: [Row; 6] = [
 ];
 
 /// Builds that are refused, and leave the file that was there.
-const REFUSED: [Row; 4] = [
+const REFUSED: [Row; 5] = [
+    Row {
+        files: &[("names.tsv", b"a\t1\nb\t2\na\t3\n"), ("names.trie", TRIE)],
+        command: Command::Build(INDEXING),
+        status: Status::Refused,
+        printed: b"",
+        told: b"zerotrie: names.tsv: lines 1 and 3 have the same key: a\n",
+        left: ("names.trie", TRIE),
+    },
     Row {
         files: &[("names.tsv", b"a\t1\na\t2\n"), ("names.trie", TRIE)],
         command: Command::Build(BUILD),
@@ -519,6 +552,98 @@ fn whole_lines_are_answered_before_a_fault(rt: HostRuntime) -> Result<(), Fail> 
     assert!(rt;
         messages.get_ref().as_slice() == b"zerotrie: standard input: connection reset\n".as_slice()
     );
+    Ok(())
+}
+
+/// What is asked of an index, how that ends, what is printed, and what is told.
+#[derive(Drop)]
+struct OfIndex {
+    question: Question<'static>,
+    check: Check,
+    status: Status,
+    printed: &'static [u8],
+    told: &'static [u8],
+}
+
+/// Questions to the index of the names.
+const OF_INDEX: [OfIndex; 4] = [
+    OfIndex {
+        question: Question::LookUp(VALUES, Keys::Lines),
+        check: Check::Usual,
+        status: Status::Absent,
+        printed: b"none\n1\n",
+        told: b"",
+    },
+    OfIndex {
+        question: Question::LookUp(PAIRS, Keys::Words(ABSENT)),
+        check: Check::Skip,
+        status: Status::Absent,
+        printed: b"bar\t2\nunknown\tnone\n",
+        told: b"",
+    },
+    OfIndex {
+        question: Question::Verify,
+        check: Check::Full,
+        status: Status::Done,
+        printed: b"",
+        told: b"",
+    },
+    OfIndex {
+        question: Question::LookUp(LONGEST, Keys::Lines),
+        check: Check::Usual,
+        status: Status::BadInput,
+        printed: b"",
+        told: b"zerotrie: names.trie: it holds an index, which answers get and verify alone\n",
+    },
+];
+
+/// Asks the file of an index with these bytes.
+fn asks_index(rt: &HostRuntime, bytes: &[u8], row: &OfIndex) -> Result<bool, Fail> {
+    let alloc = rt.alloc();
+    let file = seal_index(alloc, bytes)?;
+    let mut files = Store::new(disk_with(alloc, &[("names.trie", file.as_slice())])?);
+    let mut output = Noted::new(BufWriter::new(alloc, Vec::new(alloc))?);
+    let mut messages = Noted::new(Vec::new(alloc));
+    let (first, second) = TYPED;
+    let status = run(
+        alloc,
+        Command::Ask(
+            TrieFile {
+                check: row.check,
+                ..FILE
+            },
+            row.question,
+        ),
+        &mut files,
+        &mut Noted::new(first.chain(second)),
+        &mut output,
+        &mut messages,
+    );
+    Ok(
+        status == row.status
+            && output.get_ref().get_ref().as_slice() == row.printed
+            && messages.get_ref().as_slice() == row.told,
+    )
+}
+
+/// An index answers keys and a test, and nothing else.
+#[test]
+fn an_index_is_asked(rt: HostRuntime) -> Result<(), Fail> {
+    let index = ZeroIndex::try_from_unsorted_slice(
+        rt.alloc(),
+        &[("foo", 1), ("bar", 2), ("bazzoo", 3)],
+    )?;
+    for row in OF_INDEX {
+        assert!(rt; asks_index(&rt, index.as_bytes(), &row)?);
+    }
+    let malformed = OfIndex {
+        question: Question::Verify,
+        check: Check::Full,
+        status: Status::BadInput,
+        printed: b"",
+        told: b"zerotrie: names.trie: the index in it is malformed\n",
+    };
+    assert!(rt; asks_index(&rt, b"no index", &malformed)?);
     Ok(())
 }
 

@@ -1,6 +1,6 @@
 use Rattle.std.proofs.Common.{inr}
 use Rattle.std.specs.Io.Buffered.{writer_contents}
-use Rattle.zerotrie_run.proofs.AskLemmas.{kept_answer, same_answer, answer_in_part, same_part, is_not, ends_unanswered, reason_unanswered}
+use Rattle.zerotrie_run.proofs.AskLemmas.{kept_content, same_answer, answer_in_part, same_part, is_not, ends_unanswered, reason_unanswered}
 use Rattle.zerotrie_run.proofs.asking.ask.Goals as goal
 
 pub returns-in-Ok-hand_on-clause-ok : goal.returns-in-Ok-hand_on-clause-ok
@@ -10,14 +10,13 @@ returns-in-Ok-hand_on-clause-ok g c =
     let old = contents c.args.output.now.inner in
     let now = contents c.answer_held.new.output.inner in
     let answered = c.in-Ok-answer_held.ensures.ok in
-    let kept = kept_answer c.args.question (remaining c.read_place.new.input.inner) answered.0 answered.1 old now (contents c.hand_on.new.self.inner) c.in-Ok-answer_held.all answered.3 c.hand_on.ensures.bytes in
+    let kept = kept_content answered.0 c.args.question (remaining c.read_place.new.input.inner) old now (contents c.hand_on.new.self.inner) c.in-Ok-answer_held.all answered.2 c.hand_on.ensures.bytes in
     record {
       held = c.as_slice-held.result.now;
       read = rw c.as_slice-held.ensures.value c.in-Ok.ensures.read;
-      kind = answered.0;
-      bytes = answered.1;
-      opens = answered.2;
-      answers = same_answer c.args.file.place remaining c.args.input.now c.read_place.new.input c.args.question answered.0 answered.1 old (contents c.hand_on.new.self.inner) c.in-Ok-answer_held.all
+      content = answered.0;
+      opens = answered.1;
+      answers = same_answer c.args.file.place remaining c.args.input.now c.read_place.new.input answered.0 c.args.question old (contents c.hand_on.new.self.inner) c.in-Ok-answer_held.all
           (λ both. is_not c.reads_twice.result c.if-reads_twice.false (c.reads_twice.ensures.1 both)) c.read_place.ensures.untouched kept;
     }
 
@@ -35,16 +34,15 @@ returns-clause-err g c =
     let remaining = g.R.Read.remaining in
     let old = contents c.args.output.now.inner in
     let answered = c.in-Ok-answer_held.ensures.ok in
-    let kept = kept_answer c.args.question (remaining c.read_place.new.input.inner) answered.0 answered.1 old (contents c.answer_held.new.output.inner) (contents c.hand_on.new.self.inner) c.in-Ok-answer_held.all answered.3 c.hand_on.ensures.bytes in
+    let kept = kept_content answered.0 c.args.question (remaining c.read_place.new.input.inner) old (contents c.answer_held.new.output.inner) (contents c.hand_on.new.self.inner) c.in-Ok-answer_held.all answered.2 c.hand_on.ensures.bytes in
     inr (record {
       held = c.as_slice-held.result.now;
       read = rw c.as_slice-held.ensures.value c.in-Ok.ensures.read;
-      kind = answered.0;
-      bytes = answered.1;
-      opens = answered.2;
-      begun = same_part c.args.file.place remaining c.args.input.now c.read_place.new.input c.args.question answered.0 answered.1 old (contents c.hand_on.new.self.inner)
+      content = answered.0;
+      opens = answered.1;
+      begun = same_part c.args.file.place remaining c.args.input.now c.read_place.new.input answered.0 c.args.question old (contents c.hand_on.new.self.inner)
           (λ both. is_not c.reads_twice.result c.if-reads_twice.false (c.reads_twice.ensures.1 both)) c.read_place.ensures.untouched
-          (answer_in_part c.args.question (remaining c.read_place.new.input.inner) answered.0 answered.1 old (contents c.hand_on.new.self.inner) c.in-Ok-answer_held.all kept);
+          (answer_in_part answered.0 c.args.question (remaining c.read_place.new.input.inner) old (contents c.hand_on.new.self.inner) c.in-Ok-answer_held.all kept);
     })
 
 pub returns-in-Err-answer_held-clause-err : goal.returns-in-Err-answer_held-clause-err
@@ -55,7 +53,7 @@ returns-in-Err-answer_held-clause-err g c =
     let new = contents c.answer_held.new.output.inner in
     ends_unanswered c.args.file c.args.question (remaining c.args.input.now.inner) (remaining c.read_place.new.input.inner) (g.D.Disk.story c.args.files.now.disk) c.as_slice-held.result.now old new
     c.in-Err-answer_held.error (rw c.as_slice-held.ensures.value c.in-Ok.ensures.read)
-    (λ kind bytes h. same_part c.args.file.place remaining c.args.input.now c.read_place.new.input c.args.question kind bytes old new
+    (λ x h. same_part c.args.file.place remaining c.args.input.now c.read_place.new.input x c.args.question old new
     (λ both. is_not c.reads_twice.result c.if-reads_twice.false (c.reads_twice.ensures.1 both)) c.read_place.ensures.untouched h)
     c.in-Err-answer_held.ensures.err
 

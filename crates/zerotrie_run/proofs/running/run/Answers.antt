@@ -47,19 +47,19 @@ returns-in-Err-ask g c =
     let unwritten = c.ask.new.files.unwritten in
     let closed = c.is_closed-in-Err-ask.result in
     let is = rw c.refusal-in-Err-ask.ensures at c.end_of-status-in-Err-ask.ensures in
-    let end = ask_end (read || unread) (write || unwritten) closed e status result c.ask_text.result is c.end-in-Err-ask.ensures.status in
-    let ends = ask_ends file question input files (printed c.args.output.now.inner) (printed c.ask.new.output.inner) (read || unread) (write || unwritten) closed e status result c.ask_text.result c.in-Err-ask.ensures.err is c.end-in-Err-ask.ensures.status in
+    let end = ask_end (read || unread) (write || unwritten) closed e status result c.question_text.result is c.end-in-Err-ask.ensures.status in
+    let ends = ask_ends file question input files (printed c.args.output.now.inner) (printed c.ask.new.output.inner) (read || unread) (write || unwritten) closed e status result c.question_text.result c.in-Err-ask.ensures.err is c.end-in-Err-ask.ensures.status in
     record {
       runs = rw c.in-Ask.is (ap g.D.Disk.story c.in-Err-ask.ensures.same, ends);
       read_failed = end_unread read unread (write || unwritten) (ask_refusal e) result end;
       write_failed = end_unwritten (read || unread) write unwritten (ask_refusal e) result end;
       closed = end_closed (read || unread) write unwritten (ask_refusal e) result end;
-      failed = λ other. c.in-Err-ask.ensures.noted (was_refused (read || unread) (write || unwritten) closed (ask_refusal e) status result c.ask_text.result is c.end-in-Err-ask.ensures.status other);
+      failed = λ other. c.in-Err-ask.ensures.noted (was_refused (read || unread) (write || unwritten) closed (ask_refusal e) status result c.question_text.result is c.end-in-Err-ask.ensures.status other);
       handed = not_open (read || unread) (write || unwritten) (ask_refusal e) result end;
       told = λ ok.
           let told = c.end-in-Err-ask.ensures.told ok in
           ask_told c.args.command file question input files (contents c.args.messages.now.inner) (contents c.ask.new.messages.inner) (contents c.end-in-Err-ask.new.messages.inner) (read || unread) (write || unwritten) closed e status
-          result c.ask_text.result c.in-Ask.is c.in-Err-ask.ensures.why is c.ask_text.ensures (c.in-Err-ask.ensures.tells told.0) c.end-in-Err-ask.ensures.status told.1;
+          result c.question_text.result c.in-Ask.is c.in-Err-ask.ensures.why is c.question_text.ensures (c.in-Err-ask.ensures.tells told.0) c.end-in-Err-ask.ensures.status told.1;
       notes = not_open (read || unread) (write || unwritten) (ask_refusal e) result end;
       quiet = λ steps none. not_open (read || unread) (write || unwritten) (ask_refusal e) result end;
       usage = λ twice. absurd (is_not c.reads_twice.result c.if-reads_twice.false (c.reads_twice.ensures.1 (rw c.in-Ask.is at twice)));

@@ -1,0 +1,4 @@
+use Rattle.zerotrie_queries.proofs.lookups.add_trie_answer.Goals as goal
+
+pub returns-in-Prefixes : goal.returns-in-Prefixes
+returns-in-Prefixes c = rw c.in-Prefixes.is c.add_prefixes.ensures
