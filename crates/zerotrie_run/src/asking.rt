@@ -30,6 +30,7 @@ use zerotrie_queries::{
     write_trie_code, write_trie_report, write_trie_view,
 };
 use zerotrie_sealed::laws::one_content;
+use zerotrie_sealed::{INDEX_NUMBER, SealError};
 
 /// Why a question has no answer.
 #[derive(Debug, Drop)]
@@ -177,6 +178,30 @@ fn open_index<'a>(file: TrieFile<'_>, question: Question<'_>, held: &'a [u8]) ->
     }
 }
 
+/// Opens the trie in the bytes of a file. If they are a damaged index, and an index answers the
+/// question, the error says what is wrong with its seal.
+fn open_trie<'a>(
+    alloc: Global,
+    file: TrieFile<'_>,
+    question: Question<'_>,
+    held: &'a [u8],
+) -> Result<Trie<'a>, OpenError>
+    ensures ok { IfOk result (λ trie. Opens file.entry held.now trie.kind trie.bytes.now) }
+    ensures err { IfErr result (IsUnopened file.entry held.now) }
+{
+    let why = match open(alloc, file, held) {
+        Ok(trie) => return Ok(trie),
+        Err(why) => why,
+    };
+    let is_index = why == OpenError::Damaged(SealError::UnknownKind(INDEX_NUMBER));
+    if is_index && asks_index(question) {
+        if let Err(fault) = zerotrie_sealed::open_index(held) {
+            return Err(OpenError::Damaged(fault));
+        }
+    }
+    Err(why)
+}
+
 /// Answers keys or texts: the given words, or the lines of standard input. Returns whether all was
 /// found.
 fn answer_keys<R: Read, W: Write + Drop>(
@@ -294,7 +319,7 @@ fn answer_held<R: Read, W: Write + Drop>(
             Err(error) => Err(AskError::Unanswered(error)),
         };
     }
-    let trie = match open(alloc, file, held) {
+    let trie = match open_trie(alloc, file, question, held) {
         Ok(trie) => trie,
         Err(why) => return Err(AskError::NoTrie(why, looks_like_text(held))),
     };

@@ -597,11 +597,10 @@ const OF_INDEX: [OfIndex; 4] = [
     },
 ];
 
-/// Asks the file of an index with these bytes.
-fn asks_index(rt: &HostRuntime, bytes: &[u8], row: &OfIndex) -> Result<bool, Fail> {
+/// Asks a file with these bytes.
+fn asks_index(rt: &HostRuntime, file: &[u8], row: &OfIndex) -> Result<bool, Fail> {
     let alloc = rt.alloc();
-    let file = seal_index(alloc, bytes)?;
-    let mut files = Store::new(disk_with(alloc, &[("names.trie", file.as_slice())])?);
+    let mut files = Store::new(disk_with(alloc, &[("names.trie", file)])?);
     let mut output = Noted::new(BufWriter::new(alloc, Vec::new(alloc))?);
     let mut messages = Noted::new(Vec::new(alloc));
     let (first, second) = TYPED;
@@ -629,12 +628,14 @@ fn asks_index(rt: &HostRuntime, bytes: &[u8], row: &OfIndex) -> Result<bool, Fai
 /// An index answers keys and a test, and nothing else.
 #[test]
 fn an_index_is_asked(rt: HostRuntime) -> Result<(), Fail> {
+    let alloc = rt.alloc();
     let index = ZeroIndex::try_from_unsorted_slice(
-        rt.alloc(),
+        alloc,
         &[("foo", 1), ("bar", 2), ("bazzoo", 3)],
     )?;
+    let file = seal_index(alloc, index.as_bytes())?;
     for row in OF_INDEX {
-        assert!(rt; asks_index(&rt, index.as_bytes(), &row)?);
+        assert!(rt; asks_index(&rt, file.as_slice(), &row)?);
     }
     let malformed = OfIndex {
         question: Question::Verify,
@@ -643,7 +644,50 @@ fn an_index_is_asked(rt: HostRuntime) -> Result<(), Fail> {
         printed: b"",
         told: b"zerotrie: names.trie: the index in it is malformed\n",
     };
-    assert!(rt; asks_index(&rt, b"no index", &malformed)?);
+    let file = seal_index(alloc, b"no index")?;
+    assert!(rt; asks_index(&rt, file.as_slice(), &malformed)?);
+    Ok(())
+}
+
+/// The answer to a question to a damaged index, by the test that is asked for.
+fn of_damaged(question: Question<'static>, check: Check, told: &'static [u8]) -> OfIndex {
+    OfIndex {
+        question,
+        check,
+        status: Status::BadInput,
+        printed: b"",
+        told,
+    }
+}
+
+/// Of a damaged index it is told what is wrong with its seal, if the question is one to an index.
+#[test]
+fn a_damaged_index_is_told(rt: HostRuntime) -> Result<(), Fail> {
+    let mut file = seal_index(rt.alloc(), b"no index")?;
+    let values = Question::LookUp(VALUES, Keys::Lines);
+    let longest = Question::LookUp(LONGEST, Keys::Lines);
+    file.push(0)?;
+    let long = b"zerotrie: names.trie: bytes follow what is sealed: get the file alone\n";
+    let row = of_damaged(Question::Verify, Check::Full, long);
+    assert!(rt; asks_index(&rt, file.as_slice(), &row)?);
+    file.pop();
+    file.pop();
+    let cut = b"zerotrie: names.trie: the file is cut short: get all of it\n";
+    for (question, check) in [
+        (values, Check::Usual),
+        (values, Check::Skip),
+        (Question::Verify, Check::Full),
+    ] {
+        assert!(rt; asks_index(&rt, file.as_slice(), &of_damaged(question, check, cut))?);
+    }
+    let index = b"zerotrie: names.trie: it holds an index, which answers get and verify alone\n";
+    assert!(rt;
+        asks_index(
+            &rt,
+            file.as_slice(),
+            &of_damaged(longest, Check::Usual, index)
+        )?
+    );
     Ok(())
 }
 
