@@ -178,7 +178,7 @@ const LOOK_UPS: &[Subcommand] = &[
         task: Task::Ask(Topic::Get),
         about: "Print the values of keys",
         help: "Example: zerotrie get names.trie amp lt\n\
-            Status: 1 if a key is not there, 2 if FILE is no trie.",
+            Status: 1 if a key is not there, 2 if FILE is no trie or index.",
         arguments: &[
             FILE,
             Argument {
@@ -353,7 +353,7 @@ const REPORTS: &[Subcommand] = &[
         name: "verify",
         task: Task::Ask(Topic::Verify),
         about: "Test all bytes, and print nothing if they are a trie or an index",
-        help: "Example: zerotrie verify names.trie\nStatus: 2 if FILE is no trie.",
+        help: "Example: zerotrie verify names.trie\nStatus: 2 if FILE is no trie or index.",
         arguments: &[FILE, BARE],
     },
     Subcommand {
