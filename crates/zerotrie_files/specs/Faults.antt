@@ -18,13 +18,20 @@ abbrev pub IsNoted : {T : Type 0} → Result T Error → Bool → Bool → Type 
 IsNoted (Ok value) old new = new ≡ old
 IsNoted (Err e) old new = IsOutOfMemory e ⊎ (new ≡ true)
 
--- a reader or writer itself, and whether some call of it failed
+-- a write failed, as whoever reads has closed the pipe
+abbrev pub IsClosed : {T : Type 0} → Result T Error → Type 0
+IsClosed (Ok value) = ⊥
+IsClosed (Err e) = error_kind e ≡ kind.BrokenPipe
+
+-- a reader or writer itself, whether some call of it failed, and whether some write did as whoever reads has closed the pipe
 pub record Watched (T : Type 0) : Type 0 where
   pub inner : T
   pub failed : Bool
+  pub closed : Bool
 
--- a disk, and whether some read and some replacement on it failed
+-- a disk, whether some read and some replacement on it failed, and whether a replacement did as whoever reads has closed the pipe
 pub record Files (D : Type 0) : Type 0 where
   pub disk : D
   pub unread : Bool
   pub unwritten : Bool
+  pub closed : Bool

@@ -1,7 +1,7 @@
 //! What failed.
 
 ghost use Rattle.std.specs.Prelude.{◌≡◌, ◌↔◌, false, IsTrue, IfErr, OnOk};
-ghost use Rattle.zerotrie_files.specs.Faults.{IsFault, IsOutOfMemory};
+ghost use Rattle.zerotrie_files.specs.Faults.{IsClosed, IsFault, IsOutOfMemory};
 
 use std::io;
 use std::io::ErrorKind;
@@ -15,5 +15,15 @@ pub fn is_fault<T>(outcome: &io::Result<T>) -> bool
     match outcome {
         Ok(_) => false,
         Err(error) => error.kind() != ErrorKind::OutOfMemory,
+    }
+}
+
+/// Returns whether a write failed as whoever reads has closed the pipe.
+pub fn is_closed<T>(outcome: &io::Result<T>) -> bool
+    ensures { IsTrue result ↔ IsClosed outcome.now }
+{
+    match outcome {
+        Ok(_) => false,
+        Err(error) => error.kind() == ErrorKind::BrokenPipe,
     }
 }

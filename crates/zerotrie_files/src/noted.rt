@@ -1,13 +1,13 @@
 //! Readers and writers that remember whether a call failed.
 
-ghost use Rattle.std.specs.Prelude.{◌≡◌, ◌⊎◌, ◌≤◌, ◌+◌, ◌^◌, [], length, true, false, IfOk, IfErr, IfSome, OnOk, OnErr, MatchResult};
+ghost use Rattle.std.specs.Prelude.{◌≡◌, ◌↔◌, ◌⊎◌, ◌≤◌, ◌+◌, ◌^◌, [], length, true, false, IfOk, IfErr, IfSome, IsTrue, OnOk, OnErr, MatchResult};
 ghost use Rattle.std.specs.Io.KnownBytes.{Appends, Keeps};
 ghost use Rattle.std.specs.Io.Buffered.{writer_contents, writer_buffer};
-ghost use Rattle.zerotrie_files.specs.Faults.{IsNoted, IsOutOfMemory};
+ghost use Rattle.zerotrie_files.specs.Faults.{IsClosed, IsNoted, IsOutOfMemory};
 ghost use Rattle.zerotrie_files.specs.Parts.{AppendsPart};
 ghost use Rattle.zerotrie_files.specs.Reads.{Gives};
 
-use crate::faults::is_fault;
+use crate::faults::{is_closed, is_fault};
 use crate::writing::write_bytes;
 use std::alloc::Global;
 use std::io;
@@ -18,12 +18,14 @@ use std::marker::Model;
 /// keeps for the next read.
 const ROOM: usize = 1 << 14;
 
-/// A reader or writer with a flag that is set from its first fault on. A call that a signal
-/// interrupts is made again, and is no fault.
+/// A reader or writer with a flag that is set from its first fault on, and one that is set if a
+/// write failed as whoever reads has closed the pipe. A call that a signal interrupts is made
+/// again, and is no fault.
 #[derive(Debug, Drop)]
 pub struct Noted<T> {
     inner: T,
     failed: bool,
+    closed: bool,
 }
 
 impl<T> Model for Noted<T> {
@@ -31,7 +33,7 @@ impl<T> Model for Noted<T> {
 
     ghost Value = { Watched T };
 
-    ghost view = { λ n. record { inner = n.inner; failed = n.failed } };
+    ghost view = { λ n. record { inner = n.inner; failed = n.failed; closed = n.closed } };
 }
 
 impl<T> Noted<T> {
@@ -39,10 +41,12 @@ impl<T> Noted<T> {
     pub fn new(inner: T) -> Self
         ensures inner { result.inner ≡ inner }
         ensures failed { result.failed ≡ false }
+        ensures closed { result.closed ≡ false }
     {
         Noted {
             inner,
             failed: false,
+            closed: false,
         }
     }
 
@@ -51,6 +55,13 @@ impl<T> Noted<T> {
         ensures { result ≡ self.now.failed }
     {
         self.failed
+    }
+
+    /// Whether some write failed as whoever reads has closed the pipe.
+    pub fn closed(&self) -> bool
+        ensures { result ≡ self.now.closed }
+    {
+        self.closed
     }
 
     /// The reader or writer itself.
@@ -112,9 +123,11 @@ impl<W: Write> Noted<W> {
             (AppendsPart (W.contents self.old.inner) (W.contents self.new.inner) bytes.now) }
         ensures noted { MatchResult result (λ _. self.new.failed ≡ self.old.failed)
             (λ _. self.new.failed ≡ true) }
+        ensures closed { IsTrue self.new.closed ↔ IsTrue self.old.closed ⊎ IsClosed result }
     {
         let outcome = write_bytes(&mut self.inner, bytes);
         self.failed |= outcome.is_err();
+        self.closed |= is_closed(&outcome);
         outcome
     }
 }
@@ -127,9 +140,11 @@ impl<W: Write + Drop> Noted<BufWriter<W>> {
         ensures empty { OnOk result (writer_buffer self.new.inner ≡ []) }
         ensures noted { MatchResult result (λ _. self.new.failed ≡ self.old.failed)
             (λ _. self.new.failed ≡ true) }
+        ensures closed { IsTrue self.new.closed ↔ IsTrue self.old.closed ⊎ IsClosed result }
     {
         let outcome = self.inner.flush();
         self.failed |= outcome.is_err();
+        self.closed |= is_closed(&outcome);
         outcome
     }
 }

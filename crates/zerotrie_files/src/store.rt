@@ -3,10 +3,10 @@
 ghost use Rattle.std.specs.Prelude.{◌≡◌, ◌≢◌, ◌↔◌, ◌⊎◌, Some, None, MatchBool, IfOk, IfErr, IfSome, IsTrue, OnOk, false};
 ghost use Rattle.zerotrie_files.specs.Disks.{Known, IsUnread};
 ghost use Rattle.zerotrie_files.specs.Stores.{ReplacesBeside};
-ghost use Rattle.zerotrie_files.specs.Faults.{IsFault, IsNoted};
+ghost use Rattle.zerotrie_files.specs.Faults.{IsClosed, IsFault, IsNoted};
 
 use crate::disk::Disk;
-use crate::faults::is_fault;
+use crate::faults::{is_closed, is_fault};
 use crate::found::Found;
 use crate::output::write_output;
 use std::alloc::Global;
@@ -20,6 +20,7 @@ pub struct Store<D> {
     disk: D,
     unread: bool,
     unwritten: bool,
+    closed: bool,
 }
 
 impl<D> Model for Store<D> {
@@ -27,7 +28,7 @@ impl<D> Model for Store<D> {
 
     ghost Value = { Files D };
 
-    ghost view = { λ s. record { disk = s.disk; unread = s.unread; unwritten = s.unwritten } };
+    ghost view = { λ s. record { disk = s.disk; unread = s.unread; unwritten = s.unwritten; closed = s.closed } };
 }
 
 impl<D: Disk> Store<D> {
@@ -36,11 +37,13 @@ impl<D: Disk> Store<D> {
         ensures disk { result.disk ≡ disk }
         ensures unread { result.unread ≡ false }
         ensures unwritten { result.unwritten ≡ false }
+        ensures closed { result.closed ≡ false }
     {
         Store {
             disk,
             unread: false,
             unwritten: false,
+            closed: false,
         }
     }
 
@@ -65,6 +68,13 @@ impl<D: Disk> Store<D> {
         self.unwritten
     }
 
+    /// Whether a replacement failed as whoever reads has closed the pipe that the path names.
+    pub fn closed(&self) -> bool
+        ensures { result ≡ self.now.closed }
+    {
+        self.closed
+    }
+
     /// Reads the file of a path.
     pub fn read(&mut self, path: &str) -> io::Result<Vec<u8>>
         ensures held { IfOk result (λ bytes.
@@ -74,6 +84,7 @@ impl<D: Disk> Store<D> {
         ensures same { self.new.disk ≡ self.old.disk }
         ensures unread { IsTrue self.new.unread ↔ IsTrue self.old.unread ⊎ IsFault result }
         ensures unwritten { self.new.unwritten ≡ self.old.unwritten }
+        ensures closed { self.new.closed ≡ self.old.closed }
         ensures noted { IsNoted result self.old.unread self.new.unread }
     {
         let outcome = self.disk.read(path);
@@ -88,6 +99,7 @@ impl<D: Disk> Store<D> {
         ensures same { self.new.disk ≡ self.old.disk }
         ensures unchanged { OnOk result (self.new ≡ self.old) }
         ensures unwritten { self.new.unwritten ≡ self.old.unwritten }
+        ensures closed { self.new.closed ≡ self.old.closed }
         ensures noted { IsNoted result self.old.unread self.new.unread }
     {
         match self.disk.find(path) {
@@ -107,9 +119,11 @@ impl<D: Disk> Store<D> {
         ensures unread { self.new.unread ≡ self.old.unread }
         ensures unwritten { IsTrue self.new.unwritten ↔ IsTrue self.old.unwritten ⊎ IsFault result }
         ensures noted { IsNoted result self.old.unwritten self.new.unwritten }
+        ensures closed { IsTrue self.new.closed ↔ IsTrue self.old.closed ⊎ IsClosed result }
     {
         let outcome = write_output(alloc, &mut self.disk, path, bytes);
         self.unwritten |= is_fault(&outcome);
+        self.closed |= is_closed(&outcome);
         outcome
     }
 }

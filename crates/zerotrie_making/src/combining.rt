@@ -7,8 +7,6 @@ ghost use Rattle.zerotrie_core.specs.Listings.{to_come};
 ghost use Rattle.zerotrie_core.specs.Maps.{Map, Ascends};
 ghost use Rattle.zerotrie_core.specs.Texts.{Means};
 ghost use Rattle.zerotrie_core.specs.WellFormed.{IsWellFormed};
-ghost use Rattle.std.specs.declared.ops.Bound.TheVariants.{Unbounded};
-ghost use Rattle.zerotrie_search.specs.Sorted.{within};
 ghost use Rattle.zerotrie_sets.specs.Operations.{IsCombined};
 ghost use Rattle.zerotrie_making.specs.Combinations.{IsFileOfBoth, ExplainsBoth, OfMeant, plan_of};
 
@@ -17,10 +15,9 @@ use crate::making::{FileForm, Plan, Source, make_of};
 use crate::refused::MakeError;
 use std::alloc::{AllocError, Global};
 use std::ops::Bound;
-use zerotrie_core::{PairStream, TrieKind, by_kind};
+use zerotrie_core::{PairStream, TrieKind};
 use zerotrie_lines::Table;
 use zerotrie_queries::Trie;
-use zerotrie_search::ZeroTrieSorted;
 use zerotrie_search::laws::sorted_listing_ascends;
 use zerotrie_sets::{Combined, Operation, SortedTrie};
 
@@ -38,21 +35,6 @@ fn plan_of(kind: Option<TrieKind>, form: FileForm) -> Plan
     }
 }
 
-/// Lists all pairs of a trie in the order of bytes. Does not validate them.
-fn listing<'a>(alloc: Global, trie: &Trie<'a>) -> Result<ZeroTrieSorted<'a, 'a>, AllocError>
-    ensures left { IfOk result (λ s. (m : Map)
-        → Means (kind_of trie.now.kind) trie.now.bytes.now m
-        → s.left ≡ to_come (within Unbounded Unbounded m)) }
-    ensures kind { IfOk result (λ s. s.kind ≡ kind_of trie.now.kind) }
-    ensures bytes { IfOk result (λ s. s.bytes ≡ trie.now.bytes.now) }
-{
-    let all: Bound<&[u8]> = Bound::Unbounded;
-    by_kind!(
-        trie.kind,
-        ZeroTrieSorted::new::<_>(alloc, trie.bytes, all, all)
-    )
-}
-
 /// Lists all pairs of a trie in the order of bytes.
 fn sorted<'a>(alloc: Global, trie: &Trie<'a>) -> Result<SortedTrie<'a, 'a>, AllocError>
     requires { IsWellFormed (kind_of trie.now.kind) trie.now.bytes.now }
@@ -60,8 +42,7 @@ fn sorted<'a>(alloc: Global, trie: &Trie<'a>) -> Result<SortedTrie<'a, 'a>, Allo
         → (s.left ≡ to_come (entries m)) × Ascends s.left.pairs) }
 {
     sorted_listing_ascends();
-    let pairs = listing(alloc, trie)?;
-    Ok(SortedTrie::new(pairs))
+    trie.stream_sorted(alloc, Bound::Unbounded, Bound::Unbounded)
 }
 
 /// Takes all pairs of a stream.

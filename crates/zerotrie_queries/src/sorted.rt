@@ -218,7 +218,7 @@ impl<'a> Trie<'a> {
     /// Lists all pairs between two bounds in the order of their keys' bytes.
     ///
     /// The only error is that it is out of memory.
-    pub(crate) fn stream_sorted<'p>(
+    pub fn stream_sorted<'p>(
         &self,
         alloc: Global,
         from: Bound<&[u8]>,

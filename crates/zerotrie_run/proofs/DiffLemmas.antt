@@ -1,5 +1,5 @@
 -- Two files that are compared.
-use Rattle.std.proofs.Common.{◌≡◌, ◌⊎◌, ◌++◌, ◌∙◌, ℕ, List, Option, Bool, true, false, Result, Ok, Err, Vec, refl, sym, subst, inl, inr}
+use Rattle.std.proofs.Common.{◌≡◌, ◌⊎◌, ◌++◌, ◌∙◌, ℕ, List, Option, Bool, true, false, Result, Ok, Err, Vec, refl, sym, ap, subst, inl, inr}
 use Rattle.std.specs.Prelude.{unwrap_or, IfOk, IsTrue}
 use Rattle.std.specs.Global.{Global}
 use Rattle.std.specs.declared.alloc.AllocError.{AllocError}
@@ -13,7 +13,8 @@ use Rattle.zerotrie_queries.specs.declared.file.OpenError.TheVariants as unopene
 use Rattle.zerotrie_queries.proofs.PartLemmas.{part_all}
 use Rattle.zerotrie_run.specs.Runs.{HasNumberToo, IsDoubtful, IsRead, ask_refusal}
 use Rattle.zerotrie_run.specs.Statuses.{failure}
-use Rattle.zerotrie_run.specs.Told.{HasReason, HasDiffReason, IsTold, TellsMore, ended}
+use Rattle.zerotrie_run.specs.Messages.{source_name}
+use Rattle.zerotrie_run.specs.Told.{HasReason, HasDiffReason, IsPlaceOf, IsTold, TellsMore, ended}
 use Rattle.zerotrie_run.specs.Diffs.{old_file, new_file, IsFileOf, IsDiffed, IsDiffedInPart, FailsDiff, RunsDiff, EndsDiff, HasNoTrieIn, IsEitherDoubtful, IsUnread, IsUnanswered, NotesNumbers, TellsIfDoubtful, AreHeldCompared, AreHeldComparedInPart, AreUncompared}
 use Rattle.zerotrie_run.specs.declared.asking.AskError.{AskError}
 use Rattle.zerotrie_run.specs.declared.asking.AskError.TheVariants as ask
@@ -165,6 +166,12 @@ pub diff_ends : (diff : Diff) (i : Option (List ℕ)) (files : Option Story) (a 
     → EndsDiff diff i files a b (ask_refusal e) → status ≡ unwrap_or (ask_refusal e) (failure read write closed) → result ≡ ended status r → RunsDiff diff i files a b result
 diff_ends diff i files a b read write closed e status result r h is ends = rw (ends, is) (ends_by diff i files a b read write closed e r h)
 
+-- a place of a question to one of the files is a place of the comparison
+place_in : (diff : Diff) (file : TrieFile) (name : List ℕ) → IsFileOf diff file → IsPlaceOf (commands.Ask file Verify) name → IsPlaceOf (commands.Diff diff) name
+place_in diff file name (inl is) (inl at) = inl (at ∙ ap (λ f. source_name f.place) is)
+place_in diff file name (inr is) (inl at) = inr (inl (at ∙ ap (λ f. source_name f.place) is))
+place_in diff file name of (inr stream) = inr (inr stream)
+
 -- what is told of a file is told of the comparison
 pub told_of : (diff : Diff) (file : TrieFile) (i : Option (List ℕ)) (files : Option Story) (a b : Option (List ℕ)) (s : Status) → IsFileOf diff file → IsTold (commands.Ask file Verify) i files a b s
     → IsTold (commands.Diff diff) i files a b s
@@ -174,8 +181,8 @@ told_of diff file i files a b Refused of h = absurd h.1.shows
 told_of diff file i files a b Taken of h = h
 told_of diff file i files a b BadUsage of h = h
 told_of diff file i files a b BadInput of h = (file, of, h)
-told_of diff file i files a b Unread of h = h
-told_of diff file i files a b Unwritten of h = h
+told_of diff file i files a b Unread of h = (h.0, place_in diff file h.0 of h.1, h.2)
+told_of diff file i files a b Unwritten of h = (h.0, place_in diff file h.0 of h.1, h.2)
 told_of diff file i files a b OutOfMemory of h = h
 told_of diff file i files a b Closed of h = h
 

@@ -3,6 +3,7 @@ mod LineLemmas
 mod MadeLemmas
 mod MessageLemmas
 mod ToldLemmas
+mod FailureLemmas
 mod NoteLemmas
 mod RefusedLemmas
 mod FileLemmas

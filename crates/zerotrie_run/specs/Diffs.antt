@@ -5,7 +5,7 @@ use Rattle.zerotrie_core.specs.declared.TrieKind.{TrieKind}
 use Rattle.zerotrie_files.specs.Disks.{Story}
 use Rattle.zerotrie_queries.specs.Diffs.{AreCompared, AreComparedInPart}
 use Rattle.zerotrie_queries.specs.Texts.{looks_like_text}
-use Rattle.zerotrie_run.specs.Messages.{IsLine}
+use Rattle.zerotrie_run.specs.Messages.{IsLineOn, source_name}
 use Rattle.zerotrie_run.specs.Runs.{AreOneStream, IsRead, Opens, IsUnopened, HasNoTrie, HasNumberToo, IsDoubtful, ask_refusal}
 use Rattle.zerotrie_run.specs.declared.asking.AskError.{AskError}
 use Rattle.zerotrie_run.specs.declared.asking.AskError.TheVariants as ask
@@ -90,9 +90,9 @@ abbrev pub diff_refusal : Result Bool DiffError → Option Status
 diff_refusal (Ok same) = None
 diff_refusal (Err e) = ask_refusal e.error
 
--- what is told of a file, by what was read of it: a line if it is read as bare bytes and begins with the number of a kind, and nothing if not
+-- what is told of a file, by what was read of it: a line on it if it is read as bare bytes and begins with the number of a kind, and nothing if not
 pub record TellsIfDoubtful (file : TrieFile) (held : List ℕ) (old new : Option (List ℕ)) : Type 0 where
-  pub line : HasNumberToo file.bare held → (text : List ℕ) × IsLine text × Appends old new text
+  pub line : HasNumberToo file.bare held → (text : List ℕ) × IsLineOn (source_name file.place) text × Appends old new text
   pub none : (HasNumberToo file.bare held → ⊥) → new ≡ old
 
 -- What a comparison tells that comes to its end.

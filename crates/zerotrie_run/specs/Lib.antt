@@ -8,3 +8,4 @@ pub mod CombinedLaws
 pub mod Streams
 pub mod Messages
 pub mod Told
+pub mod Failures

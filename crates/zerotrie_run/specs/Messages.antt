@@ -3,15 +3,23 @@ use Rattle.std.specs.Prelude.{◌≡◌, ◌≢◌, ◌⊎◌, ◌<◌, ℕ, Lis
 use Rattle.zerotrie_core.specs.declared.ZeroTrieBuildError.TheVariants as cause
 use Rattle.zerotrie_core.specs.Faults.{rule_text}
 use Rattle.zerotrie_lines.specs.Escapes.{escaped}
+use Rattle.zerotrie_lines.specs.declared.reading.Format.TheVariants.{Lines, Tsv, TsvRaw, Csv}
 use Rattle.zerotrie_lines.specs.declared.fault.BadLine.{BadLine}
 use Rattle.zerotrie_lines.specs.declared.fault.BadLine.TheVariants as bad
 use Rattle.zerotrie_queries.specs.declared.file.OpenError.{OpenError}
 use Rattle.zerotrie_queries.specs.declared.file.OpenError.TheVariants as unopened
+use Rattle.zerotrie_making.specs.declared.making.Source.{Source}
+use Rattle.zerotrie_making.specs.declared.making.Source.TheVariants.{Text, Json}
 use Rattle.zerotrie_making.specs.declared.refused.NoPair.{NoPair}
 use Rattle.zerotrie_making.specs.declared.refused.NoPair.TheVariants.{Member, Item}
 use Rattle.zerotrie_making.specs.declared.refused.Shown.{Shown}
 use Rattle.zerotrie_making.specs.declared.refused.MakeError.{MakeError}
 use Rattle.zerotrie_making.specs.declared.refused.MakeError.TheVariants as made
+use Rattle.zerotrie_run.specs.Combined.{place_of}
+use Rattle.zerotrie_run.specs.declared.command.Combine.{Combine}
+use Rattle.zerotrie_run.specs.declared.command.Place.{Place}
+use Rattle.zerotrie_run.specs.declared.command.Place.TheVariants.{File, Stream}
+use Rattle.zerotrie_run.specs.declared.stdin_lines.AnswerError.TheVariants.{Input, Output}
 use Rattle.zerotrie_run.specs.declared.asking.AskError.{AskError}
 use Rattle.zerotrie_run.specs.declared.asking.AskError.TheVariants as ask
 use Rattle.zerotrie_run.specs.declared.building.BuildError.{BuildError}
@@ -32,21 +40,54 @@ abbrev pub BeginsWithNoDigit : List ℕ → Type 0
 BeginsWithNoDigit [] = ⊥
 BeginsWithNoDigit (b ∷ words) = (b < 48) ⊎ (57 < b)
 
--- a number stands in a text by itself: after a space, and in front of what begins with no digit
-abbrev pub Names : List ℕ → ℕ → Type 0
-Names text number = (front back : List ℕ) × BeginsWithNoDigit back × (text ≡ front ++ (32 ∷ (decimal number ++ back)))
+-- a number stands in a text by itself: after its unit, as a line or a byte, and a space, and in front of what begins with no digit
+abbrev pub Names : (unit text : List ℕ) → ℕ → Type 0
+Names unit text number = (front back : List ℕ) × BeginsWithNoDigit back × (text ≡ front ++ (unit ++ (32 ∷ (decimal number ++ back))))
+
+-- two numbers of a unit stand in a text: together, as "lines 3 and 5", or each by itself
+abbrev pub NamesBoth : (unit text : List ℕ) → ℕ → ℕ → Type 0
+NamesBoth unit text m n = (Names (unit ++ codes "s") text m × Names (codes "and") text n) ⊎ (Names unit text m × Names unit text n)
 
 -- a text is a line: it ends in a line feed
 abbrev pub IsLine : List ℕ → Type 0
 IsLine text = (words : List ℕ) × (text ≡ words ++ 10 ∷ [])
+
+-- how messages name a place: by its path, and a stream by these words
+abbrev pub place_name : Place → List ℕ → List ℕ
+place_name (File path) stream = path.now
+place_name Stream stream = stream
+
+-- how they name one that is read, and one that is written
+abbrev pub source_name : Place → List ℕ
+source_name place = place_name place (codes "standard input")
+
+abbrev pub target_name : Place → List ℕ
+target_name place = place_name place (codes "standard output")
+
+-- what a line on a place begins with
+abbrev pub line_front : List ℕ → List ℕ
+line_front place = (codes "zerotrie: " ++ place) ++ codes ": "
+
+-- a text is a line on the place of this name
+abbrev pub IsLineOn : List ℕ → List ℕ → Type 0
+IsLineOn place text = (words : List ℕ) × (text ≡ line_front place ++ (words ++ 10 ∷ []))
+
+-- what the pairs of an input stand on
+abbrev pub unit_of : Source → List ℕ
+unit_of (Text Lines ended) = codes "line"
+unit_of (Text Tsv ended) = codes "line"
+unit_of (Text TsvRaw ended) = codes "line"
+unit_of (Text Csv ended) = codes "record"
+unit_of Json = codes "pair"
 
 -- how a key is told: by its first 100 bytes, as they stand on a line
 abbrev pub told_key : List ℕ → List ℕ
 told_key key = escaped (take 100 key)
 
 -- the numbers of the pairs that show a refusal stand in a text: of both, or of the one whose key is not ASCII
-abbrev pub NamesPairs : Shown → List ℕ → Type 0
-NamesPairs s text = Names text s.first.number × (s.error ≢ cause.NonAsciiError → Names text s.second.number)
+abbrev pub NamesPairs : (unit : List ℕ) → Shown → List ℕ → Type 0
+NamesPairs unit s text = (s.error ≡ cause.NonAsciiError → Names unit text s.first.number)
+    × (s.error ≢ cause.NonAsciiError → NamesBoth unit text s.first.number s.second.number)
 
 -- and their keys: the one that is there twice or is not ASCII, the one that does not ascend, or both
 abbrev pub SaysKeys : Shown → List ℕ → Type 0
@@ -56,7 +97,7 @@ SaysKeys s text = (s.error ≢ cause.Unsorted → Says text (told_key s.first.ke
 -- a message tells which member or item of a JSON value is no pair
 abbrev pub TellsNoPair : NoPair → List ℕ → Type 0
 TellsNoPair (Member key) text = Says text (told_key key.items)
-TellsNoPair (Item number) text = Names text number
+TellsNoPair (Item number) text = Names (codes "pair") text number
 
 -- a field that is no value stands in a text: what it begins with
 abbrev pub SaysField : BadLine → List ℕ → Type 0
@@ -66,45 +107,48 @@ SaysField bad.Escape text = Unit {0}
 SaysField (bad.Value v) text = Says text (told_key v.front.items)
 SaysField bad.Fields text = Unit {0}
 
--- a message tells why no file is made, with the number of the line or pair, the place in the text, or the numbers and keys of the pairs
-abbrev pub TellsMade : MakeError → List ℕ → Type 0
-TellsMade (made.Line number bad) text = Names text number × SaysField bad text
-TellsMade (made.NotJson line column) text = Names text line × Names text column
-TellsMade made.NotPairs text = Unit {0}
-TellsMade (made.NotPair bad) text = TellsNoPair bad text
-TellsMade (made.Keys s) text = NamesPairs s text × SaysKeys s text
-TellsMade (made.Refused e) text = Unit {0}
-TellsMade (made.IndexRefused e) text = Unit {0}
-TellsMade made.OutOfMemory text = Unit {0}
+-- a message tells why no file is made of a source, with the number of the line, record or pair, the place in the text, or the numbers
+-- and keys of the pairs
+abbrev pub TellsMade : Source → MakeError → List ℕ → Type 0
+TellsMade source (made.Line number bad) text = Names (unit_of source) text number × SaysField bad text
+TellsMade source (made.NotJson line column) text = Names (codes "line") text line × Names (codes "column") text column
+TellsMade source made.NotPairs text = Unit {0}
+TellsMade source (made.NotPair bad) text = TellsNoPair bad text
+TellsMade source (made.Keys s) text = NamesPairs (unit_of source) s text × SaysKeys s text
+TellsMade source (made.Refused e) text = Unit {0}
+TellsMade source (made.IndexRefused e) text = Unit {0}
+TellsMade source made.OutOfMemory text = Unit {0}
 
 -- a message tells why a file has no trie, by whether it looks like text: that it does, or the rule and the place of the first fault
 abbrev pub TellsNoTrie : OpenError → Bool → List ℕ → Type 0
 TellsNoTrie (unopened.BadTag why) is_text text = is_text ≡ true → Says text (codes "it looks like text: build it first")
 TellsNoTrie (unopened.Damaged why) is_text text = Unit {0}
-TellsNoTrie (unopened.NotWellFormed kind first) is_text text = Says text (rule_text first.cause) × Names text first.place
+TellsNoTrie (unopened.NotWellFormed kind first) is_text text = Says text (rule_text first.cause) × Names (codes "byte") text first.place
 TellsNoTrie unopened.OutOfMemory is_text text = Unit {0}
 
--- a message tells why a question has no answer
-abbrev pub TellsAsk : AskError → List ℕ → Type 0
-TellsAsk ask.TwoInputs text = IsLine text
-TellsAsk (ask.Unread e) text = IsLine text
-TellsAsk (ask.NoTrie why is_text) text = IsLine text × TellsNoTrie why is_text text
-TellsAsk (ask.Unanswered e) text = IsLine text
-TellsAsk (ask.NotText key) text = IsLine text × Says text (told_key key.items)
+-- a line tells why a question to a file has no answer, and which place it is about
+abbrev pub TellsAsk : Place → AskError → List ℕ → Type 0
+TellsAsk file ask.TwoInputs text = IsLine text
+TellsAsk file (ask.Unread e) text = IsLineOn (source_name file) text
+TellsAsk file (ask.NoTrie why is_text) text = IsLineOn (source_name file) text × TellsNoTrie why is_text text
+TellsAsk file (ask.Unanswered (Input e)) text = IsLineOn (codes "standard input") text
+TellsAsk file (ask.Unanswered (Output e)) text = IsLineOn (codes "standard output") text
+TellsAsk file (ask.NotText key) text = IsLineOn (source_name file) text × Says text (told_key key.items)
 
--- a message tells why no file was made or written
-abbrev pub TellsBuild : BuildError → List ℕ → Type 0
-TellsBuild (build.Unread e) text = IsLine text
-TellsBuild (build.NotMade e) text = IsLine text × TellsMade e text
-TellsBuild (build.Unwritten e) text = IsLine text
-TellsBuild build.Taken text = IsLine text
-TellsBuild (build.Unfound e) text = IsLine text
+-- a line tells why no file was made of a source or written, and which of these places it is about: the one that is read, or the one that
+-- is written
+abbrev pub TellsBuild : (from to : List ℕ) → Source → BuildError → List ℕ → Type 0
+TellsBuild from to source (build.Unread e) text = IsLineOn from text
+TellsBuild from to source (build.NotMade e) text = IsLineOn from text × TellsMade source e text
+TellsBuild from to source (build.Unwritten e) text = IsLineOn to text
+TellsBuild from to source build.Taken text = IsLineOn to text
+TellsBuild from to source (build.Unfound e) text = IsLineOn to text
 
--- a message tells why no file was made of two others, or written
-abbrev pub TellsCombine : CombineError → List ℕ → Type 0
-TellsCombine (combine.Unopened side e) text = IsLine text
-TellsCombine (combine.NoTrie side why is_text) text = IsLine text × TellsNoTrie why is_text text
-TellsCombine (combine.NotBuilt e) text = TellsBuild e text
+-- a line tells why no file was made of two others, or written, and which place it is about; pairs are refused at the one that is written
+abbrev pub TellsCombine : Combine → CombineError → List ℕ → Type 0
+TellsCombine c (combine.Unopened side e) text = IsLineOn (source_name (place_of c side)) text
+TellsCombine c (combine.NoTrie side why is_text) text = IsLineOn (source_name (place_of c side)) text × TellsNoTrie why is_text text
+TellsCombine c (combine.NotBuilt e) text = TellsBuild (target_name c.to) (target_name c.to) Json e text
 
 -- what is told of a step of a build: its place, what was done there, and to how many bytes
 abbrev pub step_line : List ℕ → List ℕ → ℕ → List ℕ

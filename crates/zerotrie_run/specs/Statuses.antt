@@ -1,5 +1,6 @@
 -- How a run ends, and its number.
-use Rattle.std.specs.Prelude.{ℕ, Bool, true, false, Option, Some, None}
+use Rattle.std.specs.Prelude.{ℕ, Bool, true, false, ◌||◌, Option, Some, None}
+use Rattle.zerotrie_files.specs.Faults.{Watched, Files}
 use Rattle.zerotrie_making.specs.declared.refused.MakeError.{MakeError}
 use Rattle.zerotrie_making.specs.declared.refused.MakeError.TheVariants as error
 use Rattle.zerotrie_run.specs.declared.status.Status.{Status}
@@ -37,3 +38,7 @@ failure true write closed = Unread
 failure false false closed = OutOfMemory
 failure false true true = Closed
 failure false true false = Unwritten
+
+-- how a run ends in which something failed, by what its streams and files noted
+abbrev pub failure_of : {R W D : Type 0} → (input : Watched R) → (output : Watched W) → (files : Files D) → Status
+failure_of input output files = failure (input.failed || files.unread) (output.failed || files.unwritten) (output.closed || files.closed)

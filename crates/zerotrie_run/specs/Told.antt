@@ -1,5 +1,5 @@
 -- What is told of a run on standard error.
-use Rattle.std.specs.Prelude.{◌≡◌, ℕ, List, [], ◌++◌, length, Option, Some, Bool, true, false, Result, Ok, Err, Vec, codes}
+use Rattle.std.specs.Prelude.{◌≡◌, ◌⊎◌, ℕ, List, [], ◌++◌, length, Option, Some, Bool, true, false, Result, Ok, Err, Vec, codes}
 use Rattle.std.specs.Io.KnownBytes.{Appends}
 use Rattle.zerotrie_files.specs.Disks.{Story}
 use Rattle.zerotrie_queries.specs.declared.file.OpenError.{OpenError}
@@ -8,16 +8,15 @@ use Rattle.zerotrie_making.specs.Made.{IsFile}
 use Rattle.zerotrie_making.specs.Made as made
 use Rattle.zerotrie_making.specs.declared.refused.MakeError.{MakeError}
 use Rattle.zerotrie_run.specs.Statuses.{made_refusal}
-use Rattle.zerotrie_run.specs.Messages.{IsLine, Says, TellsMade, TellsNoTrie, step_line, told_key}
+use Rattle.zerotrie_making.specs.declared.making.Source.TheVariants.{Json}
+use Rattle.zerotrie_run.specs.Messages.{IsLine, IsLineOn, Says, TellsMade, TellsNoTrie, source_name, target_name, step_line, told_key}
 use Rattle.zerotrie_run.specs.Runs.{IsRead, IsThere, IsUnopened, IsUnprinted, HasNumberToo}
 use Rattle.zerotrie_run.specs.Diffs.{IsFileOf, NotesNumbers}
 use Rattle.zerotrie_run.specs.declared.command.Diff.{Diff}
 use Rattle.zerotrie_run.specs.declared.comparing.DiffError.{DiffError}
-use Rattle.zerotrie_run.specs.Combined.{ExplainsMaps, OfFiles, file_of}
+use Rattle.zerotrie_run.specs.Combined.{ExplainsMaps, OfFiles, file_of, place_of}
 use Rattle.zerotrie_run.specs.declared.status.Status.{Status}
 use Rattle.zerotrie_run.specs.declared.status.Status.TheVariants.{Done, Absent, Refused, Taken, BadUsage, BadInput, Unread, Unwritten, OutOfMemory, Closed}
-use Rattle.zerotrie_run.specs.declared.command.Place.{Place}
-use Rattle.zerotrie_run.specs.declared.command.Place.TheVariants.{File, Stream}
 use Rattle.zerotrie_run.specs.declared.command.Build.{Build}
 use Rattle.zerotrie_run.specs.declared.command.Command.{Command}
 use Rattle.zerotrie_run.specs.declared.command.Command.TheVariants as commands
@@ -25,6 +24,7 @@ use Rattle.zerotrie_run.specs.declared.command.TrieFile.{TrieFile}
 use Rattle.zerotrie_run.specs.declared.command.Question.{Question}
 use Rattle.zerotrie_run.specs.declared.command.Question.TheVariants.{Verify}
 use Rattle.zerotrie_run.specs.declared.command.Side.{Side}
+use Rattle.zerotrie_run.specs.declared.command.Side.TheVariants.{First, Second}
 use Rattle.zerotrie_run.specs.declared.asking.AskError.{AskError}
 use Rattle.zerotrie_run.specs.declared.asking.AskError.TheVariants as ask
 use Rattle.zerotrie_run.specs.declared.building.BuildError.{BuildError}
@@ -41,6 +41,25 @@ ToldLast old new text = (words : List ℕ) × Appends old new (words ++ text)
 -- a line was
 abbrev pub LineTold : (old new : Option (List ℕ)) → Type 0
 LineTold old new = (text : List ℕ) × IsLine text × ToldLast old new text
+
+-- a line on the place of this name was
+abbrev pub ToldOf : List ℕ → (old new : Option (List ℕ)) → Type 0
+ToldOf place old new = (text : List ℕ) × IsLineOn place text × ToldLast old new text
+
+-- messages name a stream so
+abbrev pub IsStream : List ℕ → Type 0
+IsStream name = (name ≡ codes "standard input") ⊎ (name ≡ codes "standard output")
+
+-- they name a place so that a command reads or writes
+abbrev pub IsPlaceOf : Command → List ℕ → Type 0
+IsPlaceOf (commands.Build build) name = (name ≡ source_name build.from) ⊎ (name ≡ target_name build.to)
+IsPlaceOf (commands.Ask file question) name = (name ≡ source_name file.place) ⊎ IsStream name
+IsPlaceOf (commands.Diff diff) name = (name ≡ source_name diff.old) ⊎ (name ≡ source_name diff.new) ⊎ IsStream name
+IsPlaceOf (commands.Combine c) name = (name ≡ source_name (place_of c First)) ⊎ (name ≡ source_name (place_of c Second)) ⊎ (name ≡ target_name c.to)
+
+-- a line on such a place was told last
+abbrev pub PlaceTold : Command → (old new : Option (List ℕ)) → Type 0
+PlaceTold command old new = (name : List ℕ) × IsPlaceOf command name × ToldOf name old new
 
 -- why a question has no answer is so of what was read of the file
 abbrev pub HasReason : TrieFile → Question → Option (List ℕ) → Option Story → AskError → Type 0
@@ -62,27 +81,22 @@ HasCause build input files (unmade.Unwritten e) = Unit {0}
 HasCause build input files unmade.Taken = IsThere build.to files
 HasCause build input files (unmade.Unfound e) = Unit {0}
 
--- a line is told if the file is read as bare bytes and begins with the number of a kind
+-- a line on the file is told if it is read as bare bytes and begins with the number of a kind
 abbrev pub NotesNumber : TrieFile → Option (List ℕ) → Option Story → (old new : Option (List ℕ)) → Type 0
 NotesNumber file input files old new = (held : List ℕ) × IsRead file.place input files held
-    × (HasNumberToo file.bare held → (text : List ℕ) × IsLine text × Appends old new text)
+    × (HasNumberToo file.bare held → (text : List ℕ) × IsLineOn (source_name file.place) text × Appends old new text)
 
 -- a step is told or not
 abbrev pub told_step : Bool → List ℕ → List ℕ → ℕ → List ℕ
 told_step true place step len = step_line place step len
 told_step false place step len = []
 
--- how messages name a place: by its path, and a stream by these words
-abbrev pub place_name : Place → List ℕ → List ℕ
-place_name (File path) stream = path.now
-place_name Stream stream = stream
-
 -- the steps of a build: how many bytes were read, made and written
 abbrev pub steps_told : Build → List ℕ → List ℕ → List ℕ
 steps_told build all file =
-    told_step build.progress (place_name build.from (codes "standard input")) (codes "read") (length all)
-    ++ (told_step build.progress (place_name build.to (codes "standard output")) (codes "made") (length file)
-    ++ told_step build.progress (place_name build.to (codes "standard output")) (codes "wrote") (length file))
+    told_step build.progress (source_name build.from) (codes "read") (length all)
+    ++ (told_step build.progress (target_name build.to) (codes "made") (length file)
+    ++ told_step build.progress (target_name build.to) (codes "wrote") (length file))
 
 -- they are told
 abbrev pub TellsSteps : Build → Option (List ℕ) → Option Story → (old new : Option (List ℕ)) → Type 0
@@ -92,13 +106,13 @@ TellsSteps build input files old new = (all : List ℕ) × IsRead build.from inp
 -- a line tells why a file that was read has no trie, by its first fault
 abbrev pub TellsUnopened : TrieFile → Option (List ℕ) → Option Story → (old new : Option (List ℕ)) → Type 0
 TellsUnopened file input files old new = (held : List ℕ) × IsRead file.place input files held
-    × (why : OpenError) × IsUnopened file held why × (text : List ℕ) × IsLine text × TellsNoTrie why (looks_like_text held) text × ToldLast old new text
+    × (why : OpenError) × IsUnopened file held why × (text : List ℕ) × IsLineOn (source_name file.place) text × TellsNoTrie why (looks_like_text held) text × ToldLast old new text
 
 -- a line tells why what was read is refused: which pairs of an input, or which fault in a trie
 abbrev pub TellsRefusal : Command → Option (List ℕ) → Option Story → (old new : Option (List ℕ)) → Status → Type 0
 TellsRefusal (commands.Build build) input files old new status = (all : List ℕ) × IsRead build.from input files all
     × (e : MakeError) × made.Explains build.plan all e × (made_refusal e ≡ Some status)
-    × (text : List ℕ) × IsLine text × TellsMade e text × ToldLast old new text
+    × (text : List ℕ) × IsLineOn (source_name build.from) text × TellsMade build.plan.source e text × ToldLast old new text
 TellsRefusal (commands.Ask file question) input files old new status = TellsUnopened file input files old new
 TellsRefusal (commands.Diff diff) input files old new status = (file : TrieFile) × IsFileOf diff file × TellsUnopened file input files old new
 TellsRefusal (commands.Combine c) input files old new status = (side : Side) × TellsUnopened (file_of c side) input files old new
@@ -107,21 +121,28 @@ TellsRefusal (commands.Combine c) input files old new status = (side : Side) × 
 abbrev pub TellsRefused : Command → Option (List ℕ) → Option Story → (old new : Option (List ℕ)) → Type 0
 TellsRefused (commands.Build build) input files old new = TellsRefusal (commands.Build build) input files old new Refused
 TellsRefused (commands.Ask file question) input files old new = (key : List ℕ) × IsUnprinted file question input files key
-    × (text : List ℕ) × IsLine text × Says text (told_key key) × ToldLast old new text
+    × (text : List ℕ) × IsLineOn (source_name file.place) text × Says text (told_key key) × ToldLast old new text
 TellsRefused (commands.Diff diff) input files old new = ⊥
 TellsRefused (commands.Combine c) input files old new = (e : MakeError) × OfFiles c input files (ExplainsMaps c e) × (made_refusal e ≡ Some Refused)
-    × (text : List ℕ) × IsLine text × TellsMade e text × ToldLast old new text
+    × (text : List ℕ) × IsLineOn (target_name c.to) text × TellsMade Json e text × ToldLast old new text
+
+-- a line tells that the file to make is there already
+abbrev pub TellsTaken : Command → (old new : Option (List ℕ)) → Type 0
+TellsTaken (commands.Build build) old new = ToldOf (target_name build.to) old new
+TellsTaken (commands.Ask file question) old new = ⊥
+TellsTaken (commands.Diff diff) old new = ⊥
+TellsTaken (commands.Combine c) old new = ToldOf (target_name c.to) old new
 
 -- what is told last of a run that ends so; nothing if whoever reads the output has closed it
 abbrev pub IsTold : Command → Option (List ℕ) → Option Story → (old new : Option (List ℕ)) → Status → Type 0
 IsTold command input files old new Done = Unit {0}
 IsTold command input files old new Absent = Unit {0}
 IsTold command input files old new Refused = TellsRefused command input files old new
-IsTold command input files old new Taken = LineTold old new
+IsTold command input files old new Taken = TellsTaken command old new
 IsTold command input files old new BadUsage = LineTold old new
 IsTold command input files old new BadInput = TellsRefusal command input files old new BadInput
-IsTold command input files old new Unread = LineTold old new
-IsTold command input files old new Unwritten = LineTold old new
+IsTold command input files old new Unread = PlaceTold command old new
+IsTold command input files old new Unwritten = PlaceTold command old new
 IsTold command input files old new OutOfMemory = LineTold old new
 IsTold command input files old new Closed = Unit {0}
 

@@ -5,6 +5,7 @@ ghost use Rattle.std.specs.Io.Buffered.{writer_contents};
 ghost use Rattle.zerotrie_files.specs.Notes.{NothingFailed, SameNotes};
 ghost use Rattle.zerotrie_run.specs.Commands.{ReadsTwice};
 ghost use Rattle.zerotrie_queries.specs.Finders.{Finds};
+ghost use Rattle.zerotrie_run.specs.Failures.{AnswerFailed, AskFailed, ReadFailed, WriteFailed};
 ghost use Rattle.zerotrie_run.specs.Runs.{Opens, OpensBy, OpensFor, Content, ContentAnswers, IndexAnswers, IndexAnswersInPart, asks_index, ExplainsInFull, IsUnopened, KeysAnswered, KeysAnsweredInPart, Answers, IsNoAnswer, IsAsked, EndsAsk, IsUnanswered, IsDoubtful, LeavesKeys, LeavesInputOf, HandsOn, ask_fails, ask_refusal, asked_refusal, are_lines, of_lines};
 ghost use Rattle.zerotrie_run.specs.Runs.Content.{of_index};
 ghost use Rattle.zerotrie_run.specs.Told.{HasReason, NotesNumber, TellsMore};
@@ -21,7 +22,7 @@ use crate::status::Status;
 use crate::stdin_lines::{AnswerError, answer_lines};
 use std::alloc::Global;
 use std::io;
-use std::io::{BufWriter, ErrorKind, Read, Write};
+use std::io::{BufWriter, Read, Write};
 use zerotrie_core::TrieKind;
 use zerotrie_files::{Disk, Noted, Store};
 use zerotrie_index::is_well_formed;
@@ -60,16 +61,6 @@ impl AskError {
             },
             AskError::NotText(_) => Some(Status::Refused),
             AskError::Unread(_) | AskError::Unanswered(_) => None,
-        }
-    }
-
-    /// Whether who reads the output has closed it.
-    pub fn is_closed(&self) -> bool {
-        match self {
-            AskError::Unanswered(AnswerError::Output(error)) => {
-                error.kind() == ErrorKind::BrokenPipe
-            }
-            _ => false,
         }
     }
 }
@@ -217,6 +208,8 @@ fn answer_keys<R: Read, W: Write + Drop>(
     ensures part { OnErr result (KeysAnsweredInPart query keys.entry (R.remaining input.old.inner)
         (Finds finder.now query.asked) (writer_contents W.contents output.old.inner) (writer_contents W.contents output.new.inner)) }
     ensures noted { OnOk result (SameNotes input.old input.new output.old output.new) }
+    ensures failed { IfErr result (AnswerFailed (input.new.failed ≡ true)
+        (output.new.failed ≡ true)) }
     ensures unread { are_lines keys.entry ≡ false → input.new ≡ input.old }
 {
     match keys {
@@ -239,6 +232,7 @@ fn answer<R: Read, W: Write + Drop>(
     ensures part { IfErr result (IsNoAnswer question.entry (R.remaining input.old.inner)
         trie.now.kind trie.now.bytes.now (writer_contents W.contents output.old.inner) (writer_contents W.contents output.new.inner)) }
     ensures noted { ask_fails result ≡ false → SameNotes input.old input.new output.old output.new }
+    ensures failed { IfErr result (AskFailed (input.new.failed ≡ true) (output.new.failed ≡ true)) }
     ensures unread { of_lines question.entry ≡ false → input.new ≡ input.old }
 {
     match question {
@@ -283,6 +277,8 @@ fn answer_of_index<R: Read, W: Write + Drop>(
     ensures part { OnErr result (IndexAnswersInPart question.entry (R.remaining input.old.inner)
         index.now (writer_contents W.contents output.old.inner) (writer_contents W.contents output.new.inner)) }
     ensures noted { OnOk result (SameNotes input.old input.new output.old output.new) }
+    ensures failed { IfErr result (AnswerFailed (input.new.failed ≡ true)
+        (output.new.failed ≡ true)) }
     ensures unread { of_lines question.entry ≡ false → input.new ≡ input.old }
 {
     match question {
@@ -311,6 +307,7 @@ fn answer_held<R: Read, W: Write + Drop>(
         held.now (writer_contents W.contents output.old.inner) (writer_contents W.contents output.new.inner)) }
     ensures noted { ask_fails result ≡ false
         → SameNotes input.old input.new output.old output.new }
+    ensures failed { IfErr result (AskFailed (input.new.failed ≡ true) (output.new.failed ≡ true)) }
     ensures unread { LeavesKeys question.entry (asked_refusal result) → input.new ≡ input.old }
 {
     if let Some(index) = open_index(file, question, held) {
@@ -354,6 +351,8 @@ pub fn ask<D: Disk, R: Read, W: Write + Drop, M: Write>(
     ensures twice { ReadsTwice (Ask file.entry question.entry) → result ≡ Err TwoInputs }
     ensures noted { ask_fails result ≡ false
         → NothingFailed input.old input.new output.old output.new files.old files.new }
+    ensures failed { IfErr result (AskFailed (ReadFailed input.new files.new)
+        (WriteFailed output.new files.new)) }
     ensures unread { LeavesInputOf file.entry question.entry (asked_refusal result)
         → input.new ≡ input.old }
 {

@@ -1,7 +1,8 @@
 //! A file that is made of pairs.
 
-ghost use Rattle.std.specs.Prelude.{◌≡◌, false, IfErr, OnOk};
+ghost use Rattle.std.specs.Prelude.{◌≡◌, false, true, IfErr, OnOk};
 ghost use Rattle.zerotrie_files.specs.Notes.{NothingFailed};
+ghost use Rattle.zerotrie_run.specs.Failures.{BuildFailed, ReadFailed, WriteFailed};
 ghost use Rattle.zerotrie_run.specs.Runs.{world, IsFreshAt, IsMade, IsNotBegun, EndsBuild, HandsOn, build_fails, build_refusal};
 ghost use Rattle.std.specs.Io.Buffered.{writer_contents};
 ghost use Rattle.zerotrie_making.specs.declared.refused.MakeError.TheVariants.{OutOfMemory};
@@ -15,7 +16,7 @@ use crate::reading::{read_place, write_place};
 use crate::status::Status;
 use std::alloc::{AllocError, Global};
 use std::io;
-use std::io::{BufWriter, ErrorKind, Read, Write};
+use std::io::{BufWriter, Read, Write};
 use zerotrie_files::{Disk, Noted, Store};
 use zerotrie_making::{MakeError, make};
 
@@ -43,14 +44,6 @@ impl BuildError {
             BuildError::NotMade(error) => Status::of_refusal(error),
             BuildError::Taken => Some(Status::Taken),
             BuildError::Unread(_) | BuildError::Unwritten(_) | BuildError::Unfound(_) => None,
-        }
-    }
-
-    /// Whether who reads the output has closed it.
-    pub fn is_closed(&self) -> bool {
-        match self {
-            BuildError::Unwritten(error) => error.kind() == ErrorKind::BrokenPipe,
-            _ => false,
         }
     }
 }
@@ -89,6 +82,8 @@ fn make_file<D: Disk, R: Read, W: Write + Drop, M: Write>(
     ensures quiet { build.entry.progress ≡ false → messages.new ≡ messages.old }
     ensures noted { build_fails result ≡ false
         → NothingFailed input.old input.new output.old output.new files.old files.new }
+    ensures failed { IfErr result (BuildFailed (ReadFailed input.new files.new)
+        (WriteFailed output.new files.new)) }
     ensures unread { (build.entry.from ≡ Stream → ⊥) → input.new ≡ input.old }
 {
     let held = match read_place(alloc, build.from, files, input) {
@@ -132,6 +127,7 @@ pub fn spare<D: Disk>(
     ensures same { files.new.disk ≡ files.old.disk }
     ensures unwritten { files.new.unwritten ≡ files.old.unwritten }
     ensures noted { build_fails result ≡ false → files.new.unread ≡ files.old.unread }
+    ensures failed { IfErr result (BuildFailed (files.new.unread ≡ true) ⊥) }
 {
     match to {
         Place::File(path) if no_clobber => match files.has(path) {
@@ -170,6 +166,8 @@ pub fn build<D: Disk, R: Read, W: Write + Drop, M: Write>(
     ensures quiet { build.entry.progress ≡ false → messages.new ≡ messages.old }
     ensures noted { build_fails result ≡ false
         → NothingFailed input.old input.new output.old output.new files.old files.new }
+    ensures failed { IfErr result (BuildFailed (ReadFailed input.new files.new)
+        (WriteFailed output.new files.new)) }
     ensures unread { (build.entry.from ≡ Stream → ⊥) → input.new ≡ input.old }
 {
     match spare(build.to, build.no_clobber, files) {

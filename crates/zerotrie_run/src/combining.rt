@@ -3,6 +3,7 @@
 ghost use Rattle.std.specs.Prelude.{◌≡◌, ◌<◌, ◌⊎◌, false, true, None, IfOk, IfErr, OnOk};
 ghost use Rattle.std.specs.Io.Buffered.{writer_contents};
 ghost use Rattle.zerotrie_files.specs.Notes.{NothingFailed, SameReads};
+ghost use Rattle.zerotrie_run.specs.Failures.{CombineFailed, ReadFailed, WasClosed, WriteFailed};
 ghost use Rattle.zerotrie_run.specs.Commands.{Runs, TellsNumber, ReadsTwice, LeavesInput, tells_steps};
 ghost use Rattle.zerotrie_run.specs.Runs.{world, AreFiles, AreOneStream, HandsOn, IsFreshAt, OpensBy};
 ghost use Rattle.zerotrie_run.specs.Combined.{AreRead, EndsCombine, HasCombineCause, IsCombination, IsOfMaps, IsUncombined, IsUnopenedSide, IsUnread, OfHeld, combine_fails, combine_refusal};
@@ -53,14 +54,6 @@ impl CombineError {
             CombineError::NotBuilt(error) => error.refusal(),
         }
     }
-
-    /// Whether who reads the output has closed it.
-    pub fn is_closed(&self) -> bool {
-        match self {
-            CombineError::NotBuilt(error) => error.is_closed(),
-            _ => false,
-        }
-    }
 }
 
 impl From<BuildError> for CombineError {
@@ -82,6 +75,7 @@ fn read_both<D: Disk, R: Read>(
     ensures read { IfOk result (λ held. AreRead both.entry (R.remaining input.old.inner)
         (D.story files.old.disk) held.0.items held.1.items) }
     ensures err { IfErr result IsUnread }
+    ensures failed { IfErr result (CombineFailed (ReadFailed input.new files.new) ⊥) }
     ensures same { files.new.disk ≡ files.old.disk }
     ensures unwritten { files.new.unwritten ≡ files.old.unwritten }
     ensures noted { OnOk result (SameReads input.old input.new files.old files.new) }
@@ -147,6 +141,8 @@ fn make_both<D: Disk, R: Read, W: Write + Drop>(
     ensures why { IfErr result (HasCombineCause both.entry (R.remaining input.old.inner) (D.story files.old.disk)) }
     ensures noted { combine_fails result ≡ false
         → NothingFailed input.old input.new output.old output.new files.old files.new }
+    ensures failed { IfErr result (CombineFailed (ReadFailed input.new files.new)
+        (WriteFailed output.new files.new)) }
     ensures unread { AreFiles both.entry.first both.entry.second → input.new ≡ input.old }
 {
     let (first, second) = match read_both(alloc, both, files, input) {
@@ -185,6 +181,8 @@ fn combine<D: Disk, R: Read, W: Write + Drop>(
     ensures why { IfErr result (HasCombineCause both.entry (R.remaining input.old.inner) (D.story files.old.disk)) }
     ensures noted { combine_fails result ≡ false
         → NothingFailed input.old input.new output.old output.new files.old files.new }
+    ensures failed { IfErr result (CombineFailed (ReadFailed input.new files.new)
+        (WriteFailed output.new files.new)) }
     ensures unread { AreFiles both.entry.first both.entry.second → input.new ≡ input.old }
 {
     match spare(both.to, both.no_clobber, files) {
@@ -205,12 +203,10 @@ pub fn run_combine<D: Disk, R: Read, W: Write + Drop, M: Write>(
     ensures runs { Runs (commands.Combine both.entry) (R.remaining input.old.inner)
         (world (D.story files.old.disk) (writer_contents W.contents output.old.inner))
         (world (D.story files.new.disk) (writer_contents W.contents output.new.inner)) result }
-    ensures read_failed { result ≡ Unread
-        → (input.new.failed ≡ true) ⊎ (files.new.unread ≡ true) }
-    ensures write_failed { result ≡ Unwritten
-        → (output.new.failed ≡ true) ⊎ (files.new.unwritten ≡ true) }
-    ensures closed { result ≡ Closed
-        → (output.new.failed ≡ true) ⊎ (files.new.unwritten ≡ true) }
+    ensures read_failed { result ≡ Unread → ReadFailed input.new files.new }
+    ensures write_failed { result ≡ Unwritten → WriteFailed output.new files.new }
+    ensures closed { result ≡ Closed → WasClosed output.new files.new }
+    ensures not_closed { result ≡ Unwritten → WasClosed output.new files.new → ⊥ }
     ensures failed { number_of result < 3
         → NothingFailed input.old input.new output.old output.new files.old files.new }
     ensures handed { (result ≡ Done) ⊎ (result ≡ Absent) → HandsOn output.old.inner output.new.inner }
@@ -235,8 +231,7 @@ pub fn run_combine<D: Disk, R: Read, W: Write + Drop, M: Write>(
     match combine(alloc, both, files, input, output) {
         Ok(()) => Status::Done,
         Err(error) => {
-            let closed = error.is_closed();
-            let status = end_of(error.refusal(), files, input, output, closed);
+            let status = end_of(error.refusal(), files, input, output);
             end(messages, status, combine_text(alloc, both, &error))
         }
     }

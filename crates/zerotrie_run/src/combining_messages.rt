@@ -30,7 +30,7 @@ pub fn combine_text(
     both: Combine<'_>,
     error: &CombineError,
 ) -> Result<Vec<u8>, AllocError>
-    ensures { IfOk result (λ text. TellsCombine error.now text.items) }
+    ensures { IfOk result (λ text. TellsCombine both.entry error.now text.items) }
 {
     match error {
         CombineError::Unopened(side, error) => {

@@ -5,6 +5,7 @@ ghost use Rattle.std.specs.Io.Buffered.{writer_contents};
 ghost use Rattle.zerotrie_core.specs.Kinds.{kind_of};
 ghost use Rattle.zerotrie_core.specs.WellFormed.{IsWellFormed};
 ghost use Rattle.zerotrie_files.specs.Notes.{NothingFailed, SameReads};
+ghost use Rattle.zerotrie_run.specs.Failures.{AskFailed, ReadFailed, WasClosed, WriteFailed};
 ghost use Rattle.zerotrie_run.specs.Commands.{Runs, TellsNumber, ReadsTwice, LeavesInput, tells_steps};
 ghost use Rattle.zerotrie_run.specs.Diffs.{old_file, new_file, IsEitherDoubtful, IsDiffed, EndsDiff, diff_fails, diff_refusal, TellsIfDoubtful, NotesNumbers, IsUnread, HasNoTrieIn, AreHeldCompared, AreUncompared};
 ghost use Rattle.zerotrie_run.specs.Runs.{AreFiles, AreOneStream, HandsOn, IsDoubtful, IsRead, Opens, ask_refusal, world};
@@ -69,6 +70,7 @@ fn read_file<'a, D: Disk, R: Read, M: Write>(
     ensures read { IfOk result (λ held. IsRead file.entry.place (R.remaining input.old.inner)
         (D.story files.old.disk) held.items) }
     ensures err { IfErr result (λ e. (e.file ≡ file.entry) × IsUnread e.error) }
+    ensures failed { IfErr result (λ e. AskFailed (ReadFailed input.new files.new) ⊥ e.error) }
     ensures same { files.new.disk ≡ files.old.disk }
     ensures untouched { (file.entry.place ≡ Stream) ⊎ (input.new ≡ input.old) }
     ensures noted { OnOk result (SameReads input.old input.new files.old files.new) }
@@ -133,6 +135,7 @@ fn compare_held<'a, W: Write>(
     ensures err { IfErr result (AreUncompared diff.entry held.now other.now
         (W.contents output.old.inner) (W.contents output.new.inner)) }
     ensures noted { diff_fails result ≡ false → output.new.failed ≡ output.old.failed }
+    ensures failed { IfErr result (λ e. AskFailed ⊥ (output.new.failed ≡ true) e.error) }
 {
     let old = match open_file(alloc, old_file(diff), held) {
         Ok(trie) => trie,
@@ -168,6 +171,7 @@ fn compare_and_hand_on<'a, W: Write + Drop>(
         (writer_contents W.contents output.new.inner)) }
     ensures handed { IfOk result (λ _. HandsOn output.old.inner output.new.inner) }
     ensures noted { diff_fails result ≡ false → output.new.failed ≡ output.old.failed }
+    ensures failed { IfErr result (λ e. AskFailed ⊥ (output.new.failed ≡ true) e.error) }
 {
     let same = match compare_held(alloc, diff, held, other, output) {
         Ok(same) => same,
@@ -212,6 +216,8 @@ fn compare<'a, D: Disk, R: Read, W: Write + Drop, M: Write>(
         (D.story files.old.disk) → ⊥) → messages.new ≡ messages.old }
     ensures noted { diff_fails result ≡ false
         → NothingFailed input.old input.new output.old output.new files.old files.new }
+    ensures failed { IfErr result (λ e. AskFailed (ReadFailed input.new files.new)
+        (WriteFailed output.new files.new) e.error) }
     ensures unread { AreFiles diff.entry.old diff.entry.new → input.new ≡ input.old }
 {
     let held = match read_file(alloc, old_file(diff), files, input, messages) {
@@ -237,12 +243,10 @@ pub fn run_diff<D: Disk, R: Read, W: Write + Drop, M: Write>(
     ensures runs { Runs (commands.Diff diff.entry) (R.remaining input.old.inner)
         (world (D.story files.old.disk) (writer_contents W.contents output.old.inner))
         (world (D.story files.new.disk) (writer_contents W.contents output.new.inner)) result }
-    ensures read_failed { result ≡ Unread
-        → (input.new.failed ≡ true) ⊎ (files.new.unread ≡ true) }
-    ensures write_failed { result ≡ Unwritten
-        → (output.new.failed ≡ true) ⊎ (files.new.unwritten ≡ true) }
-    ensures closed { result ≡ Closed
-        → (output.new.failed ≡ true) ⊎ (files.new.unwritten ≡ true) }
+    ensures read_failed { result ≡ Unread → ReadFailed input.new files.new }
+    ensures write_failed { result ≡ Unwritten → WriteFailed output.new files.new }
+    ensures closed { result ≡ Closed → WasClosed output.new files.new }
+    ensures not_closed { result ≡ Unwritten → WasClosed output.new files.new → ⊥ }
     ensures failed { number_of result < 3
         → NothingFailed input.old input.new output.old output.new files.old files.new }
     ensures handed { (result ≡ Done) ⊎ (result ≡ Absent) → HandsOn output.old.inner output.new.inner }
@@ -267,8 +271,7 @@ pub fn run_diff<D: Disk, R: Read, W: Write + Drop, M: Write>(
         Ok(true) => Status::Done,
         Ok(false) => Status::Absent,
         Err(why) => {
-            let closed = why.error.is_closed();
-            let status = end_of(why.error.refusal(), files, input, output, closed);
+            let status = end_of(why.error.refusal(), files, input, output);
             end(messages, status, ask_text(alloc, why.file, &why.error))
         }
     }

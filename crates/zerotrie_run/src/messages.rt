@@ -4,8 +4,8 @@ ghost use Rattle.std.specs.Prelude.{◌≡◌, ◌≢◌, ◌⊎◌, ◌++◌, �
 ghost use Rattle.std.specs.Io.KnownBytes.{Appends};
 ghost use Rattle.zerotrie_run.specs.Runs.{HasNumberToo};
 ghost use Rattle.zerotrie_core.specs.Faults.{rule_text};
-ghost use Rattle.zerotrie_run.specs.Messages.{BeginsWithNoDigit, Extends, IsLine, Names, NamesPairs, Says, SaysField, SaysKeys, TellsAsk, TellsBuild, TellsMade, TellsNoPair, TellsNoTrie, told_key};
-ghost use Rattle.zerotrie_run.specs.Told.{LineTold, TellsMore, place_name, told_step};
+ghost use Rattle.zerotrie_run.specs.Messages.{BeginsWithNoDigit, Extends, IsLine, IsLineOn, Names, NamesBoth, NamesPairs, Says, SaysField, SaysKeys, TellsAsk, TellsBuild, TellsMade, TellsNoPair, TellsNoTrie, line_front, source_name, target_name, told_key, unit_of};
+ghost use Rattle.zerotrie_run.specs.Told.{LineTold, TellsMore, told_step};
 
 use crate::asking::AskError;
 use crate::building::BuildError;
@@ -34,14 +34,14 @@ const SHOWN: usize = 100;
 
 /// How messages name the place that bytes come from.
 pub fn source_name(place: Place<'_>) -> &str
-    ensures { result.now ≡ place_name place.entry (codes "standard input") }
+    ensures { result.now ≡ source_name place.entry }
 {
     place.name(STANDARD_INPUT)
 }
 
 /// How messages name the place that bytes go to.
 pub fn target_name(place: Place<'_>) -> &str
-    ensures { result.now ≡ place_name place.entry (codes "standard output") }
+    ensures { result.now ≡ target_name place.entry }
 {
     place.name(STANDARD_OUTPUT)
 }
@@ -75,32 +75,29 @@ fn add(text: &mut Vec<u8>, words: &str) -> Result<(), AllocError>
     text.extend_from_slice(words.as_bytes())
 }
 
-/// Adds a number after words and a space, and then other words.
+/// Adds a number after its unit and a space, and then words.
 #[tactic(auto, using(crate::proofs::MessageLemmas::extends_both, crate::proofs::MessageLemmas::names_here))]
-fn add_number(
-    text: &mut Vec<u8>,
-    before: &str,
-    number: usize,
-    after: &str,
-) -> Result<(), AllocError>
+fn add_number(text: &mut Vec<u8>, unit: &str, number: usize, after: &str) -> Result<(), AllocError>
     requires { BeginsWithNoDigit after.now }
-    ensures names { OnOk result (Names text.new.items number) }
+    ensures names { OnOk result (Names unit.now text.new.items number) }
     ensures adds { OnOk result (Extends text.old.items text.new.items) }
 {
-    add(text, before)?;
+    add(text, unit)?;
     add(text, " ")?;
     write_number(text, number)?;
     add(text, after)
 }
 
-/// Adds the place that a message is about.
-#[tactic(auto, using(crate::proofs::MessageLemmas::extends_both))]
-fn add_place(text: &mut Vec<u8>, place: &str) -> Result<(), AllocError>
-    ensures { OnOk result (Extends text.old.items text.new.items) }
+/// Adds the unit of two numbers, and the first of them.
+#[tactic(auto, using(crate::proofs::MessageLemmas::extends_both, crate::proofs::MessageLemmas::names_first))]
+fn add_first_number(text: &mut Vec<u8>, unit: &str, number: usize) -> Result<(), AllocError>
+    ensures names { OnOk result (Names (unit.now ++ codes "s") text.new.items number) }
+    ensures adds { OnOk result (Extends text.old.items text.new.items) }
 {
-    add(text, "zerotrie: ")?;
-    add(text, place)?;
-    add(text, ": ")
+    add(text, unit)?;
+    add(text, "s ")?;
+    write_number(text, number)?;
+    add(text, " ")
 }
 
 /// Adds words that stand in the text then.
@@ -113,34 +110,43 @@ fn add_words(text: &mut Vec<u8>, words: &str) -> Result<(), AllocError>
     Ok(())
 }
 
+/// Adds words, and the name of a kind and a colon.
+#[tactic(auto, using(crate::proofs::MessageLemmas::extends_both))]
+fn add_kind(text: &mut Vec<u8>, words: &str, kind: TrieKind) -> Result<(), AllocError>
+    ensures { OnOk result (Extends text.old.items text.new.items) }
+{
+    add(text, words)?;
+    add(text, kind.name())?;
+    add(text, ": ")
+}
+
+/// Begins a line on a place.
+fn begin_line(alloc: Global, place: &str) -> Result<Vec<u8>, AllocError>
+    ensures { IfOk result (λ text. text.items ≡ line_front place.now) }
+{
+    let mut text = Vec::new(alloc);
+    add(&mut text, "zerotrie: ")?;
+    add(&mut text, place)?;
+    add(&mut text, ": ")?;
+    Ok(text)
+}
+
 /// Ends a line.
 fn end_line(text: &mut Vec<u8>) -> Result<(), AllocError>
-    ensures line { OnOk result (IsLine text.new.items) }
+    ensures ends { OnOk result (text.new.items ≡ text.old.items ++ 10 ∷ []) }
     ensures adds { OnOk result (Extends text.old.items text.new.items) }
 {
     text.push(b'\n')?;
     Ok(())
 }
 
-/// A line that tells of a place.
-fn line_on(alloc: Global, place: &str, words: &str) -> Result<Vec<u8>, AllocError>
-    ensures { IfOk result (λ text. IsLine text.items) }
-{
-    let mut text = Vec::new(alloc);
-    add_place(&mut text, place)?;
-    add(&mut text, words)?;
-    end_line(&mut text)?;
-    Ok(text)
-}
-
 /// A line that says these words of a place.
-#[tactic(auto, using(crate::proofs::MessageLemmas::extends_both, crate::proofs::MessageLemmas::says_here, crate::proofs::MessageLemmas::says_on))]
-fn said_on(alloc: Global, place: &str, words: &str) -> Result<Vec<u8>, AllocError>
-    ensures line { IfOk result (λ text. IsLine text.items) }
+#[tactic(auto, using(crate::proofs::MessageLemmas::extends_both, crate::proofs::MessageLemmas::line_here, crate::proofs::MessageLemmas::says_on))]
+fn line_on(alloc: Global, place: &str, words: &str) -> Result<Vec<u8>, AllocError>
+    ensures line { IfOk result (λ text. IsLineOn place.now text.items) }
     ensures says { IfOk result (λ text. Says text.items words.now) }
 {
-    let mut text = Vec::new(alloc);
-    add_place(&mut text, place)?;
+    let mut text = begin_line(alloc, place)?;
     add_words(&mut text, words)?;
     end_line(&mut text)?;
     Ok(text)
@@ -148,32 +154,29 @@ fn said_on(alloc: Global, place: &str, words: &str) -> Result<Vec<u8>, AllocErro
 
 /// A line that tells of a fault at a place.
 pub fn fault_on(alloc: Global, place: &str, error: &io::Error) -> Result<Vec<u8>, AllocError>
-    ensures { IfOk result (λ text. IsLine text.items) }
+    ensures { IfOk result (λ text. IsLineOn place.now text.items) }
 {
-    let mut text = Vec::new(alloc);
-    write!(text, "zerotrie: {place}: {error}").map_err(|_| AllocError)?;
-    end_line(&mut text)?;
-    Ok(text)
+    let words = format!(in alloc; "{error}")?;
+    line_on(alloc, place, words.as_str())
 }
 
 /// A line that tells of the first fault in the bytes of a file.
-#[tactic(auto, using(crate::proofs::MessageLemmas::extends_both, crate::proofs::MessageLemmas::names_on, crate::proofs::MessageLemmas::says_here, crate::proofs::MessageLemmas::says_on))]
+#[tactic(auto, using(crate::proofs::MessageLemmas::extends_both, crate::proofs::MessageLemmas::line_here, crate::proofs::MessageLemmas::names_on, crate::proofs::MessageLemmas::says_here, crate::proofs::MessageLemmas::says_on))]
 fn malformed(
     alloc: Global,
     file: TrieFile<'_>,
     kind: TrieKind,
     fault: Fault,
 ) -> Result<Vec<u8>, AllocError>
-    ensures line { IfOk result (λ text. IsLine text.items) }
+    ensures line { IfOk result (λ text. IsLineOn (source_name file.entry.place) text.items) }
     ensures says { IfOk result (λ text. Says text.items (rule_text fault.cause)) }
-    ensures names { IfOk result (λ text. Names text.items fault.place) }
+    ensures names { IfOk result (λ text. Names (codes "byte") text.items fault.place) }
 {
-    let path = source_name(file.place);
-    let name = kind.name();
-    let mut text = Vec::new(alloc);
-    write!(text, "zerotrie: {path}: no trie of kind {name}: ").map_err(|_| AllocError)?;
+    let mut text = begin_line(alloc, source_name(file.place))?;
+    add_kind(&mut text, "no trie of kind ", kind)?;
     add_words(&mut text, fault.cause.text())?;
-    add_number(&mut text, ", at byte", fault.place, counted_from(file))?;
+    add(&mut text, ", at ")?;
+    add_number(&mut text, "byte", fault.place, counted_from(file))?;
     end_line(&mut text)?;
     Ok(text)
 }
@@ -181,12 +184,12 @@ fn malformed(
 /// A line that tells that the kind of a file is not known, as it looks like text or for another
 /// reason.
 fn no_kind(alloc: Global, place: &str, why: &TagError, is_text: bool) -> Result<Vec<u8>, AllocError>
-    ensures line { IfOk result (λ text. IsLine text.items) }
+    ensures line { IfOk result (λ text. IsLineOn place.now text.items) }
     ensures says { IfOk result (λ text. is_text ≡ true
         → Says text.items (codes "it looks like text: build it first")) }
 {
     if is_text {
-        return said_on(alloc, place, "it looks like text: build it first");
+        return line_on(alloc, place, "it looks like text: build it first");
     }
     match why {
         TagError::Empty => line_on(alloc, place, "the file is empty"),
@@ -200,7 +203,7 @@ fn no_kind(alloc: Global, place: &str, why: &TagError, is_text: bool) -> Result<
 
 /// A line that tells that a sealed file is damaged, or holds an index.
 fn damaged(alloc: Global, place: &str, why: SealError) -> Result<Vec<u8>, AllocError>
-    ensures { IfOk result (λ text. IsLine text.items) }
+    ensures { IfOk result (λ text. IsLineOn place.now text.items) }
 {
     if why == SealError::UnknownKind(INDEX_NUMBER) {
         return line_on(
@@ -209,10 +212,8 @@ fn damaged(alloc: Global, place: &str, why: SealError) -> Result<Vec<u8>, AllocE
             "it holds an index, which answers get and verify alone",
         );
     }
-    let mut text = Vec::new(alloc);
-    write!(text, "zerotrie: {place}: {why}").map_err(|_| AllocError)?;
-    end_line(&mut text)?;
-    Ok(text)
+    let words = format!(in alloc; "{why}")?;
+    line_on(alloc, place, words.as_str())
 }
 
 /// A line that tells why a file has no trie.
@@ -222,7 +223,7 @@ pub fn no_trie(
     why: &OpenError,
     is_text: bool,
 ) -> Result<Vec<u8>, AllocError>
-    ensures line { IfOk result (λ text. IsLine text.items) }
+    ensures line { IfOk result (λ text. IsLineOn (source_name file.entry.place) text.items) }
     ensures tells { IfOk result (λ text. TellsNoTrie why.now is_text text.items) }
 {
     let path = source_name(file.place);
@@ -251,23 +252,23 @@ fn note_on_number(
     file: TrieFile<'_>,
     held: &[u8],
 ) -> Result<Option<Vec<u8>>, AllocError>
-    ensures some { IfOk result (λ note. IfSome note (λ text. IsLine text.items)) }
+    ensures some { IfOk result (λ note. IfSome note (λ text.
+        IsLineOn (source_name file.entry.place) text.items)) }
     ensures why { IfOk result (λ note. IfSome note (λ _. HasNumberToo file.entry.bare held.now)) }
     ensures none { IfOk result (λ note. IfNone note (HasNumberToo file.entry.bare held.now → ⊥)) }
 {
     let Some(kind) = number_too(file, held) else {
         return Ok(None);
     };
-    let mut text = Vec::new(alloc);
-    add_place(&mut text, source_name(file.place))?;
-    add(
+    let mut text = begin_line(alloc, source_name(file.place))?;
+    add_kind(
         &mut text,
         "read as bare bytes, though its first byte is the number of kind ",
+        kind,
     )?;
-    add(&mut text, kind.name())?;
     add(
         &mut text,
-        ": leave out --bare unless every key begins with that byte",
+        "leave out --bare unless every key begins with that byte",
     )?;
     end_line(&mut text)?;
     Ok(Some(text))
@@ -285,7 +286,8 @@ pub fn tell_number<M: Write>(
     ensures tells { messages.new.failed ≡ false → (messages.old.failed ≡ false)
         × TellsMore (M.contents messages.old.inner) (M.contents messages.new.inner) }
     ensures notes { OnOk result (messages.new.failed ≡ false
-        → HasNumberToo file.entry.bare held.now → (text : List ℕ) × IsLine text
+        → HasNumberToo file.entry.bare held.now → (text : List ℕ)
+        × IsLineOn (source_name file.entry.place) text
         × Appends (M.contents messages.old.inner) (M.contents messages.new.inner) text) }
 {
     match note_on_number(alloc, file, held)? {
@@ -299,7 +301,7 @@ pub fn tell_number<M: Write>(
 
 /// A line that tells that bytes can't be written to a place.
 fn unwritten(alloc: Global, place: &str, error: &io::Error) -> Result<Vec<u8>, AllocError>
-    ensures { IfOk result (λ text. IsLine text.items) }
+    ensures { IfOk result (λ text. IsLineOn place.now text.items) }
 {
     match error.kind() {
         ErrorKind::AlreadyExists => line_on(
@@ -309,14 +311,10 @@ fn unwritten(alloc: Global, place: &str, error: &io::Error) -> Result<Vec<u8>, A
         ),
         ErrorKind::NotFound => line_on(alloc, place, "the folder of the file is not there"),
         ErrorKind::PermissionDenied => {
-            let mut text = Vec::new(alloc);
-            write!(
-                text,
-                "zerotrie: {place}: {error}; it has to be writable, and so has its folder, where a new file is made that takes its place"
-            )
-            .map_err(|_| AllocError)?;
-            end_line(&mut text)?;
-            Ok(text)
+            let words = format!(in alloc;
+                "{error}; it has to be writable, and so has its folder, where a new file is made that takes its place"
+            )?;
+            line_on(alloc, place, words.as_str())
         }
         _ => fault_on(alloc, place, error),
     }
@@ -354,13 +352,12 @@ fn two_inputs(alloc: Global) -> Result<Vec<u8>, AllocError>
 }
 
 /// A line that tells that pairs can't be one JSON value, and the key that shows it.
-#[tactic(auto, using(crate::proofs::MessageLemmas::extends_both, crate::proofs::MessageLemmas::says_on))]
+#[tactic(auto, using(crate::proofs::MessageLemmas::extends_both, crate::proofs::MessageLemmas::line_here, crate::proofs::MessageLemmas::says_on))]
 fn not_text(alloc: Global, place: &str, key: &[u8]) -> Result<Vec<u8>, AllocError>
-    ensures line { IfOk result (λ text. IsLine text.items) }
+    ensures line { IfOk result (λ text. IsLineOn place.now text.items) }
     ensures says { IfOk result (λ text. Says text.items (told_key key.now)) }
 {
-    let mut text = Vec::new(alloc);
-    add_place(&mut text, place)?;
+    let mut text = begin_line(alloc, place)?;
     add(&mut text, "a key is not UTF-8, so take --format jsonl: ")?;
     add_key(&mut text, key)?;
     end_line(&mut text)?;
@@ -369,7 +366,7 @@ fn not_text(alloc: Global, place: &str, key: &[u8]) -> Result<Vec<u8>, AllocErro
 
 /// A line that tells why a question has no answer.
 pub fn ask_text(alloc: Global, file: TrieFile<'_>, error: &AskError) -> Result<Vec<u8>, AllocError>
-    ensures { IfOk result (λ text. TellsAsk error.now text.items) }
+    ensures { IfOk result (λ text. TellsAsk file.entry.place error.now text.items) }
 {
     let path = source_name(file.place);
     match error {
@@ -402,7 +399,7 @@ pub fn question_text(
     question: Question<'_>,
     error: &AskError,
 ) -> Result<Vec<u8>, AllocError>
-    ensures { IfOk result (λ text. TellsAsk error.now text.items) }
+    ensures { IfOk result (λ text. TellsAsk file.entry.place error.now text.items) }
 {
     match error {
         AskError::NoTrie(OpenError::Damaged(why), _) if is_index(question, *why) => line_on(
@@ -415,7 +412,9 @@ pub fn question_text(
 }
 
 /// What the pairs of an input stand on.
-fn unit_of(source: Source) -> &'static str {
+fn unit_of(source: Source) -> &'static str
+    ensures { result.now ≡ unit_of source }
+{
     match source {
         Source::Text(Format::Csv, _) => "record",
         Source::Text(_, _) => "line",
@@ -438,18 +437,18 @@ fn are_same_without_case(shown: &Shown) -> bool {
 #[tactic(auto, using(crate::proofs::MessageLemmas::extends_both, crate::proofs::MessageLemmas::names_on))]
 fn add_both(text: &mut Vec<u8>, unit: &str, shown: &Shown, words: &str) -> Result<(), AllocError>
     requires { BeginsWithNoDigit words.now }
-    ensures names { OnOk result (NamesPairs shown.now text.new.items) }
+    ensures names { OnOk result (NamesBoth unit.now text.new.items
+        shown.now.first.number shown.now.second.number) }
     ensures adds { OnOk result (Extends text.old.items text.new.items) }
 {
-    add(text, unit)?;
-    add_number(text, "s", shown.first.number, " and")?;
-    add_number(text, "", shown.second.number, words)
+    add_first_number(text, unit, shown.first.number)?;
+    add_number(text, "and", shown.second.number, words)
 }
 
 /// Adds why keys are refused together, and the numbers of their pairs.
 #[tactic(auto, using(crate::proofs::MessageLemmas::extends_both, crate::proofs::MessageLemmas::names_on))]
 fn add_reason(text: &mut Vec<u8>, unit: &str, shown: &Shown) -> Result<(), AllocError>
-    ensures names { OnOk result (NamesPairs shown.now text.new.items) }
+    ensures names { OnOk result (NamesPairs unit.now shown.now text.new.items) }
     ensures adds { OnOk result (Extends text.old.items text.new.items) }
 {
     match &shown.error {
@@ -615,8 +614,8 @@ fn add_field(text: &mut Vec<u8>, bad: &BadLine) -> Result<(), AllocError>
 /// Adds where text is no JSON value.
 #[tactic(auto, using(crate::proofs::MessageLemmas::extends_both, crate::proofs::MessageLemmas::names_on))]
 fn add_not_json(text: &mut Vec<u8>, line: usize, column: usize) -> Result<(), AllocError>
-    ensures line { OnOk result (Names text.new.items line) }
-    ensures column { OnOk result (Names text.new.items column) }
+    ensures line { OnOk result (Names (codes "line") text.new.items line) }
+    ensures column { OnOk result (Names (codes "column") text.new.items column) }
     ensures adds { OnOk result (Extends text.old.items text.new.items) }
 {
     let hint = if line > 1 && column == 1 {
@@ -624,8 +623,8 @@ fn add_not_json(text: &mut Vec<u8>, line: usize, column: usize) -> Result<(), Al
     } else {
         ""
     };
-    add_number(text, "line", line, ",")?;
-    add_number(text, " column", column, ": no JSON value")?;
+    add_number(text, "line", line, ", ")?;
+    add_number(text, "column", column, ": no JSON value")?;
     add(text, hint)
 }
 
@@ -660,7 +659,7 @@ fn add_bad_line(
     number: usize,
     bad: &BadLine,
 ) -> Result<(), AllocError>
-    ensures names { OnOk result (Names text.new.items number) }
+    ensures names { OnOk result (Names (unit_of source) text.new.items number) }
     ensures says { OnOk result (SaysField bad.now text.new.items) }
     ensures adds { OnOk result (Extends text.old.items text.new.items) }
 {
@@ -673,7 +672,7 @@ fn add_bad_line(
 /// Adds the keys that show a refusal, and the numbers of their pairs.
 #[tactic(auto, using(crate::proofs::MessageLemmas::extends_both, crate::proofs::MessageLemmas::names_on))]
 fn add_shown(text: &mut Vec<u8>, unit: &str, shown: &Shown) -> Result<(), AllocError>
-    ensures names { OnOk result (NamesPairs shown.now text.new.items) }
+    ensures names { OnOk result (NamesPairs unit.now shown.now text.new.items) }
     ensures says { OnOk result (SaysKeys shown.now text.new.items) }
     ensures adds { OnOk result (Extends text.old.items text.new.items) }
 {
@@ -709,7 +708,7 @@ fn index_refused(error: &ZeroIndexBuildError) -> &'static str {
 
 /// Adds why no file is made.
 fn add_refusal(text: &mut Vec<u8>, source: Source, error: &MakeError) -> Result<(), AllocError>
-    ensures tells { OnOk result (TellsMade error.now text.new.items) }
+    ensures tells { OnOk result (TellsMade source error.now text.new.items) }
     ensures adds { OnOk result (Extends text.old.items text.new.items) }
 {
     match error {
@@ -725,18 +724,17 @@ fn add_refusal(text: &mut Vec<u8>, source: Source, error: &MakeError) -> Result<
 }
 
 /// A line that tells why no file is made.
-#[tactic(auto, using(crate::proofs::MessageLemmas::made_on))]
+#[tactic(auto, using(crate::proofs::MessageLemmas::extends_both, crate::proofs::MessageLemmas::line_here, crate::proofs::MessageLemmas::made_on))]
 fn refusal(
     alloc: Global,
-    path: &str,
+    place: &str,
     source: Source,
     error: &MakeError,
 ) -> Result<Vec<u8>, AllocError>
-    ensures line { IfOk result (λ text. IsLine text.items) }
-    ensures tells { IfOk result (λ text. TellsMade error.now text.items) }
+    ensures line { IfOk result (λ text. IsLineOn place.now text.items) }
+    ensures tells { IfOk result (λ text. TellsMade source error.now text.items) }
 {
-    let mut text = Vec::new(alloc);
-    add_place(&mut text, path)?;
+    let mut text = begin_line(alloc, place)?;
     add_refusal(&mut text, source, error)?;
     end_line(&mut text)?;
     Ok(text)
@@ -769,7 +767,7 @@ pub fn unbuilt(
     to: &str,
     error: &BuildError,
 ) -> Result<Vec<u8>, AllocError>
-    ensures { IfOk result (λ text. TellsBuild error.now text.items) }
+    ensures { IfOk result (λ text. TellsBuild from.now to.now source error.now text.items) }
 {
     match error {
         BuildError::Unread(error) => fault_on(alloc, from, error),
@@ -790,7 +788,8 @@ pub fn build_text(
     build: Build<'_>,
     error: &BuildError,
 ) -> Result<Vec<u8>, AllocError>
-    ensures { IfOk result (λ text. TellsBuild error.now text.items) }
+    ensures { IfOk result (λ text. TellsBuild (source_name build.entry.from)
+        (target_name build.entry.to) build.entry.plan.source error.now text.items) }
 {
     let from = source_name(build.from);
     unbuilt(alloc, from, build.plan.source, target_name(build.to), error)

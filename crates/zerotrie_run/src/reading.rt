@@ -1,8 +1,8 @@
 //! Reads and writes of whole files and streams.
 
-ghost use Rattle.std.specs.Prelude.{◌≡◌, ◌⊎◌, true, IfOk, IfErr, OnOk, OnErr};
-ghost use Rattle.zerotrie_files.specs.Faults.{IsOutOfMemory};
+ghost use Rattle.std.specs.Prelude.{◌≡◌, ◌⊎◌, IfOk, IfErr, OnOk, OnErr};
 ghost use Rattle.zerotrie_files.specs.Notes.{SameReads, SameWrites};
+ghost use Rattle.zerotrie_run.specs.Failures.{IsFailureOf, ReadFailed, WriteFailed};
 ghost use Rattle.zerotrie_run.specs.Runs.{world, IsRead, IsWritten, IsKept, HandsOn};
 ghost use Rattle.std.specs.Io.Buffered.{writer_contents};
 ghost use Rattle.zerotrie_run.specs.declared.command.Place.TheVariants.{Stream};
@@ -25,8 +25,7 @@ pub fn read_place<D: Disk, R: Read>(
     ensures same { files.new.disk ≡ files.old.disk }
     ensures untouched { (place.entry ≡ Stream) ⊎ (input.new ≡ input.old) }
     ensures noted { OnOk result (SameReads input.old input.new files.old files.new) }
-    ensures why { IfErr result (λ e. IsOutOfMemory e ⊎ (input.new.failed ≡ true)
-        ⊎ (files.new.unread ≡ true)) }
+    ensures failed { IfErr result (IsFailureOf (ReadFailed input.new files.new)) }
     ensures unwritten { files.new.unwritten ≡ files.old.unwritten }
 {
     match place {
@@ -52,8 +51,7 @@ pub fn write_place<D: Disk, W: Write + Drop>(
         (world (D.story files.new.disk) (writer_contents W.contents output.new.inner))) }
     ensures handed { OnOk result (HandsOn output.old.inner output.new.inner) }
     ensures noted { OnOk result (SameWrites output.old output.new files.old files.new) }
-    ensures why { IfErr result (λ e. IsOutOfMemory e ⊎ (output.new.failed ≡ true)
-        ⊎ (files.new.unwritten ≡ true)) }
+    ensures failed { IfErr result (IsFailureOf (WriteFailed output.new files.new)) }
     ensures unread { files.new.unread ≡ files.old.unread }
 {
     match place {

@@ -1,12 +1,13 @@
 //! The program over files and streams.
 
-ghost use Rattle.std.specs.Prelude.{◌≡◌, ◌<◌, ◌⊎◌, ◌||◌, false, true, unwrap_or};
+ghost use Rattle.std.specs.Prelude.{◌≡◌, ◌<◌, ◌⊎◌, false, true, unwrap_or};
 ghost use Rattle.std.specs.Io.KnownBytes.{Appends};
 ghost use Rattle.std.specs.Io.Buffered.{writer_contents};
 ghost use Rattle.zerotrie_files.specs.Notes.{NothingFailed};
 ghost use Rattle.zerotrie_run.specs.Runs.{HandsOn, world};
+ghost use Rattle.zerotrie_run.specs.Failures.{ReadFailed, WasClosed, WriteFailed};
 ghost use Rattle.zerotrie_run.specs.Commands.{Runs, TellsNumber, ReadsTwice, LeavesInput, tells_steps};
-ghost use Rattle.zerotrie_run.specs.Statuses.{failure, number_of};
+ghost use Rattle.zerotrie_run.specs.Statuses.{failure_of, number_of};
 ghost use Rattle.zerotrie_run.specs.Told.{IsTold, Notes, ended, last_text};
 ghost use Rattle.zerotrie_run.specs.declared.status.Status.TheVariants.{Done, Absent, BadUsage, Unread, Unwritten, Closed};
 
@@ -27,15 +28,13 @@ fn failure<D: Disk, R: Read, W: Write + Drop>(
     files: &Store<D>,
     input: &Noted<R>,
     output: &Noted<BufWriter<W>>,
-    is_closed: bool,
 ) -> Status
-    ensures { result ≡ failure (input.now.failed || files.now.unread)
-        (output.now.failed || files.now.unwritten) is_closed }
+    ensures { result ≡ failure_of input.now output.now files.now }
 {
     if input.failed() || files.unread() {
         Status::Unread
     } else if output.failed() || files.unwritten() {
-        if is_closed {
+        if output.closed() || files.closed() {
             Status::Closed
         } else {
             Status::Unwritten
@@ -51,14 +50,12 @@ pub(crate) fn end_of<D: Disk, R: Read, W: Write + Drop>(
     files: &Store<D>,
     input: &Noted<R>,
     output: &Noted<BufWriter<W>>,
-    is_closed: bool,
 ) -> Status
-    ensures { result ≡ unwrap_or refusal (failure (input.now.failed || files.now.unread)
-        (output.now.failed || files.now.unwritten) is_closed) }
+    ensures { result ≡ unwrap_or refusal (failure_of input.now output.now files.now) }
 {
     match refusal {
         Some(status) => status,
-        None => failure(files, input, output, is_closed),
+        None => failure(files, input, output),
     }
 }
 
@@ -89,14 +86,15 @@ pub(crate) fn end<M: Write>(
     }
 }
 
-/// Runs a command, and returns how it ended. A message says what is wrong.
+/// Runs a command, and returns how it ended. A message says what is wrong, after the name of the file
+/// or stream that it is about.
 ///
 /// `Runs` defines what is printed and what files hold then, by the command, the files and the
 /// input. After a fault a beginning of it was printed, or nothing.
 ///
-/// It ends in `Unread` only if a read of a file or of standard input failed, in `Unwritten` only if
-/// a replacement of a file or a write to the output did, and so in `Closed`, if that was since
-/// whoever reads the output has closed it. If neither did, it ends by itself or in `OutOfMemory`.
+/// It ends in `Unread` only if a read of a file or of standard input failed, and in `Unwritten` or
+/// `Closed` only if a replacement of a file or a write to the output did: in `Closed` if it did as
+/// whoever reads the output has closed it. If nothing failed, it ends by itself or in `OutOfMemory`.
 /// If one of these did, its number is 3 or 4: otherwise nothing failed that the files and streams
 /// note. A message that can't be written changes nothing.
 ///
@@ -118,12 +116,10 @@ pub fn run<D: Disk, R: Read, W: Write + Drop, M: Write>(
         (writer_contents W.contents output.old.inner))
         (world (D.story files.new.disk)
         (writer_contents W.contents output.new.inner)) result }
-    ensures read_failed { result ≡ Unread
-        → (input.new.failed ≡ true) ⊎ (files.new.unread ≡ true) }
-    ensures write_failed { result ≡ Unwritten
-        → (output.new.failed ≡ true) ⊎ (files.new.unwritten ≡ true) }
-    ensures closed { result ≡ Closed
-        → (output.new.failed ≡ true) ⊎ (files.new.unwritten ≡ true) }
+    ensures read_failed { result ≡ Unread → ReadFailed input.new files.new }
+    ensures write_failed { result ≡ Unwritten → WriteFailed output.new files.new }
+    ensures closed { result ≡ Closed → WasClosed output.new files.new }
+    ensures not_closed { result ≡ Unwritten → WasClosed output.new files.new → ⊥ }
     ensures failed { number_of result < 3
         → NothingFailed input.old input.new output.old output.new files.old files.new }
     ensures handed { (result ≡ Done) ⊎ (result ≡ Absent) → HandsOn output.old.inner output.new.inner }
@@ -143,7 +139,7 @@ pub fn run<D: Disk, R: Read, W: Write + Drop, M: Write>(
         Command::Build(plan) => match build(alloc, plan, files, input, output, messages) {
             Ok(()) => Status::Done,
             Err(error) => {
-                let status = end_of(error.refusal(), files, input, output, error.is_closed());
+                let status = end_of(error.refusal(), files, input, output);
                 end(messages, status, build_text(alloc, plan, &error))
             }
         },
@@ -156,7 +152,7 @@ pub fn run<D: Disk, R: Read, W: Write + Drop, M: Write>(
                 Ok(true) => Status::Done,
                 Ok(false) => Status::Absent,
                 Err(error) => {
-                    let status = end_of(error.refusal(), files, input, output, error.is_closed());
+                    let status = end_of(error.refusal(), files, input, output);
                     end(
                         messages,
                         status,

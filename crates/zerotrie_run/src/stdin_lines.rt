@@ -8,6 +8,7 @@ ghost use Rattle.zerotrie_lines.specs.Lines.{lines_of};
 ghost use Rattle.zerotrie_lines.specs.Blocks.{AreWhole, HasFeed};
 ghost use Rattle.zerotrie_queries.specs.Answers.{AreAnswered, AreAnsweredInPart};
 ghost use Rattle.zerotrie_queries.specs.Finders.{Finds};
+ghost use Rattle.zerotrie_run.specs.Failures.{AnswerFailed};
 ghost use Rattle.zerotrie_run.specs.Runs.{KeysAnswered, KeysAnsweredInPart, HandsOn};
 ghost use Rattle.zerotrie_run.specs.Streams.{AreAnsweredSoFar};
 ghost use Rattle.zerotrie_run.specs.declared.command.Keys.TheVariants.{Lines};
@@ -101,6 +102,8 @@ pub fn answer_lines<R: Read, W: Write + Drop>(
         (writer_contents W.contents output.old.inner) (writer_contents W.contents output.new.inner)
         (HandsOn output.old.inner output.new.inner) e) }
     ensures noted { OnOk result (SameNotes input.old input.new output.old output.new) }
+    ensures failed { IfErr result (AnswerFailed (input.new.failed ≡ true)
+        (output.new.failed ≡ true)) }
 {
     let mut held = Vec::new(alloc);
     let mut all = true;
@@ -118,5 +121,5 @@ pub fn answer_lines<R: Read, W: Write + Drop>(
             return Ok(all);
         }
     }
-    Err(AnswerError::Input(io::Error::from(ErrorKind::TimedOut)))
+    Err(AnswerError::Input(io::Error::from(ErrorKind::OutOfMemory)))
 }

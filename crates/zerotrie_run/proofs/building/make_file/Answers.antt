@@ -1,6 +1,7 @@
 use Rattle.std.proofs.Common.{◌≡◌, ◌++◌, length, codes, subst, ◌∙◌, arith}
 use Rattle.std.specs.Io.KnownBytes.{Appends}
-use Rattle.zerotrie_run.specs.Told.{place_name, told_step}
+use Rattle.zerotrie_run.specs.Messages.{source_name, target_name}
+use Rattle.zerotrie_run.specs.Told.{told_step}
 use Rattle.zerotrie_run.proofs.MessageLemmas.{tell_then, step_is, join_three}
 use Rattle.zerotrie_run.proofs.building.make_file.Goals as goal
 
@@ -39,8 +40,8 @@ returns-in-Ok-write_place-clause-steps g c = λ ok.
     let last = tell_then one.failed two.failed three.failed (contents one.inner) (contents two.inner) (contents three.inner) made wrote c.tell-2.ensures.told c.tell-in-Ok-write_place.ensures.told in
     let all = tell_then old.failed one.failed three.failed (contents old.inner) (contents one.inner) (contents three.inner) read (made ++ wrote) c.tell.ensures.told last ok in
     let p = c.args.build.progress in
-    let from = place_name c.args.build.from (codes "standard input") in
-    let to = place_name c.args.build.to (codes "standard output") in
+    let from = source_name c.args.build.from in
+    let to = target_name c.args.build.to in
     let held = c.in-Ok.held.items in
     let file = c.in-Ok-make.file.items in
     let held_len : c.len.result ≡ length held = omega (arith, c.len.ensures) in

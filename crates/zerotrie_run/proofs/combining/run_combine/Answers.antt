@@ -25,8 +25,9 @@ pub returns-in-Err-clause-failed : goal.returns-in-Err-clause-failed
 returns-in-Err-clause-failed g c = λ other.
     let read = c.combine.new.input.failed || c.combine.new.files.unread in
     let write = c.combine.new.output.failed || c.combine.new.files.unwritten in
+    let closed = c.combine.new.output.closed || c.combine.new.files.closed in
     c.in-Err.ensures.noted
-    (was_refused read write c.is_closed-closed.result (combine_refusal c.in-Err.error) c.end_of-status.result c.end.result c.combine_text.result (rw c.refusal.ensures at c.end_of-status.ensures) c.end.ensures.status other)
+    (was_refused read write closed (combine_refusal c.in-Err.error) c.end_of-status.result c.end.result c.combine_text.result (rw c.refusal.ensures at c.end_of-status.ensures) c.end.ensures.status other)
 
 pub returns-in-Err-clause-runs : goal.returns-in-Err-clause-runs
 returns-in-Err-clause-runs g c =
@@ -34,5 +35,6 @@ returns-in-Err-clause-runs g c =
     let story = g.D.Disk.story in
     let read = c.combine.new.input.failed || c.combine.new.files.unread in
     let write = c.combine.new.output.failed || c.combine.new.files.unwritten in
+    let closed = c.combine.new.output.closed || c.combine.new.files.closed in
     combine_ends c.args.both (g.R.Read.remaining c.args.input.now.inner) (world (story c.args.files.now.disk) (printed c.args.output.now.inner)) (world (story c.combine.new.files.disk) (printed c.combine.new.output.inner))
-    read write c.is_closed-closed.result c.in-Err.error c.end_of-status.result c.end.result c.combine_text.result c.in-Err.ensures.err (rw c.refusal.ensures at c.end_of-status.ensures) c.end.ensures.status
+    read write closed c.in-Err.error c.end_of-status.result c.end.result c.combine_text.result c.in-Err.ensures.err (rw c.refusal.ensures at c.end_of-status.ensures) c.end.ensures.status
