@@ -1,5 +1,5 @@
 -- An error that says that a call failed, and what was noted.
-use Rattle.std.proofs.Common.{◌⊎◌, List, ℕ, inl, inr}
+use Rattle.std.proofs.Common.{List, ℕ, inl, inr}
 use Rattle.std.specs.declared.io.Error.{Error}
 use Rattle.zerotrie_run.specs.Combined.{IsUncombined}
 use Rattle.zerotrie_run.specs.Diffs.{HasNoTrieIn}
@@ -11,7 +11,6 @@ use Rattle.zerotrie_run.specs.declared.building.BuildError.TheVariants as build
 use Rattle.zerotrie_run.specs.declared.combining.CombineError.{CombineError}
 use Rattle.zerotrie_run.specs.declared.combining.CombineError.TheVariants as combine
 use Rattle.zerotrie_run.specs.declared.command.Combine.{Combine}
-use Rattle.zerotrie_run.specs.declared.command.Side.TheVariants.{First, Second}
 use Rattle.zerotrie_run.specs.declared.command.TrieFile.{TrieFile}
 use Rattle.zerotrie_run.specs.declared.stdin_lines.AnswerError.{AnswerError}
 use Rattle.zerotrie_run.specs.declared.stdin_lines.AnswerError.TheVariants.{Input, Output}

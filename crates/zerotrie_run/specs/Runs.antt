@@ -72,11 +72,6 @@ abbrev pub IsNamed : List ℕ → Place → Type 0
 IsNamed word (File path) = (path.now ≡ word) × (word ≢ codes "-")
 IsNamed word Stream = word ≡ codes "-"
 
--- how a place is named: by its path, and a stream by the name that is given
-abbrev pub IsNameOf : Place → List ℕ → List ℕ → Type 0
-IsNameOf (File path) stream name = name ≡ path.now
-IsNameOf Stream stream name = name ≡ stream
-
 -- the bytes of a place: what its file holds, or all of standard input
 abbrev pub IsRead : Place → Option (List ℕ) → Option Story → List ℕ → Type 0
 IsRead (File path) input files bytes = IfSome files (λ known. known.now path.now ≡ Some bytes)

@@ -1,7 +1,8 @@
 //! What the program can be asked to do.
 
-ghost use Rattle.std.specs.Prelude.{◌↔◌, IsTrue};
-ghost use Rattle.zerotrie_run.specs.Runs.{AreOneStream, IsNamed, IsNameOf};
+ghost use Rattle.std.specs.Prelude.{◌≡◌, ◌↔◌, IsTrue};
+ghost use Rattle.zerotrie_run.specs.Messages.{place_name};
+ghost use Rattle.zerotrie_run.specs.Runs.{AreOneStream, IsNamed};
 
 use zerotrie_core::TrieKind;
 use zerotrie_making::{FileForm, Plan};
@@ -31,7 +32,7 @@ impl<'a> Place<'a> {
 
     /// How messages name the place: by its path. A stream has the name that is given.
     pub fn name(self, stream: &'static str) -> &'a str
-        ensures { IsNameOf self.entry stream.now result.now }
+        ensures { result.now ≡ place_name self.entry stream.now }
     {
         match self {
             Place::File(path) => path,

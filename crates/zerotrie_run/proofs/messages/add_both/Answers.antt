@@ -1,4 +1,3 @@
-use Rattle.std.proofs.Common.{inl, codes, ◌++◌}
 use Rattle.zerotrie_run.proofs.MessageLemmas.{both_after}
 use Rattle.zerotrie_run.proofs.messages.add_both.Goals as goal
 

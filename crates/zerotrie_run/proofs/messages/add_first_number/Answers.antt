@@ -1,4 +1,3 @@
-use Rattle.std.proofs.Common.{subst, sym, codes}
 use Rattle.std.proofs.lemmas.Result.{on_ok_weaker}
 use Rattle.zerotrie_run.proofs.MessageLemmas.{names_first}
 use Rattle.zerotrie_run.proofs.messages.add_first_number.Goals as goal

@@ -1,4 +1,3 @@
-use Rattle.std.proofs.Common.{subst, sym}
 use Rattle.zerotrie_run.proofs.MessageLemmas.{shown_told}
 use Rattle.zerotrie_run.proofs.messages.add_refusal.Goals as goal
 
