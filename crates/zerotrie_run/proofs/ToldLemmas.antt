@@ -164,29 +164,30 @@ ask_ends file q i files old new read write closed e status result r h is ends = 
 pub record IsEnd (read write shut : Bool) (refusal : Option Status) (s : Status) : Type 0 where
   pub unread : s ≡ Unread → read ≡ true
   pub unwritten : s ≡ Unwritten → write ≡ true
-  pub closed : s ≡ Closed → shut ≡ true
+  pub closed : s ≡ Closed → write ≡ true
+  pub pipe_closed : s ≡ Closed → shut ≡ true
   pub not_closed : s ≡ Unwritten → shut ≡ false
   pub usage : s ≡ BadUsage → refusal ≡ Some BadUsage
   pub input : s ≡ BadInput → refusal ≡ Some BadInput
   pub open_end : (s ≡ Done) ⊎ (s ≡ Absent) → ⊥
 
 end_none : (read write closed : Bool) → IsEnd read write closed None (failure read write closed)
-end_none true write closed = record { unread = λ _. refl; unwritten = λ is. absurd (cc); closed = λ is. absurd (cc); not_closed = λ is. absurd (cc); usage = λ is. absurd (cc); input = λ is. absurd (cc); open_end = λ is. elim is [ inl e ↦ absurd (cc) | inr e ↦ absurd (cc) ] }
-end_none false false closed = record { unread = λ is. absurd (cc); unwritten = λ is. absurd (cc); closed = λ is. absurd (cc); not_closed = λ is. absurd (cc); usage = λ is. absurd (cc); input = λ is. absurd (cc); open_end = λ is. elim is [ inl e ↦ absurd (cc) | inr e ↦ absurd (cc) ] }
-end_none false true true = record { unread = λ is. absurd (cc); unwritten = λ is. absurd (cc); closed = λ _. refl; not_closed = λ is. absurd (cc); usage = λ is. absurd (cc); input = λ is. absurd (cc); open_end = λ is. elim is [ inl e ↦ absurd (cc) | inr e ↦ absurd (cc) ] }
-end_none false true false = record { unread = λ is. absurd (cc); unwritten = λ _. refl; closed = λ is. absurd (cc); not_closed = λ _. refl; usage = λ is. absurd (cc); input = λ is. absurd (cc); open_end = λ is. elim is [ inl e ↦ absurd (cc) | inr e ↦ absurd (cc) ] }
+end_none true write closed = record { unread = λ _. refl; unwritten = λ is. absurd (cc); closed = λ is. absurd (cc); pipe_closed = λ is. absurd (cc); not_closed = λ is. absurd (cc); usage = λ is. absurd (cc); input = λ is. absurd (cc); open_end = λ is. elim is [ inl e ↦ absurd (cc) | inr e ↦ absurd (cc) ] }
+end_none false false closed = record { unread = λ is. absurd (cc); unwritten = λ is. absurd (cc); closed = λ is. absurd (cc); pipe_closed = λ is. absurd (cc); not_closed = λ is. absurd (cc); usage = λ is. absurd (cc); input = λ is. absurd (cc); open_end = λ is. elim is [ inl e ↦ absurd (cc) | inr e ↦ absurd (cc) ] }
+end_none false true true = record { unread = λ is. absurd (cc); unwritten = λ is. absurd (cc); closed = λ _. refl; pipe_closed = λ _. refl; not_closed = λ is. absurd (cc); usage = λ is. absurd (cc); input = λ is. absurd (cc); open_end = λ is. elim is [ inl e ↦ absurd (cc) | inr e ↦ absurd (cc) ] }
+end_none false true false = record { unread = λ is. absurd (cc); unwritten = λ _. refl; closed = λ is. absurd (cc); pipe_closed = λ is. absurd (cc); not_closed = λ _. refl; usage = λ is. absurd (cc); input = λ is. absurd (cc); open_end = λ is. elim is [ inl e ↦ absurd (cc) | inr e ↦ absurd (cc) ] }
 
 end_memory : (read write closed : Bool) (refusal : Option Status) → IsEnd read write closed refusal OutOfMemory
-end_memory read write closed refusal = record { unread = λ is. absurd (cc); unwritten = λ is. absurd (cc); closed = λ is. absurd (cc); not_closed = λ is. absurd (cc); usage = λ is. absurd (cc); input = λ is. absurd (cc); open_end = λ is. elim is [ inl e ↦ absurd (cc) | inr e ↦ absurd (cc) ] }
+end_memory read write closed refusal = record { unread = λ is. absurd (cc); unwritten = λ is. absurd (cc); closed = λ is. absurd (cc); pipe_closed = λ is. absurd (cc); not_closed = λ is. absurd (cc); usage = λ is. absurd (cc); input = λ is. absurd (cc); open_end = λ is. elim is [ inl e ↦ absurd (cc) | inr e ↦ absurd (cc) ] }
 
 end_by : (read write closed : Bool) (refusal : Option Status) (r : Result (Vec ℕ Global) AllocError) → Ends refusal → IsEnd read write closed refusal (ended (unwrap_or refusal (failure read write closed)) r)
 end_by read write closed refusal (Err x) ends = end_memory read write closed refusal
 end_by read write closed None (Ok text) failed = end_none read write closed
-end_by read write closed (Some BadUsage) (Ok text) usage = record { unread = λ is. absurd (cc); unwritten = λ is. absurd (cc); closed = λ is. absurd (cc); not_closed = λ is. absurd (cc); usage = λ _. refl; input = λ is. absurd (cc); open_end = λ is. elim is [ inl e ↦ absurd (cc) | inr e ↦ absurd (cc) ] }
-end_by read write closed (Some BadInput) (Ok text) input = record { unread = λ is. absurd (cc); unwritten = λ is. absurd (cc); closed = λ is. absurd (cc); not_closed = λ is. absurd (cc); usage = λ is. absurd (cc); input = λ _. refl; open_end = λ is. elim is [ inl e ↦ absurd (cc) | inr e ↦ absurd (cc) ] }
+end_by read write closed (Some BadUsage) (Ok text) usage = record { unread = λ is. absurd (cc); unwritten = λ is. absurd (cc); closed = λ is. absurd (cc); pipe_closed = λ is. absurd (cc); not_closed = λ is. absurd (cc); usage = λ _. refl; input = λ is. absurd (cc); open_end = λ is. elim is [ inl e ↦ absurd (cc) | inr e ↦ absurd (cc) ] }
+end_by read write closed (Some BadInput) (Ok text) input = record { unread = λ is. absurd (cc); unwritten = λ is. absurd (cc); closed = λ is. absurd (cc); pipe_closed = λ is. absurd (cc); not_closed = λ is. absurd (cc); usage = λ is. absurd (cc); input = λ _. refl; open_end = λ is. elim is [ inl e ↦ absurd (cc) | inr e ↦ absurd (cc) ] }
 end_by read write closed (Some Done) (Ok text) ends = elim ends [ ]
 end_by read write closed (Some Absent) (Ok text) ends = elim ends [ ]
-end_by read write closed (Some Refused) (Ok text) unprinted = record { unread = λ is. absurd (cc); unwritten = λ is. absurd (cc); closed = λ is. absurd (cc); not_closed = λ is. absurd (cc); usage = λ is. absurd (cc); input = λ is. absurd (cc); open_end = λ is. elim is [ inl e ↦ absurd (cc) | inr e ↦ absurd (cc) ] }
+end_by read write closed (Some Refused) (Ok text) unprinted = record { unread = λ is. absurd (cc); unwritten = λ is. absurd (cc); closed = λ is. absurd (cc); pipe_closed = λ is. absurd (cc); not_closed = λ is. absurd (cc); usage = λ is. absurd (cc); input = λ is. absurd (cc); open_end = λ is. elim is [ inl e ↦ absurd (cc) | inr e ↦ absurd (cc) ] }
 end_by read write closed (Some Taken) (Ok text) ends = elim ends [ ]
 end_by read write closed (Some Unread) (Ok text) ends = elim ends [ ]
 end_by read write closed (Some Unwritten) (Ok text) ends = elim ends [ ]
@@ -214,8 +215,11 @@ end_unread read more write closed refusal s end is = or_true read more (end.unre
 pub end_unwritten : (read write more closed : Bool) (refusal : Option Status) (s : Status) → IsEnd read (write || more) closed refusal s → s ≡ Unwritten → (write ≡ true) ⊎ (more ≡ true)
 end_unwritten read write more closed refusal s end is = or_true write more (end.unwritten is)
 
-pub end_closed : (read write closed more : Bool) (refusal : Option Status) (s : Status) → IsEnd read write (closed || more) refusal s → s ≡ Closed → (closed ≡ true) ⊎ (more ≡ true)
-end_closed read write closed more refusal s end is = or_true closed more (end.closed is)
+pub end_closed : (read write more closed : Bool) (refusal : Option Status) (s : Status) → IsEnd read (write || more) closed refusal s → s ≡ Closed → (write ≡ true) ⊎ (more ≡ true)
+end_closed read write more closed refusal s end is = or_true write more (end.closed is)
+
+pub end_pipe_closed : (read write closed more : Bool) (refusal : Option Status) (s : Status) → IsEnd read write (closed || more) refusal s → s ≡ Closed → (closed ≡ true) ⊎ (more ≡ true)
+end_pipe_closed read write closed more refusal s end is = or_true closed more (end.pipe_closed is)
 
 pub end_not_closed : (read write closed more : Bool) (refusal : Option Status) (s : Status) → IsEnd read write (closed || more) refusal s → s ≡ Unwritten → (closed ≡ true) ⊎ (more ≡ true) → ⊥
 end_not_closed read write closed more refusal s end is shut = or_false closed more (end.not_closed is) shut

@@ -205,7 +205,8 @@ pub fn run_combine<D: Disk, R: Read, W: Write + Drop, M: Write>(
         (world (D.story files.new.disk) (writer_contents W.contents output.new.inner)) result }
     ensures read_failed { result ≡ Unread → ReadFailed input.new files.new }
     ensures write_failed { result ≡ Unwritten → WriteFailed output.new files.new }
-    ensures closed { result ≡ Closed → WasClosed output.new files.new }
+    ensures closed { result ≡ Closed → WriteFailed output.new files.new }
+    ensures pipe_closed { result ≡ Closed → WasClosed output.new files.new }
     ensures not_closed { result ≡ Unwritten → WasClosed output.new files.new → ⊥ }
     ensures failed { number_of result < 3
         → NothingFailed input.old input.new output.old output.new files.old files.new }

@@ -5,7 +5,7 @@ use Rattle.zerotrie_run.specs.Runs.{ask_refusal}
 use Rattle.zerotrie_run.specs.declared.command.Command.TheVariants as commands
 use Rattle.zerotrie_run.specs.declared.command.Question.TheVariants.{Verify}
 use Rattle.zerotrie_run.proofs.DiffLemmas.{diff_ends, told_of, never}
-use Rattle.zerotrie_run.proofs.ToldLemmas.{ask_told, ask_end, not_open, end_unread, end_unwritten, end_closed, end_not_closed}
+use Rattle.zerotrie_run.proofs.ToldLemmas.{ask_told, ask_end, not_open, end_unread, end_unwritten, end_closed, end_not_closed, end_pipe_closed}
 use Rattle.zerotrie_run.proofs.NoteLemmas.{was_refused}
 use Rattle.zerotrie_run.proofs.comparing.run_diff.Goals as goal
 
@@ -39,7 +39,8 @@ returns-in-Err g c =
       );
       read_failed = end_unread read unread (write || unwritten) (closed || gone) (ask_refusal e) result end;
       write_failed = end_unwritten (read || unread) write unwritten (closed || gone) (ask_refusal e) result end;
-      closed = end_closed (read || unread) (write || unwritten) closed gone (ask_refusal e) result end;
+      closed = end_closed (read || unread) write unwritten (closed || gone) (ask_refusal e) result end;
+      pipe_closed = end_pipe_closed (read || unread) (write || unwritten) closed gone (ask_refusal e) result end;
       not_closed = end_not_closed (read || unread) (write || unwritten) closed gone (ask_refusal e) result end;
       failed = λ other. c.in-Err.ensures.noted (was_refused (read || unread) (write || unwritten) (closed || gone) (ask_refusal e) status result c.ask_text.result is c.end.ensures.status other);
       handed = not_open (read || unread) (write || unwritten) (closed || gone) (ask_refusal e) result end;

@@ -2,7 +2,7 @@ use Rattle.std.proofs.Common.{◌||◌, ap, refl}
 use Rattle.std.specs.Io.Buffered.{writer_contents}
 use Rattle.zerotrie_run.specs.Runs.{ask_refusal, build_refusal}
 use Rattle.zerotrie_run.proofs.AskLemmas.{is_not}
-use Rattle.zerotrie_run.proofs.ToldLemmas.{build_told, ask_told, ask_ends, ask_end, leaves, not_open, end_unread, end_unwritten, end_closed, end_not_closed}
+use Rattle.zerotrie_run.proofs.ToldLemmas.{build_told, ask_told, ask_ends, ask_end, leaves, not_open, end_unread, end_unwritten, end_closed, end_not_closed, end_pipe_closed}
 use Rattle.zerotrie_run.proofs.NoteLemmas.{was_refused}
 use Rattle.zerotrie_run.proofs.running.run.Goals as goal
 
@@ -55,7 +55,8 @@ returns-in-Err-ask g c =
       runs = rw c.in-Ask.is (ap g.D.Disk.story c.in-Err-ask.ensures.same, ends);
       read_failed = end_unread read unread (write || unwritten) (closed || gone) (ask_refusal e) result end;
       write_failed = end_unwritten (read || unread) write unwritten (closed || gone) (ask_refusal e) result end;
-      closed = end_closed (read || unread) (write || unwritten) closed gone (ask_refusal e) result end;
+      closed = end_closed (read || unread) write unwritten (closed || gone) (ask_refusal e) result end;
+      pipe_closed = end_pipe_closed (read || unread) (write || unwritten) closed gone (ask_refusal e) result end;
       not_closed = end_not_closed (read || unread) (write || unwritten) closed gone (ask_refusal e) result end;
       failed = λ other. c.in-Err-ask.ensures.noted (was_refused (read || unread) (write || unwritten) (closed || gone) (ask_refusal e) status result c.question_text.result is c.end-in-Err-ask.ensures.status other);
       handed = not_open (read || unread) (write || unwritten) (closed || gone) (ask_refusal e) result end;
