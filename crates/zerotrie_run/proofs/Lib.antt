@@ -3,7 +3,6 @@ mod LineLemmas
 mod MadeLemmas
 mod MessageLemmas
 mod ToldLemmas
-mod FailureLemmas
 mod NoteLemmas
 mod RefusedLemmas
 mod FileLemmas

@@ -93,8 +93,8 @@ pub(crate) fn end<M: Write>(
 /// input. After a fault a beginning of it was printed, or nothing.
 ///
 /// It ends in `Unread` only if a read of a file or of standard input failed, and in `Unwritten` or
-/// `Closed` only if a replacement of a file or a write to the output did: in `Closed` if it did as
-/// whoever reads the output has closed it. If nothing failed, it ends by itself or in `OutOfMemory`.
+/// `Closed` only if a replacement of a file or a write to the output did: in `Closed` if it failed
+/// because the reader has closed the pipe. If nothing failed, it ends by itself or in `OutOfMemory`.
 /// If one of these did, its number is 3 or 4: otherwise nothing failed that the files and streams
 /// note. A message that can't be written changes nothing.
 ///
