@@ -14,7 +14,7 @@ IsLongestOf Counts kind m None = (key : List ℕ) → Counts key → look kind m
 abbrev pub BeginsWith : List ℕ → List ℕ → Type 0
 BeginsWith text key = (rest : List ℕ) × (text ≡ key ++ rest)
 
--- The name begins with the key by whole parts: the key is the name itself, or what stands in front of one of its
+-- The name begins with the key by whole parts: the key is the name itself, or what comes before one of its
 -- delimiters. So with "-" the name "fil-PH" begins with "fil", and not with "fi". Every name begins with the empty key,
 -- which is the root's: what names fall back to at last.
 abbrev pub BeginsWithParts : List ℕ → List ℕ → List ℕ → Type 0

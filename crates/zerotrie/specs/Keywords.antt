@@ -1,4 +1,4 @@
--- What a look-up of a word answers by the pairs of words and numbers, both ways.
+-- What a look-up of a word returns by the pairs of words and numbers, both ways.
 use Rattle.std.specs.Prelude.{◌≡◌, ℕ, List, Option, Some, None, Contains, slice_index}
 use Rattle.zerotrie_core.specs.Maps.{Pairs}
 

@@ -12,6 +12,8 @@ pub use Rattle.zerotrie_core.specs.Cursors
 pub use Rattle.zerotrie_core.specs.Machine
 pub use Rattle.zerotrie_core.specs.Places
 pub use Rattle.zerotrie_core.specs.Listings
+pub use Rattle.zerotrie_core.specs.Parts
+pub use Rattle.zerotrie_core.specs.Values
 pub use Rattle.zerotrie_core.specs.Prefixes
 pub use Rattle.zerotrie_core.specs.Borders
 pub use Rattle.zerotrie_core.specs.Canonical
@@ -39,7 +41,6 @@ pub use Rattle.zerotrie_any.specs.Json
 pub use Rattle.zerotrie_any.specs.JsonCalls
 pub use Rattle.zerotrie_any.specs.Walks
 pub use Rattle.zerotrie_any.specs.Stands
-pub use Rattle.zerotrie_any.specs.Parts
 pub use Rattle.zerotrie_ascii.specs.Writing
 pub use Rattle.zerotrie_any.specs.Listed
 pub use Rattle.zerotrie_ascii.specs.ListedTexts

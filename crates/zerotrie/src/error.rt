@@ -22,7 +22,7 @@ use zerotrie_core::{ListError, ZeroTrieBuildError};
 /// }
 /// ```
 ///
-/// It prints as the error that it contains.
+/// It prints as the error that it contains, and has its advice.
 #[derive(Debug, Drop, Error)]
 pub enum Error {
     /// A build returned an error.
@@ -47,6 +47,23 @@ pub enum Error {
     #[error(transparent)]
     Record(#[from] RecordError),
     /// An allocation failed, in a call that has no other error.
-    #[error("out of memory")]
+    #[error("Out of memory")]
     Memory(#[from(alloc)] AllocError),
+}
+
+impl Error {
+    /// Returns what to do about the error.
+    pub fn advice(&self) -> &'static str {
+        match self {
+            Error::Build(error) => error.advice(),
+            Error::List(error) => error.advice(),
+            Error::Tag(error) => error.advice(),
+            Error::Json(error) => error.advice(),
+            Error::Record(error) => error.advice(),
+            Error::NotWellFormed(_) | Error::Load(_) => {
+                "get the bytes again, or read them as the kind that wrote them"
+            }
+            Error::Memory(_) => "free memory, and try again",
+        }
+    }
 }

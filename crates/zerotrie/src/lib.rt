@@ -30,6 +30,9 @@
 //! Only a `ZeroTrieSimpleAscii` can be built in an array. A `ZeroTrie` over bytes or a store takes
 //! its kind as a type parameter.
 //!
+//! `use zerotrie::Trie` brings the calls that all types share: of prefixes of a string, streams, counts.
+//! A `TrieRef` has them for any kind that is known only when the program runs.
+//!
 //! A look-up does not allocate or copy. In the kinds over ASCII keys a map has one encoding,
 //! however it was built, so tries of one map have equal bytes.
 //!
@@ -48,7 +51,7 @@ mod error;
 pub use error::Error;
 pub use zerotrie_any::{
     CursorAnswer, CursorOp, HasFlavor, JsonError, LoadError, NoPair, NotWellFormed, TagError,
-    TextKey, ZeroTrie, ZeroTrieFlavor, ZeroTrieKeys, ZeroTrieValues, json_keeps_the_pairs,
+    TextKey, ZeroTrie, ZeroTrieFlavor, ZeroTrieKeys, json_keeps_the_pairs, why_json_refused,
 };
 pub use zerotrie_ascii::{
     AsciiKind, AsciiTrie, ZeroAsciiIgnoreCaseTrie, ZeroTrieSimpleAscii, ZeroTrieStringIterator,
@@ -56,9 +59,9 @@ pub use zerotrie_ascii::{
 };
 pub use zerotrie_build::{Refusal, why_iter_refused, why_slice_refused};
 pub use zerotrie_core::{
-    CommonPrefixes, ConvertStore, Ext, Hash, Ignore, ListError, Simple, TrieKey, TrieStore,
-    ZeroTrieBuildError, ZeroTrieBuilderOptions, ZeroTrieIterator, ZeroTrieStream,
-    ZeroTrieWithOptions, laws,
+    CommonPrefixes, ConvertStore, Ext, Hash, Ignore, ListError, Simple, Trie, TrieKey, TrieKind,
+    TrieRef, TrieStore, ZeroTrieBuildError, ZeroTrieBuilderOptions, ZeroTrieIterator,
+    ZeroTrieStream, ZeroTrieValues, ZeroTrieWithOptions, laws,
 };
 pub use zerotrie_hashed::{HashedKind, HashedTrie, ZeroTrieExtendedCapacity, ZeroTriePerfectHash};
 
@@ -90,7 +93,7 @@ pub mod cursor {
 pub mod bytes {
     pub use zerotrie_any::{
         bytes_from_iter, bytes_from_json, bytes_from_map, bytes_from_slice,
-        bytes_from_unsorted_slice, first_key_of, json_of, map_of, tagged, untagged, walk,
+        bytes_from_unsorted_slice, json_of, map_of, tagged, untagged, walk,
     };
     pub use zerotrie_build::{
         ByteSliceWithIndices, TrieBuilderStore, ZeroTrieBuilder, ZeroTrieBuilderConst,
@@ -98,9 +101,9 @@ pub mod bytes {
     };
     pub use zerotrie_core::{
         Branch, Fault, FaultCause, LookUps, Node, Nodes, Part, SpanCursor, Visit, count_pairs,
-        first_fault, get, get_counted, is_well_formed, is_well_formed_counted, longest_prefix,
-        longest_prefix_at, plain_encode, probe, read_varint_meta2, read_varint_meta3, step,
-        take_value, write_varint_meta2, write_varint_meta3,
+        first_fault, first_key_of, get, get_counted, is_well_formed, is_well_formed_counted,
+        longest_prefix, longest_prefix_at, plain_encode, probe, read_varint_meta2,
+        read_varint_meta3, step, take_value, write_varint_meta2, write_varint_meta3,
     };
 }
 

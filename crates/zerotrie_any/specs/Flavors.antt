@@ -3,7 +3,7 @@ use Rattle.zerotrie_core.specs.Kind.{Kind, simple_ascii, perfect_hash, extended_
 use Rattle.zerotrie_any.specs.declared.trie.ZeroTrieFlavor.{ZeroTrieFlavor}
 use Rattle.zerotrie_any.specs.declared.trie.ZeroTrieFlavor.TheVariants.{SimpleAscii, PerfectHash, ExtendedCapacity}
 
--- the kind that a flavor stands for
+-- the kind of a flavor
 abbrev pub flavor_kind : ZeroTrieFlavor → Kind
 flavor_kind SimpleAscii = simple_ascii
 flavor_kind PerfectHash = perfect_hash

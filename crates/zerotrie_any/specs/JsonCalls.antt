@@ -1,6 +1,5 @@
 -- What the calls that read JSON answer.
 use Rattle.std.specs.Prelude.{◌≡◌, ℕ, ◌⊎◌, suc, List, Option, Some, None, Result, Ok, Err, option_map, option_and_then}
-use Rattle.std.specs.String.{string_bytes}
 use Rattle.serde_json.specs.Data.{Data, Items, no_items, item, Members, no_members, member}
 use Rattle.serde_json.specs.Find.{as_array, as_object}
 use Rattle.zerotrie_core.specs.Kind.{Kind}
@@ -9,13 +8,12 @@ use Rattle.zerotrie_core.specs.Routes.{any_order, HasCause, IsBuild}
 use Rattle.zerotrie_core.specs.declared.ZeroTrieBuildError.{ZeroTrieBuildError}
 use Rattle.zerotrie_any.specs.Json.{number_in, pair_in, pairs_in}
 use Rattle.zerotrie_any.specs.declared.json.JsonError.{JsonError}
-use Rattle.zerotrie_any.specs.declared.json.NoPair.{NoPair}
+use Rattle.zerotrie_any.specs.declared.json.no_pair.NoPair.{NoPair}
 
 -- What reading answers: what is there, or that nothing is. If it is out of memory, neither is said.
 abbrev pub IsReading : {A B : Type 0} → (B → A) → Option A → Result B JsonError → Type 0
 IsReading seen there (Ok b) = there ≡ Some (seen b)
 IsReading seen there (Err JsonError.Shape) = there ≡ None
-IsReading seen there (Err (JsonError.NotPair bad)) = ⊥
 IsReading seen there (Err (JsonError.Build e)) = ⊥
 IsReading seen there (Err JsonError.OutOfMemory) = Unit {0}
 
@@ -39,30 +37,21 @@ abbrev pub first_member : Members → Option (List ℕ)
 first_member no_members = None
 first_member (member k d ms) = name_or_later (number_in d) k (first_member ms)
 
--- the first member or item of a value that is no pair
-abbrev pub IsFirstNoPair : Data → NoPair → Type 0
-IsFirstNoPair d (NoPair.Member name) = option_and_then first_member (as_object d) ≡ Some (string_bytes name)
-IsFirstNoPair d (NoPair.Item number) = option_and_then (first_unread pair_in) (as_array d) ≡ Some number
-
--- What reading all members or items answers: what is there, or that nothing is, with the first that is no pair if there is
--- one.
-abbrev pub IsReadingOfAll : {A B : Type 0} → (B → A) → Option A → (NoPair → Type 0) → Result B JsonError → Type 0
-IsReadingOfAll seen there IsFirst (Ok b) = there ≡ Some (seen b)
-IsReadingOfAll seen there IsFirst (Err JsonError.Shape) = (there ≡ None) × ((bad : NoPair) → IsFirst bad → ⊥)
-IsReadingOfAll seen there IsFirst (Err (JsonError.NotPair bad)) = (there ≡ None) × IsFirst bad
-IsReadingOfAll seen there IsFirst (Err (JsonError.Build e)) = ⊥
-IsReadingOfAll seen there IsFirst (Err JsonError.OutOfMemory) = Unit {0}
+-- the first member or item of a value that is no pair, or none if each is one or the value has none
+abbrev pub IsFirstNoPair : Data → Option NoPair → Type 0
+IsFirstNoPair d (Some (NoPair.Member name)) = option_and_then first_member (as_object d) ≡ Some name.now
+IsFirstNoPair d (Some (NoPair.Item number)) = option_and_then (first_unread pair_in) (as_array d) ≡ Some number
+IsFirstNoPair d None = (option_and_then first_member (as_object d) ≡ None) × (option_and_then (first_unread pair_in) (as_array d) ≡ None)
 
 -- there are pairs in the value, and the fact holds of them
 abbrev pub HasPairs : Data → (Pairs → Type 0) → Type 0
 HasPairs d Fact = (pairs : Pairs) × (pairs_in d ≡ Some pairs) × Fact pairs
 
 -- What reading a value as a trie answers, of the kind that is taken for its pairs: a build of the pairs in it, or
--- that there are none, with the first member or item that is no pair if there is one.
+-- that there are none.
 abbrev pub IsBuildOfJson : {B : Type 0} → (Pairs → Kind) → (B → List ℕ) → Data → Result B JsonError → Type 0
 IsBuildOfJson kind bytes d (Ok b) = HasPairs d (λ pairs. IsBuild any_order (kind pairs) bytes pairs (Ok b))
-IsBuildOfJson kind bytes d (Err JsonError.Shape) = (pairs_in d ≡ None) × ((bad : NoPair) → IsFirstNoPair d bad → ⊥)
-IsBuildOfJson kind bytes d (Err (JsonError.NotPair bad)) = (pairs_in d ≡ None) × IsFirstNoPair d bad
+IsBuildOfJson kind bytes d (Err JsonError.Shape) = pairs_in d ≡ None
 IsBuildOfJson kind bytes d (Err (JsonError.Build e)) = HasPairs d (λ pairs. HasCause any_order (kind pairs) pairs e)
 IsBuildOfJson kind bytes d (Err JsonError.OutOfMemory) = Unit {0}
 

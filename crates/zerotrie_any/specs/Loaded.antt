@@ -10,7 +10,7 @@ use Rattle.zerotrie_any.specs.declared.bytes.LoadError.TheVariants.{Tag, NotWell
 abbrev pub IsLoaded : Kind → List ℕ → List ℕ → Type 0
 IsLoaded kind bytes rest = (bytes ≡ tagged kind rest) × IsWellFormed kind rest
 
--- why bytes are refused if such tags are read: no such tag stands in front, or what stands after one means no map of
+-- why bytes are an error if such tags are read: they begin with no such tag, or what follows one means no map of
 -- its kind
 abbrev pub IsLoadFault : (ℕ → Type 0) → List ℕ → LoadError → Type 0
 IsLoadFault IsRead bytes (Tag e) = IsTagFault IsRead bytes e

@@ -5,7 +5,7 @@ use Rattle.zerotrie_core.specs.Places.{Place, ListsAt}
 use Rattle.zerotrie_any.specs.Flavors.{flavor_kind}
 use Rattle.zerotrie_any.specs.declared.trie.ZeroTrieFlavor.{ZeroTrieFlavor}
 
--- Where a cursor stands, in a text of which kind.
+-- Where a cursor is, in a text of which kind.
 pub record Stand : Type 0 where
   pub flavor : ZeroTrieFlavor
   pub place : Place

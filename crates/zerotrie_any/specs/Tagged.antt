@@ -10,7 +10,7 @@ use Rattle.zerotrie_any.specs.declared.bytes.TagError.TheVariants.{Empty, Invali
 abbrev pub tagged : Kind → List ℕ → List ℕ
 tagged kind bytes = tag kind ∷ bytes
 
--- why tagged bytes are refused if such tags are read: there are none, or the first is another tag
+-- why tagged bytes are an error if such tags are read: there are none, or the first is another tag
 abbrev pub IsTagFault : (ℕ → Type 0) → List ℕ → TagError → Type 0
 IsTagFault IsRead [] e = e ≡ Empty
 IsTagFault IsRead (first ∷ bytes) e = (e ≡ InvalidTag) × (IsRead first → ⊥)

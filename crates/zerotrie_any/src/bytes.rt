@@ -31,11 +31,23 @@ pub struct NotWellFormed;
 #[derive(Clone, PartialEq, Eq, Debug, Drop, Error)]
 pub enum TagError {
     /// There are no bytes.
-    #[error("there are no bytes, and so no tag: give all of the tagged bytes")]
+    #[error("Empty")]
     Empty,
     /// The first byte is the tag of another kind, or of none.
-    #[error("the first byte is no tag of the kind that is read: read the bytes as the kind that wrote them")]
+    #[error("InvalidTag")]
     InvalidTag,
+}
+
+impl TagError {
+    /// Returns what the error means, and what to do about it.
+    pub fn advice(&self) -> &'static str {
+        match self {
+            TagError::Empty => "there are no bytes: give all of the tagged bytes",
+            TagError::InvalidTag => {
+                "the first byte is the tag of another kind or of none: give bytes that were written with the tag of the kind that is read"
+            }
+        }
+    }
 }
 
 /// Tagged bytes are not a valid trie of a kind that is read.
@@ -47,7 +59,7 @@ pub enum TagError {
 #[derive(Clone, PartialEq, Eq, Debug, Drop, Error)]
 pub enum LoadError {
     /// There are no bytes, or the first is not the tag of a kind that is read.
-    #[error("{0}")]
+    #[error("the bytes begin with no tag of a kind that is read: {0}")]
     Tag(TagError),
     /// The bytes after the tag are malformed.
     #[error("the bytes after the tag are no trie of its kind: they were changed or cut")]

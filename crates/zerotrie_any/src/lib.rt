@@ -6,9 +6,9 @@
 mod bytes;
 mod cursor;
 mod json;
-mod keys_values;
+mod keys;
+mod kind;
 mod list;
-mod prefixes;
 mod routes;
 mod text_key;
 mod trie;
@@ -16,9 +16,12 @@ mod walks;
 
 pub use bytes::{LoadError, NotWellFormed, TagError, loaded, tagged, untagged};
 pub use cursor::ZeroTrieCursor;
-pub use json::{JsonError, NoPair, bytes_from_json, json_keeps_the_pairs, json_of};
-pub use keys_values::{ZeroTrieKeys, ZeroTrieValues};
-pub use list::{first_key_of, map_of};
+pub use json::{
+    JsonError, NoPair, bytes_from_json, json_keeps_the_pairs, json_of, why_json_refused,
+};
+pub use keys::ZeroTrieKeys;
+pub use kind::kind_for_pairs;
+pub use list::map_of;
 pub use routes::{bytes_from_iter, bytes_from_map, bytes_from_slice, bytes_from_unsorted_slice};
 pub use text_key::TextKey;
 pub use trie::{HasFlavor, ZeroTrie, ZeroTrieFlavor};

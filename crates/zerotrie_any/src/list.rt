@@ -1,21 +1,17 @@
 //! The pairs of a trie, one after another, and its map.
 
 ghost use Rattle.std.specs.Prelude.{◌≡◌, ◌≤◌, IfErr, IfOk, length};
-ghost use Rattle.std.specs.FinMap.{len};
-ghost use Rattle.std.specs.Option.{option_map};
-ghost use Rattle.zerotrie_core.specs.Maps.{Map, Pairs};
+ghost use Rattle.zerotrie_core.specs.Maps.{Map, Pairs, beginning};
 ghost use Rattle.zerotrie_core.specs.Texts.{Lists, Means};
 ghost use Rattle.zerotrie_core.specs.Listings.{to_come};
 ghost use Rattle.zerotrie_core.specs.declared.listing.ListError.TheVariants.{OutOfMemory};
 ghost use Rattle.zerotrie_any.specs.Flavors.{flavor_kind};
-ghost use Rattle.zerotrie_any.specs.Listed.{IsListed, first_key_of};
+ghost use Rattle.zerotrie_any.specs.Listed.{IsListed};
 
 use crate::trie::{ZeroTrie, by_flavor};
-use std::alloc::Global;
+use std::alloc::{AllocError, Global};
 use std::collections::BTreeMap;
-use zerotrie_core::{
-    ListError, TrieStore, ZeroTrieIterator, ZeroTrieStream, ZeroTrieWithOptions, count_pairs,
-};
+use zerotrie_core::{ListError, TrieStore, ZeroTrieIterator, ZeroTrieWithOptions};
 
 /// Returns the map of the trie in these bytes, in the order of the keys' bytes.
 ///
@@ -37,33 +33,6 @@ pub fn map_of<K: ZeroTrieWithOptions>(
         pairs.push(item?)?;
     }
     Ok(BTreeMap::from_iter(alloc, pairs)?)
-}
-
-/// Returns the first key, in the order of `ZeroTrieIterator`, that has this value, or `None` if no
-/// key has it.
-///
-/// ```
-/// let key = first_key_of::<Simple>(rt.alloc(), b"ad\x90\x06ef\x90\x11", 22)?.ok_or("no key")?;
-/// assert_eq!(rt; key.as_slice(), b"ad".as_slice());
-/// ```
-///
-/// Reads the pairs up to that key, and copies no other key. The only error is `OutOfMemory`.
-pub fn first_key_of<K: ZeroTrieWithOptions>(
-    alloc: Global,
-    bytes: &[u8],
-    value: usize,
-) -> Result<Option<Vec<u8>>, ListError>
-    ensures first { (pairs : Pairs) → Lists K.kind bytes.now pairs
-        → IfOk result (λ key. option_map (λ k. k.items) key ≡ first_key_of value pairs) }
-    ensures refused { IfErr result (λ e. e ≡ OutOfMemory) }
-{
-    let mut pairs = ZeroTrieStream::new::<K>(alloc, bytes);
-    while pairs.advance()? {
-        if pairs.value() == value {
-            return Ok(Some(Vec::from_slice(alloc, pairs.key())?));
-        }
-    }
-    Ok(None)
 }
 
 impl<S: TrieStore> ZeroTrie<S> {
@@ -89,60 +58,25 @@ impl<S: TrieStore> ZeroTrie<S> {
         by_flavor!(self.flavor, ZeroTrieIterator::new::<_>(alloc, bytes))
     }
 
-    /// Returns a lending iterator over the pairs, in the order of `iter`: each key is borrowed from
-    /// one buffer. Does not allocate before the first pair, nor for each pair.
+    /// Returns an iterator over the pairs whose keys begin with a prefix, each with its whole key,
+    /// in the order of `iter`.
     ///
-    /// ```
-    /// let trie = ZeroTrie::try_from_iter(rt.alloc(), [("en", 1), ("en-Latn", 2)])?;
-    /// let mut pairs = trie.stream(rt.alloc());
-    /// assert!(rt; pairs.advance()?);
-    /// assert_eq!(rt; (pairs.key(), pairs.value()), (b"en".as_slice(), 1));
-    /// ```
-    pub fn stream(&self, alloc: Global) -> ZeroTrieStream<'_>
-        ensures lists { (pairs : Pairs)
-            → Lists (flavor_kind self.now.flavor) (S.stored self.now.store) pairs
-            → result.left ≡ to_come pairs }
-        ensures most { length result.left.pairs ≤ length (S.stored self.now.store) }
+    /// Reads no part of the trie but the one below the prefix. An error means that an allocation
+    /// failed.
+    pub fn iter_prefix(
+        &self,
+        alloc: Global,
+        prefix: &[u8],
+    ) -> Result<ZeroTrieIterator<'_>, AllocError>
+        ensures { IfOk result (λ it.
+            (pairs : Pairs) → Lists (flavor_kind self.now.flavor) (S.stored self.now.store) pairs
+            → it ≡ to_come (beginning (flavor_kind self.now.flavor) prefix.now pairs)) }
     {
         let bytes = self.store.bytes();
-        by_flavor!(self.flavor, ZeroTrieStream::new::<_>(alloc, bytes))
-    }
-
-    /// Returns the number of keys. Reads the bytes once and does not allocate.
-    ///
-    /// ```
-    /// let trie = ZeroTrie::try_from_iter(rt.alloc(), [("xyz", 22), ("abc", 11)])?;
-    /// assert_eq!(rt; trie.count(), 2);
-    /// ```
-    ///
-    /// On malformed bytes the result is unspecified.
-    pub fn count(&self) -> usize
-        ensures map { (m : Map) → Means (flavor_kind self.now.flavor) (S.stored self.now.store) m
-            → result ≡ len m }
-        ensures most { result ≤ length (S.stored self.now.store) }
-    {
-        let bytes = self.store.bytes();
-        by_flavor!(self.flavor, count_pairs::<_>(bytes))
-    }
-
-    /// Returns the first key, in the order of `iter`, that has this value, or `None` if no key has
-    /// it.
-    ///
-    /// ```
-    /// let trie = ZeroTrie::try_from_iter(rt.alloc(), [("xyz", 22), ("abc", 11)])?;
-    /// let key = trie.first_key_of(rt.alloc(), 22)?.ok_or("no key")?;
-    /// assert_eq!(rt; key.as_slice(), b"xyz".as_slice());
-    /// ```
-    ///
-    /// The only error is `OutOfMemory`.
-    pub fn first_key_of(&self, alloc: Global, value: usize) -> Result<Option<Vec<u8>>, ListError>
-        ensures first { (pairs : Pairs)
-            → Lists (flavor_kind self.now.flavor) (S.stored self.now.store) pairs
-            → IfOk result (λ key. option_map (λ k. k.items) key ≡ first_key_of value pairs) }
-        ensures refused { IfErr result (λ e. e ≡ OutOfMemory) }
-    {
-        let bytes = self.store.bytes();
-        by_flavor!(self.flavor, first_key_of::<_>(alloc, bytes, value))
+        by_flavor!(
+            self.flavor,
+            ZeroTrieIterator::with_prefix::<_>(alloc, bytes, prefix)
+        )
     }
 
     /// Returns the map of the trie, in the order of the keys' bytes.

@@ -2,7 +2,6 @@
 
 ghost use Rattle.std.specs.Prelude.{◌≡◌, ◌==◌, ◌↔◌, IsTrue, IfOk, length, []};
 ghost use Rattle.std.specs.FinMap.{empty};
-ghost use Rattle.std.specs.Option.{is_some};
 ghost use Rattle.std.specs.Iterator.{IsFiniteIterable};
 ghost use Rattle.std.specs.Ordering.{on, eq_of_both};
 ghost use Rattle.std.specs.Cmp.Rules.{comparing};
@@ -13,17 +12,18 @@ ghost use Rattle.zerotrie_core.specs.Maps.{Map, look};
 ghost use Rattle.zerotrie_core.specs.Texts.{Means};
 ghost use Rattle.zerotrie_core.specs.Items.{pairs_of, keyed};
 ghost use Rattle.zerotrie_core.specs.Routes.{ascending, in_order, any_order, IsBuild, HoldsOfItsPairs};
-ghost use Rattle.zerotrie_any.specs.Auto.{auto_kind, is_simple, are_ascii, IsAutoBuildOfAll};
+ghost use Rattle.zerotrie_any.specs.Auto.{auto_kind, IsAutoBuildOfAll};
 ghost use Rattle.zerotrie_any.specs.Flavors.{flavor_kind};
 ghost use Rattle.zerotrie_any.specs.Order.{IsByBytes};
 
+use crate::kind::is_simple;
 use crate::routes::{bytes_from_iter, bytes_from_slice, items_of};
 use crate::text_key::TextKey;
 use std::alloc::{AllocError, Global};
 use std::collections::BTreeMap;
 use std::fmt;
 use zerotrie_core::{
-    ConvertStore, Ext, Hash, Simple, TrieKey, TrieKind, TrieStore, ZeroTrieBuildError,
+    ConvertStore, Ext, Hash, Simple, Trie, TrieKey, TrieKind, TrieStore, ZeroTrieBuildError,
     ZeroTrieWithOptions, get,
 };
 
@@ -93,7 +93,7 @@ impl HasFlavor for Ext {
 ///
 /// Any kind and store of bytes can be a trie. On valid bytes, such as those of every build, each
 /// call returns the result for their map. On malformed bytes results are unspecified; no call
-/// panics or reads outside them.
+/// panics or reads outside them. The trait `Trie` has further calls.
 ///
 /// A build from pairs chooses the kind of `ZeroTrieSimpleAscii` if all keys are ASCII and there are
 /// fewer than 512, and otherwise that of `ZeroTriePerfectHash`.
@@ -147,33 +147,6 @@ impl<S: TrieStore> ZeroTrie<S> {
     {
         let bytes = self.store.bytes();
         by_flavor!(self.flavor, get::<_>(bytes, key))
-    }
-
-    /// Returns the value of a `str` key, as `get` does for its bytes.
-    ///
-    /// ```
-    /// let trie = ZeroTrie::try_from_iter(rt.alloc(), [("å", 1), ("ø", 2)])?;
-    /// assert_eq!(rt; trie.get_str("ø"), Some(2));
-    /// ```
-    pub fn get_str(&self, key: &str) -> Option<usize>
-        ensures { (m : Map) → Means (flavor_kind self.now.flavor) (S.stored self.now.store) m
-            → result ≡ look (flavor_kind self.now.flavor) m key.now }
-    {
-        self.get(key.as_bytes())
-    }
-
-    /// Returns whether the trie has the key. Does not allocate.
-    ///
-    /// ```
-    /// let trie = ZeroTrie::of_kind::<Simple>(b"abc\x85".as_slice());
-    /// assert!(rt; trie.contains_key(b"abc"));
-    /// assert!(rt; !trie.contains_key(b"ab"));
-    /// ```
-    pub fn contains_key(&self, key: &[u8]) -> bool
-        ensures { (m : Map) → Means (flavor_kind self.now.flavor) (S.stored self.now.store) m
-            → result ≡ is_some (look (flavor_kind self.now.flavor) m key.now) }
-    {
-        self.get(key).is_some()
     }
 
     /// Returns whether there are no bytes, as in a trie with no keys.
@@ -236,6 +209,26 @@ impl<S: TrieStore> ZeroTrie<S> {
     }
 }
 
+impl<S: TrieStore> Trie for ZeroTrie<S> {
+    ghost kind = { λ t. flavor_kind t.flavor };
+
+    ghost bytes = { λ t. S.stored t.store };
+
+    #[inline]
+    fn trie_kind(&self) -> TrieKind {
+        match self.flavor {
+            ZeroTrieFlavor::SimpleAscii => TrieKind::Simple,
+            ZeroTrieFlavor::PerfectHash => TrieKind::Hash,
+            ZeroTrieFlavor::ExtendedCapacity => TrieKind::Ext,
+        }
+    }
+
+    #[inline]
+    fn as_bytes(&self) -> &[u8] {
+        self.store.bytes()
+    }
+}
+
 impl<'a> ZeroTrie<&'a [u8]> {
     /// Returns the trie with no keys. Does not allocate. Its kind is that of a build of no pairs.
     ///
@@ -249,20 +242,6 @@ impl<'a> ZeroTrie<&'a [u8]> {
     {
         ZeroTrie::of_kind::<Simple>(&[])
     }
-}
-
-/// Returns whether all keys are ASCII.
-fn are_ascii<Key: TrieKey>(items: &[(Key, usize)]) -> bool
-    ensures { result ≡ are_ascii (keyed Key.key items.now) }
-{
-    items.iter().all(|(key, _)| key.key_bytes().is_ascii())
-}
-
-/// Returns whether all keys are ASCII and there are fewer than 512.
-fn is_simple<Key: TrieKey>(items: &[(Key, usize)]) -> bool
-    ensures { result ≡ is_simple (keyed Key.key items.now) }
-{
-    items.len() < TrieKind::SIMPLE_LIMIT && are_ascii(items)
 }
 
 /// Builds the trie of a slice, of the kind `K`.

@@ -14,7 +14,7 @@ abbrev pub BeginsNoText : Pairs → Type 0
 BeginsNoText [] = ⊥
 BeginsNoText (e ∷ pairs) = IsUtf8 e.0 → ⊥
 
--- an error that may end a listing of texts if these pairs are left: the next key is no text, or memory was refused
+-- an error that may end a listing of texts if these pairs are left: the next key is no text, or an allocation failed
 abbrev pub TextError : ListError → Pairs → Type 0
 TextError OutOfMemory pairs = ⊤
 TextError NotText pairs = BeginsNoText pairs

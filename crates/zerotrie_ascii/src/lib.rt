@@ -6,7 +6,6 @@ mod bytes;
 mod cursor;
 mod json;
 mod list;
-mod prefixes;
 mod trie;
 
 pub use cursor::{AsciiCursor, ZeroAsciiIgnoreCaseTrieCursor, ZeroTrieSimpleAsciiCursor};

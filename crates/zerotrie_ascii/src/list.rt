@@ -1,23 +1,19 @@
 //! The pairs of a trie, one after another.
 
-ghost use Rattle.std.specs.Prelude.{◌≡◌, ◌≤◌, IfErr, IfOk, length};
-ghost use Rattle.std.specs.FinMap.{len};
+ghost use Rattle.std.specs.Prelude.{◌≡◌, ◌≤◌, IfOk, length};
 ghost use Rattle.std.specs.Iterator.{at_most};
-ghost use Rattle.std.specs.Option.{option_map};
 ghost use Rattle.std.specs.String.{string_bytes};
 ghost use Rattle.zerotrie_core.specs.Maps.{Map, Pairs, beginning};
 ghost use Rattle.zerotrie_core.specs.Texts.{Lists, Means};
 ghost use Rattle.zerotrie_core.specs.Listings.{to_come, turns_left, ListsOne};
-ghost use Rattle.zerotrie_core.specs.declared.listing.ListError.TheVariants.{OutOfMemory};
-ghost use Rattle.zerotrie_any.specs.Listed.{IsListed, first_key_of};
+ghost use Rattle.zerotrie_any.specs.Listed.{IsListed};
 ghost use Rattle.zerotrie_ascii.specs.ListedTexts.{AreTexts, TextError};
 
 use crate::trie::{AsciiKind, AsciiTrie};
 use std::alloc::{AllocError, Global};
 use std::collections::BTreeMap;
 use std::marker::Model;
-use zerotrie_any::{ZeroTrieValues, first_key_of};
-use zerotrie_core::{ListError, TrieStore, ZeroTrieIterator, ZeroTrieStream, count_pairs};
+use zerotrie_core::{ListError, TrieStore, ZeroTrieIterator};
 
 /// An iterator over the pairs of a trie over ASCII keys, in ascending order of the keys: by their
 /// bytes, or if case is ignored by their bytes in lower case.
@@ -132,7 +128,7 @@ impl<'a> ZeroTrieStringKeys<'a> {
 impl<'a> Iterator for ZeroTrieStringKeys<'a> {
     type Item = Result<String, ListError>;
 
-    ghost use Rattle.zerotrie_any.specs.Parts.{ListsPart};
+    ghost use Rattle.zerotrie_core.specs.Parts.{ListsPart};
 
     ghost next_gives = { ListsPart (λ e key. e.0 ≡ string_bytes key) TextError };
 
@@ -171,21 +167,31 @@ impl<K: AsciiKind, S: TrieStore> AsciiTrie<K, S> {
         ZeroTrieStringIterator::new::<K>(alloc, self.as_bytes())
     }
 
-    /// Returns a lending iterator over the pairs, in the order of `iter`: each key is borrowed from
-    /// one buffer. Does not allocate before the first pair, nor for each pair.
+    /// Returns an iterator over the pairs whose keys begin with a prefix, each with its whole key,
+    /// in the order of `iter`.
     ///
     /// ```
-    /// let trie = ZeroTrieSimpleAscii::try_from_iter(rt.alloc(), [("en", 1), ("en-Latn", 2)])?;
-    /// let mut pairs = trie.stream(rt.alloc());
-    /// assert!(rt; pairs.advance()?);
-    /// assert_eq!(rt; (pairs.key(), pairs.value()), (b"en".as_slice(), 1));
+    /// let trie = ZeroTrieSimpleAscii::try_from_iter(rt.alloc(), [("xyz", 22), ("abc", 11)])?;
+    /// let mut pairs = trie.iter_prefix(rt.alloc(), b"ab")?;
+    /// let (key, value) = pairs.next().ok_or("no key")??;
+    /// assert_eq!(rt; (key.as_str(), value), ("abc", 11));
+    /// assert!(rt; pairs.next().is_none());
     /// ```
-    pub fn stream(&self, alloc: Global) -> ZeroTrieStream<'_>
-        ensures lists { (pairs : Pairs) → Lists K.kind (S.stored self.now.store) pairs
-            → result.left ≡ to_come pairs }
-        ensures most { length result.left.pairs ≤ length (S.stored self.now.store) }
+    ///
+    /// Reads no part of the trie but the one below the prefix. An error means that an allocation
+    /// failed.
+    pub fn iter_prefix(
+        &self,
+        alloc: Global,
+        prefix: &[u8],
+    ) -> Result<ZeroTrieStringIterator<'_>, AllocError>
+        ensures lists { IfOk result (λ it.
+            (pairs : Pairs) → Lists K.kind (S.stored self.now.store) pairs
+            → it ≡ to_come (beginning K.kind prefix.now pairs)) }
+        ensures texts { (pairs : Pairs) → Lists K.kind (S.stored self.now.store) pairs
+            → AreTexts (beginning K.kind prefix.now pairs) }
     {
-        ZeroTrieStream::new::<K>(alloc, self.as_bytes())
+        ZeroTrieStringIterator::with_prefix::<K>(alloc, self.as_bytes(), prefix)
     }
 
     /// Returns an iterator over the keys, in the order of `iter`. Does not allocate before the
@@ -202,54 +208,6 @@ impl<K: AsciiKind, S: TrieStore> AsciiTrie<K, S> {
         ensures most { length result.pairs ≤ length (S.stored self.now.store) }
     {
         ZeroTrieStringKeys::new::<K>(alloc, self.as_bytes())
-    }
-
-    /// Returns an iterator over the values, in the order of `iter`. Does not allocate before the
-    /// first `next`.
-    ///
-    /// ```
-    /// let trie = ZeroTrieSimpleAscii::try_from_iter(rt.alloc(), [("xyz", 22), ("abc", 11)])?;
-    /// assert_eq!(rt; trie.values(rt.alloc()).next().ok_or("no value")??, 11);
-    /// ```
-    pub fn values(&self, alloc: Global) -> ZeroTrieValues<'_>
-        ensures lists { (pairs : Pairs) → Lists K.kind (S.stored self.now.store) pairs
-            → result ≡ to_come pairs }
-        ensures most { length result.pairs ≤ length (S.stored self.now.store) }
-    {
-        ZeroTrieValues::new::<K>(alloc, self.as_bytes())
-    }
-
-    /// Returns the number of keys. Reads the bytes once and does not allocate.
-    ///
-    /// ```
-    /// let trie = ZeroTrieSimpleAscii::try_from_iter(rt.alloc(), [("xyz", 22), ("abc", 11)])?;
-    /// assert_eq!(rt; trie.count(), 2);
-    /// ```
-    ///
-    /// On malformed bytes the result is unspecified.
-    pub fn count(&self) -> usize
-        ensures map { (m : Map) → Means K.kind (S.stored self.now.store) m → result ≡ len m }
-        ensures most { result ≤ length (S.stored self.now.store) }
-    {
-        count_pairs::<K>(self.as_bytes())
-    }
-
-    /// Returns the first key, in the order of `iter`, that has this value, or `None` if no key has
-    /// it.
-    ///
-    /// ```
-    /// let trie = ZeroTrieSimpleAscii::try_from_iter(rt.alloc(), [("xyz", 22), ("abc", 11)])?;
-    /// let key = trie.first_key_of(rt.alloc(), 22)?.ok_or("no key")?;
-    /// assert_eq!(rt; key.as_slice(), b"xyz".as_slice());
-    /// ```
-    ///
-    /// The only error is `OutOfMemory`.
-    pub fn first_key_of(&self, alloc: Global, value: usize) -> Result<Option<Vec<u8>>, ListError>
-        ensures first { (pairs : Pairs) → Lists K.kind (S.stored self.now.store) pairs
-            → IfOk result (λ key. option_map (λ k. k.items) key ≡ first_key_of value pairs) }
-        ensures refused { IfErr result (λ e. e ≡ OutOfMemory) }
-    {
-        first_key_of::<K>(alloc, self.as_bytes(), value)
     }
 
     /// Returns the map of the trie, in the order of the keys' bytes.

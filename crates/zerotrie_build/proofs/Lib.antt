@@ -11,6 +11,5 @@ mod Ranges
 mod RefusalLemmas
 mod Runs
 mod Stacks
-mod TextLemmas
 mod WindowLemmas
 mod WriteLemmas

@@ -1,7 +1,7 @@
 pub mod Items
 pub mod Ranges
+pub mod Zeros
 pub mod Order
-pub mod TextItems
 pub mod Refused
 pub mod passes
 pub mod array

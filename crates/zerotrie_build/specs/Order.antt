@@ -31,7 +31,7 @@ fold_cmp kind a b = slice_cmp nat_cmp (map (fold_byte kind) a) (map (fold_byte k
 abbrev pub sort_cmp : Kind → List ℕ → List ℕ → Ordering
 sort_cmp kind a b = ordering_then (fold_cmp kind a b) (slice_cmp nat_cmp a b)
 
--- the folds of the first n bytes of a key as one number, after the digits that are there; zeros stand where the key has ended
+-- the folds of the first n bytes of a key as one number, after the digits that are there; zeros where the key has ended
 abbrev pub prefix_behind : Kind → ℕ → ℕ → List ℕ → ℕ
 prefix_behind kind zero there key = there
 prefix_behind kind (suc n) there [] = prefix_behind kind n (256 * there) []
@@ -51,7 +51,7 @@ abbrev pub IsFirst : List ℕ → Pairs → Type 0
 IsFirst key [] = ⊥
 IsFirst key (e ∷ pairs) = key ≡ e.0
 
--- some key stands beside itself
+-- some key is next to itself
 abbrev pub RepeatsNext : Pairs → Type 0
 RepeatsNext [] = ⊥
 RepeatsNext (e ∷ pairs) = IsFirst e.0 pairs ⊎ RepeatsNext pairs
@@ -60,7 +60,7 @@ RepeatsNext (e ∷ pairs) = IsFirst e.0 pairs ⊎ RepeatsNext pairs
 abbrev pub AreKeys : Kind → Pairs → Type 0
 AreKeys kind pairs = All (λ e. All (λ b. b < edge_limit kind) e.0) pairs
 
--- the byte is below 128 and stands for itself to the kind
+-- the byte is below 128 and is its own fold in the kind
 abbrev pub IsFolded : Kind → ℕ → Type 0
 IsFolded kind b = (b < 128) × (fold_byte kind b ≡ b)
 

@@ -1,4 +1,4 @@
--- Which keys show why a build is refused.
+-- Which keys show why a build fails.
 use Rattle.std.specs.Prelude.{◌≡◌, ◌≢◌, ◌==◌, ℕ, ◌+◌, ◌<◌, ◌≤◌, List, [], length, All, Any, Option, Some, None, slice_index_or}
 use Rattle.std.specs.Cmp.Lexicographic.{slice_cmp}
 use Rattle.std.specs.Ordering.{nat_cmp}
@@ -43,7 +43,7 @@ pub record AreFaultless (route : Route) (kind : Kind) (pairs : Pairs) : Type 0 w
   pub bytes : All (λ e. All (λ b. b < edge_limit kind) e.0) pairs
   pub case : IsCaseConsistent kind pairs
 
--- What is answered for the question which keys show why a build of the pairs by the route is refused: keys that show an
+-- The result of the question which keys show why a build of the pairs by the route fails: keys that show an
 -- error, which is one of the route and has its cause, or none, and then no keys show one.
 abbrev pub IsWhyRefused : Route → Kind → Pairs → Option Refusal → Type 0
 IsWhyRefused route kind pairs (Some r) = AreShown kind pairs r.error r.first r.second × HasCause route kind pairs r.error

@@ -2,6 +2,7 @@
 pub mod Windows
 pub mod Measured
 pub mod Writing
+pub mod Written
 pub mod Writes
 pub mod Walking
 pub mod Sorts

@@ -66,7 +66,7 @@ impl<const N: usize> ZeroTrieBuilderConst<N> {
         Ok(ZeroTrieBuilderConst { data, start })
     }
 
-    /// The bytes of the trie, which may be fewer than the array has.
+    /// Returns the bytes of the trie, which may be fewer than the array has.
     pub fn as_bytes(&self) -> &[u8]
         ensures value { result.now ≡ self.now }
         ensures within { length self.now ≤ N }
@@ -75,7 +75,7 @@ impl<const N: usize> ZeroTrieBuilderConst<N> {
         &all[self.start..]
     }
 
-    /// The array, which the bytes of the trie have to fill.
+    /// Returns the array, which the bytes of the trie have to fill.
     ///
     /// It returns `BufferTooLarge`, which has their number, exactly if they are fewer.
     pub fn build(self) -> Result<[u8; N], ZeroTrieBuildError>

@@ -50,7 +50,8 @@ pub(crate) struct WriteInput<'a> {
 }
 
 impl<'a> WriteInput<'a> {
-    /// What the first pass found. If `ascii` is true, all keys are ASCII.
+    /// Makes the input of the second pass from what the first one found. If `ascii` is true, all
+    /// keys are ASCII.
     pub(crate) fn new<A: Allocator>(measured: &'a Measured<A>, ascii: bool) -> Self
         ensures slots { result.slots.now ≡ measured.now.slots.items }
         ensures ascii { result.ascii ≡ ascii }
@@ -193,7 +194,8 @@ impl<A: Allocator + Copy> Layout<A> {
         for index in (0..self.windows.len()).rev() {
             pending.push(text_of(self.windows[index]))?;
         }
-        pending.push(go(self.windows[0].from, slot))?;
+        let from = self.windows[0].from;
+        pending.push(Next::Go(Position { from, slot }))?;
         Ok(())
     }
 
@@ -216,7 +218,10 @@ impl<A: Allocator + Copy> Layout<A> {
         let before = if number == 0 { 0 } else { ends[number - 1] };
         let window = self.windows[number];
         pending.push(text_of(window))?;
-        pending.push(go(window.from, slot + before))?;
+        pending.push(Next::Go(Position {
+            from: window.from,
+            slot: slot + before,
+        }))?;
         Ok(())
     }
 
@@ -245,7 +250,10 @@ impl<A: Allocator + Copy> Layout<A> {
         // So there is room too for the targets of a sorted table below the first of them.
         pending.reserve(count.saturating_mul(2).saturating_add(HASHED_FROM - 1))?;
         let last = self.windows[self.windows.len() - 1];
-        pending.push(go(last.to, slot + ends[ends.len() - 1]))?;
+        pending.push(Next::Go(Position {
+            from: last.to,
+            slot: slot + ends[ends.len() - 1],
+        }))?;
         for index in (0..count).rev() {
             let number = self.numbers[index];
             self.push_placed(number, ends, slot, pending)?;
@@ -330,19 +338,12 @@ fn set_places<A: Allocator>(
     Ok(())
 }
 
-/// What is written for a window that begins where the one before it ended.
+/// Returns what is written for a window that begins where the one before it ended.
 fn text_of(window: Window) -> Next
     ensures { result ≡ text_of window }
 {
     let Window { to, depth, .. } = window;
     Next::Text(PendingWindow { to, depth })
-}
-
-/// That the next window begins with this item and this slot.
-fn go(from: usize, slot: usize) -> Next
-    ensures { result ≡ Next.Go (position_at from slot) }
-{
-    Next::Go(Position { from, slot })
 }
 
 /// The edges of a branch, their hashed table, and their numbers in its order; or nothing.
@@ -370,7 +371,7 @@ impl<A: Allocator> Model for LastTable<A> {
 }
 
 impl<A: Allocator + Copy> LastTable<A> {
-    /// Nothing.
+    /// Returns the table of no branch.
     pub(crate) fn new(spare: A) -> Self {
         LastTable {
             edges: Vec::new(spare),
@@ -379,21 +380,20 @@ impl<A: Allocator + Copy> LastTable<A> {
         }
     }
 
-    /// Whether it is the table of these edges.
+    /// Returns whether it is the table of these edges.
     pub(crate) fn is_of(&self, edges: &[u8]) -> bool
         ensures { IsTrue result → IsHashedLayout edges.now self.now.table self.now.numbers }
     {
         !edges.is_empty() && self.edges.as_slice() == edges
     }
 
-    /// The table.
     pub(crate) fn table(&self) -> &[u8]
         ensures { result.now ≡ self.now.table }
     {
         self.table.as_slice()
     }
 
-    /// The numbers of the edges, in the order of the table.
+    /// Returns the numbers of the edges, in the order of the table.
     pub(crate) fn numbers(&self) -> &[usize]
         ensures { result.now ≡ self.now.numbers }
     {

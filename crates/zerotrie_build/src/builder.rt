@@ -12,20 +12,19 @@ ghost use Rattle.zerotrie_build.specs.Order.{Ordered, AreKeys, AreAsciiKeys, Are
 
 use crate::blocks::items_by_blocks;
 use crate::branch::{Layout, WriteInput, all_pending};
-use crate::items::{ByteSliceWithIndices, IndexedItems, TextItems};
+use crate::items::{ByteSliceWithIndices, IndexedItems};
 use crate::measure::measure_all;
 use crate::order::{are_ascii, are_in_order, are_keys, is_ordered};
 use crate::sort::sorted_by_keys;
 use crate::store::TrieBuilderStore;
 use crate::write::Writing;
 use std::alloc::{AllocError, Allocator, Global};
-use std::collections::VecDeque;
 use zerotrie_base::{
     TrieKey, ZeroTrieBuildError, ZeroTrieBuilderOptions, ZeroTrieWithOptions, by_kind, laws,
 };
 
-/// The items in the order of the kind, sorted by blocks of their keys. `None` if an allocation
-/// failed, or if they have no order of the kind, as where a key comes twice.
+/// Returns the items in the order of the kind, sorted by blocks of their keys. `None` if an
+/// allocation failed, or if they have no order of the kind, as where a key comes twice.
 fn in_order_by_blocks<K: ZeroTrieWithOptions, Key: TrieKey, A: Allocator + Copy>(
     alloc: A,
     given: &[(Key, usize)],
@@ -50,7 +49,7 @@ fn in_order_by_blocks<K: ZeroTrieWithOptions, Key: TrieKey, A: Allocator + Copy>
     Some(items)
 }
 
-/// The items in the order of the kind, sorted by their whole keys.
+/// Returns the items in the order of the kind, sorted by their whole keys.
 fn in_order_by_keys<K: ZeroTrieWithOptions, Key: TrieKey, A: Allocator + Copy>(
     alloc: A,
     given: &[(Key, usize)],
@@ -74,8 +73,8 @@ fn in_order_by_keys<K: ZeroTrieWithOptions, Key: TrieKey, A: Allocator + Copy>(
     Ok(items)
 }
 
-/// The items in the order of the kind. A sort by whole keys shows why they have none, and needs less
-/// memory.
+/// Returns the items in the order of the kind. A sort by whole keys shows why they have none, and
+/// needs less memory.
 fn in_order<K: ZeroTrieWithOptions, Key: TrieKey, A: Allocator + Copy>(
     alloc: A,
     given: &[(Key, usize)],
@@ -111,17 +110,15 @@ fn build_ordered<
     laws::canonical_exactly();
     laws::meant_fits();
     let measured = measure_all::<K, I, A>(spare, items, ascii)?;
-    let mut writing = Writing::new(alloc, measured.len)?;
+    let mut writing = Writing::<S>::new(alloc, measured.len)?;
     let mut layout = Layout::new(alloc, spare);
     let pending = all_pending(spare, items.len())?;
     let input = WriteInput::new(&measured, ascii);
     writing.put_pending::<K, I, A>(items, input, &mut layout, pending)?;
-    let mut store = S::atbs_new_empty(alloc);
-    store.atbs_fill(writing.into_bytes())?;
-    Ok(store)
+    Ok(writing.into_store())
 }
 
-/// The bytes of the trie of items in any order, which are put in the order of the kind.
+/// Builds the trie of items in any order. Puts them in the order of the kind.
 fn build_sorted<
     K: ZeroTrieWithOptions,
     Key: TrieKey,
@@ -136,8 +133,8 @@ fn build_sorted<
     build_ordered::<K, _, S, A>(alloc, spare, items, ascii)
 }
 
-/// The bytes of the trie of items that ascend by the bytes of their keys. If the kind has another
-/// order, they are sorted once more, unless they are in that order too.
+/// Builds the trie of items that ascend by the bytes of their keys. If the kind has another order,
+/// they are sorted once more, unless they are in that order too.
 fn build_ascending<K: ZeroTrieWithOptions, S: TrieBuilderStore + Drop, A: Allocator + Copy>(
     alloc: Global,
     spare: A,
@@ -155,8 +152,8 @@ fn build_ascending<K: ZeroTrieWithOptions, S: TrieBuilderStore + Drop, A: Alloca
     }
 }
 
-/// The bytes of the trie of items that ascend by the bytes of their keys, in the kind of the
-/// options. What it takes beside the store comes from the allocator `spare`.
+/// Builds the trie of items that ascend by the bytes of their keys, in the kind of the options.
+/// What it takes beside the store comes from the allocator `spare`.
 ///
 /// A build has the errors of one by `ZeroTrieBuilder`.
 pub fn build_slice<S: TrieBuilderStore + Drop, A: Allocator + Copy>(
@@ -174,8 +171,8 @@ pub fn build_slice<S: TrieBuilderStore + Drop, A: Allocator + Copy>(
     )
 }
 
-/// The bytes of the trie of items in any order. If they are in the order of the kind, they are read
-/// where they are, and else they are sorted.
+/// Builds the trie of items in any order. If they are in the order of the kind, they are read where
+/// they are, and else they are sorted.
 fn build_given<
     K: ZeroTrieWithOptions,
     Key: TrieKey,
@@ -193,7 +190,7 @@ fn build_given<
     build_ordered::<K, _, S, A>(alloc, spare, given, are_ascii::<K, _>(given))
 }
 
-/// The bytes of the trie of items in any order, in the kind of the options.
+/// Builds the trie of items in any order, in the kind of the options.
 fn build_any<Key: TrieKey, S: TrieBuilderStore + Drop, A: Allocator + Copy>(
     alloc: Global,
     spare: A,
@@ -208,7 +205,7 @@ fn build_any<Key: TrieKey, S: TrieBuilderStore + Drop, A: Allocator + Copy>(
     )
 }
 
-/// How long the text of items in the order of the kind is.
+/// Returns the length of a build of items in the order of the kind.
 fn len_ordered<K: ZeroTrieWithOptions, A: Allocator + Copy>(
     alloc: A,
     items: ByteSliceWithIndices<'_>,
@@ -222,7 +219,7 @@ fn len_ordered<K: ZeroTrieWithOptions, A: Allocator + Copy>(
     Ok(measured.len)
 }
 
-/// How long the text of items in any order is, which are put in the order of the kind.
+/// Returns the length of a build of items in any order. Puts them in the order of the kind.
 fn len_sorted<K: ZeroTrieWithOptions, Key: TrieKey, A: Allocator + Copy>(
     alloc: A,
     given: &[(Key, usize)],
@@ -236,7 +233,7 @@ fn len_sorted<K: ZeroTrieWithOptions, Key: TrieKey, A: Allocator + Copy>(
     )
 }
 
-/// How long the text of items that ascend by the bytes of their keys is.
+/// Returns the length of a build of items that ascend by the bytes of their keys.
 fn len_ascending<K: ZeroTrieWithOptions, A: Allocator + Copy>(
     alloc: A,
     items: ByteSliceWithIndices<'_>,
@@ -253,8 +250,8 @@ fn len_ascending<K: ZeroTrieWithOptions, A: Allocator + Copy>(
     }
 }
 
-/// How long the text of items that ascend by the bytes of their keys is, in the kind of the
-/// options.
+/// Returns the length of a build of items that ascend by the bytes of their keys, in the kind of
+/// the options.
 fn len_slice<A: Allocator + Copy>(
     alloc: A,
     items: ByteSliceWithIndices<'_>,
@@ -266,8 +263,8 @@ fn len_slice<A: Allocator + Copy>(
     by_kind!(options.kind(), len_ascending::<_, A>(alloc, items))
 }
 
-/// How many bytes a build of the items has, whose keys ascend strictly by their bytes. It writes
-/// none of them. No items have no bytes.
+/// Returns how many bytes a build of the items has, whose keys must ascend strictly by their bytes.
+/// Writes none of them. No items have no bytes.
 ///
 /// ```
 /// let items = [("ad", 22), ("adef", 33)];
@@ -292,9 +289,8 @@ pub fn encoded_len(
     Ok(len)
 }
 
-/// A builder of tries, which measures their bytes and then writes them into memory of their length.
-/// A `VecDeque` takes that over; a store that keeps the trait's `atbs_fill` grows once, and takes
-/// in byte after byte.
+/// A builder of tries, which measures their bytes and then writes them into a store. The store grows
+/// once, by zeros, and each byte is set at its place, from the first to the last.
 ///
 /// ```
 /// let items = [("ad", 22), ("adef", 33)];
@@ -378,70 +374,10 @@ impl<S: TrieBuilderStore + Drop> ZeroTrieBuilder<S> {
         Ok(ZeroTrieBuilder { data })
     }
 
-    /// A copy of the bytes of the trie. The only error is out of memory.
+    /// Returns a copy of the bytes of the trie. The only error is out of memory.
     pub fn to_bytes(&self, alloc: Global) -> Result<Vec<u8>, AllocError>
         ensures { IfOk result (λ bytes. bytes.items ≡ S.list self.now.data) }
     {
         self.data.atbs_to_bytes(alloc)
     }
-}
-
-/// The bytes of the trie of pairs in a text whose keys ascend. If the kind has another order, the
-/// pairs are copied first.
-fn build_marked<K: ZeroTrieWithOptions>(
-    alloc: Global,
-    items: &TextItems<'_>,
-) -> Result<VecDeque<u8>, ZeroTrieBuildError>
-    requires { Ascends items.now.pairs }
-    ensures { IsBuild any_order K.kind (λ bytes. bytes.items) items.now.pairs result }
-{
-    let ascii = items.is_ascii();
-    if !K::SPANS && !ascii {
-        return Err(ZeroTrieBuildError::NonAsciiError);
-    }
-    if K::IGNORE_CASE {
-        let copied = items.to_vec_u8(alloc)?;
-        return build_given::<K, &[u8], VecDeque<u8>, Global>(alloc, alloc, copied.as_slice());
-    }
-    build_ordered::<K, _, VecDeque<u8>, Global>(alloc, alloc, items.items(), ascii)
-}
-
-/// The bytes of the trie of pairs in a text whose keys ascend, in the kind of the options.
-fn build_ascending_text(
-    alloc: Global,
-    items: &TextItems<'_>,
-    options: ZeroTrieBuilderOptions,
-) -> Result<VecDeque<u8>, ZeroTrieBuildError>
-    requires { Ascends items.now.pairs }
-    ensures { IsBuild any_order (kind_with options) (λ bytes. bytes.items) items.now.pairs result }
-{
-    by_kind!(options.kind(), build_marked::<_>(alloc, items))
-}
-
-/// Builds the trie of the pairs of a text, whose keys ascend strictly by their bytes, and returns
-/// its bytes. No pairs give none. The build allocates some 12 bytes for each pair besides, and if
-/// the kind ignores case it copies the pairs first, with 24 bytes each.
-///
-/// ```
-/// let mut items = TextItems::new(rt.alloc(), b"ad 22, adef 33");
-/// items.push(0, 2, 22)?;
-/// items.push(7, 4, 33)?;
-/// let bytes = build_text(rt.alloc(), &items, ZeroTrieBuilderOptions::of::<Simple>())?;
-/// assert_eq!(rt; bytes.as_slice(), b"ad\x90\x06ef\x90\x11".as_slice());
-/// ```
-///
-/// A build has the errors of `ZeroTrieBuilder::from_sorted_tuple_slice`, each for the reason that
-/// `ZeroTrieBuildError` gives.
-pub fn build_text(
-    alloc: Global,
-    items: &TextItems<'_>,
-    options: ZeroTrieBuilderOptions,
-) -> Result<Vec<u8>, ZeroTrieBuildError>
-    ensures { IsBuild ascending (kind_with options) (λ bytes. bytes.items) items.now.pairs result }
-{
-    if !items.ascend() {
-        return Err(ZeroTrieBuildError::Unsorted);
-    }
-    let store = build_ascending_text(alloc, items, options)?;
-    Ok(store.into_vec())
 }

@@ -19,7 +19,7 @@ mod windows;
 mod write;
 
 pub use array::{ZeroTrieBuilderConst, bytes_within, fill_from_end};
-pub use builder::{ZeroTrieBuilder, build_slice, build_text, encoded_len};
-pub use items::{ByteSliceWithIndices, TextItems};
+pub use builder::{ZeroTrieBuilder, build_slice, encoded_len};
+pub use items::ByteSliceWithIndices;
 pub use refusal::{Refusal, why_iter_refused, why_slice_refused};
 pub use store::TrieBuilderStore;

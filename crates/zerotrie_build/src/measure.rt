@@ -13,12 +13,12 @@ ghost use Rattle.zerotrie_build.specs.passes.Measured.{Passes, NoneFirst, Target
 ghost use Rattle.zerotrie_build.specs.passes.Walking.{item_ends, spare_len, with_len, left_open, IsOpened, Closing, IsTurn, IsNextWindow};
 
 use crate::items::IndexedItems;
-use crate::number::{number_len, width_of};
+use crate::number::number_len;
 use crate::windows::{
     Step, Window, byte_in, first_step, group_of, literals_end, rest_len, single_item,
 };
 use std::alloc::{AllocError, Allocator};
-use zerotrie_base::{ZeroTrieBuildError, ZeroTrieWithOptions};
+use zerotrie_base::{ZeroTrieBuildError, ZeroTrieWithOptions, least_width};
 
 /// The lengths that are kept for the second pass, in slots. A branch has a slot for each target, in
 /// the order of the edges, with the length of its text. If its table is hashed, as many follow,
@@ -48,7 +48,7 @@ struct OpenBranch {
 }
 
 impl OpenBranch {
-    /// The branch that is first in the window, after `len` bytes, whose slots are those from
+    /// Opens the branch that is first in the window, after `len` bytes, whose slots are those from
     /// `first` to below `end`.
     #[inline(always)]
     fn new(window: Window, len: usize, first: usize, end: usize) -> Self
@@ -71,7 +71,7 @@ impl OpenBranch {
         }
     }
 
-    /// The branch with its next target, whose items begin at `from`.
+    /// Returns the branch with its next target, whose items begin at `from`.
     #[inline(always)]
     fn after_target(self, from: usize) -> Self
         requires { self.next + 1 < 2 ^ 64 }
@@ -99,7 +99,7 @@ struct FirstPass<I, A: Allocator> {
     branches: Vec<OpenBranch, A>,
 }
 
-/// The sum, if it is below 2^64.
+/// Returns the sum, if it is below 2^64.
 fn checked_sum(a: usize, b: usize) -> Result<usize, ZeroTrieBuildError>
     ensures sum { IfOk result (λ c. c ≡ a + b) }
     ensures refused { IfErr result (λ e.
@@ -108,16 +108,16 @@ fn checked_sum(a: usize, b: usize) -> Result<usize, ZeroTrieBuildError>
     a.checked_add(b).ok_or(ZeroTrieBuildError::CapacityExceeded)
 }
 
-/// How many bytes a value node has.
+/// Returns how many bytes a value node has.
 fn value_len(value: usize) -> usize
     ensures { result ≡ length (spelled_as value_form value) }
 {
     number_len(16, value)
 }
 
-/// The end of a window of one item, as most are, and how many bytes its text has. `None` if there
-/// are more items, or if the rest of the key has spans that are counted one by one. If `ascii` is
-/// true, all keys are ASCII.
+/// Returns the end of a window of one item, as most are, and how many bytes its text has. `None` if
+/// there are more items, or if the rest of the key has spans that are counted one by one. If
+/// `ascii` is true, all keys are ASCII.
 #[inline(always)]
 fn after_leaf<'a, K: ZeroTrieWithOptions, I: IndexedItems<'a>>(
     items: I,
@@ -145,7 +145,8 @@ fn after_leaf<'a, K: ZeroTrieWithOptions, I: IndexedItems<'a>>(
     Ok(Some((end, checked_sum(len, value_len(value))?)))
 }
 
-/// The window after the values, literals and spans that are first, and how many bytes these have.
+/// Returns the window after the values, literals and spans that are first, and how many bytes these
+/// have.
 #[inline(always)]
 fn after_front<'a, K: ZeroTrieWithOptions, I: IndexedItems<'a>>(
     items: I,
@@ -209,7 +210,7 @@ fn after_nodes<'a, K: ZeroTrieWithOptions, I: IndexedItems<'a>>(
     }
 }
 
-/// The sum of these lengths.
+/// Returns the sum of these lengths.
 fn total(lens: &[usize]) -> Result<usize, ZeroTrieBuildError>
     ensures sum { IfOk result (λ n. n ≡ sum lens.now) }
     ensures refused { IfErr result (λ e.
@@ -222,14 +223,15 @@ fn total(lens: &[usize]) -> Result<usize, ZeroTrieBuildError>
     Ok(total)
 }
 
-/// Whether this length is beyond every offset of the kind.
+/// Returns whether this length is beyond every offset of the kind.
 fn is_too_wide<K: ZeroTrieWithOptions>(total: usize) -> bool
     ensures { IsTrue result ↔ (256 ^ (greatest_width K.kind + 1) ≤ total) }
 {
     !K::EXTENDED && total >= 1 << 32
 }
 
-/// How long a text is that has `len` bytes in front of a branch to targets of these lengths.
+/// Returns how long a text is that has `len` bytes in front of a branch to targets of these
+/// lengths.
 fn with_branch<K: ZeroTrieWithOptions>(
     len: usize,
     lens: &[usize],
@@ -253,22 +255,22 @@ fn with_branch<K: ZeroTrieWithOptions>(
 /// The fewest edges that a hashed table has.
 pub(crate) const HASHED_FROM: usize = 16;
 
-/// Whether a branch with this number of edges has a hashed table.
+/// Returns whether a branch with this number of edges has a hashed table.
 pub(crate) fn is_hashed<K: ZeroTrieWithOptions>(edges: usize) -> bool
     ensures { result ≡ is_hashed K.kind edges }
 {
     K::USE_PHF && edges >= HASHED_FROM
 }
 
-/// How many bytes a branch with this number of edges has in front of its targets, which together
-/// have `total` bytes.
+/// Returns how many bytes a branch with this number of edges has in front of its targets, which
+/// together have `total` bytes.
 fn branch_len<K: ZeroTrieWithOptions>(edges: usize, total: usize) -> usize
     requires some { 1 ≤ edges }
     requires few { edges ≤ 256 }
     ensures { (lengths : List ℕ) → length lengths ≡ edges → sum lengths ≡ total
         → result ≡ branch_size K.kind lengths }
 {
-    let width = width_of(total);
+    let width = least_width(total);
     let table = if is_hashed::<K>(edges) {
         2 * edges + 1
     } else {
@@ -278,7 +280,7 @@ fn branch_len<K: ZeroTrieWithOptions>(edges: usize, total: usize) -> usize
 }
 
 impl<'a, I: IndexedItems<'a>, A: Allocator + Copy> FirstPass<I, A> {
-    /// No branch. Most sets of keys have fewer targets than there is room for.
+    /// Starts with no branch. Most sets of keys have fewer targets than there is room for.
     fn new(alloc: A, items: I) -> Result<Self, AllocError>
         ensures items { IfOk result (λ m. m.items ≡ items) }
         ensures slots { IfOk result (λ m. m.slots.items ≡ []) }
@@ -315,7 +317,7 @@ impl<'a, I: IndexedItems<'a>, A: Allocator + Copy> FirstPass<I, A> {
         Ok(())
     }
 
-    /// The window of the target of the branch that is measured next.
+    /// Returns the window of the target of the branch that is measured next.
     fn target_of(&self, branch: OpenBranch) -> Window
         requires slot { branch.next < length self.now.slots.items }
         requires room { branch.depth + 1 < 2 ^ 64 }
@@ -374,7 +376,7 @@ impl<'a, I: IndexedItems<'a>, A: Allocator + Copy> FirstPass<I, A> {
         }
     }
 
-    /// The slots, when the whole is measured and so long.
+    /// Returns the slots, when the whole is measured and so long.
     fn measured(self, len: usize) -> Measured<A>
         ensures slots { result.slots.items ≡ self.slots.items }
         ensures len { result.len ≡ len }
@@ -418,7 +420,8 @@ impl<'a, I: IndexedItems<'a>, A: Allocator + Copy> FirstPass<I, A> {
     }
 }
 
-/// The lengths of the text of the items and of all targets. If `ascii` is true, all keys are ASCII.
+/// Returns the lengths of the text of the items and of all targets. If `ascii` is true, all keys
+/// are ASCII.
 pub(crate) fn measure_all<'a, K: ZeroTrieWithOptions, I: IndexedItems<'a>, A: Allocator + Copy>(
     alloc: A,
     items: I,

@@ -1,7 +1,6 @@
-//! The numbers that nodes begin with: their bytes, their lengths, and the widths of offsets.
+//! The numbers that nodes begin with: their bytes and their lengths.
 
 ghost use Rattle.std.specs.Prelude.{◌≡◌, ◌⊎◌, ◌<◌, ◌≤◌, length};
-ghost use Rattle.zerotrie_base.specs.Branches.{IsWidth};
 ghost use Rattle.zerotrie_base.specs.Numbers.{Form, Spells, spelled_as};
 ghost use Rattle.zerotrie_build.specs.passes.Writing.{IsLead, spelled_with_bits};
 
@@ -55,17 +54,4 @@ pub(crate) fn number_len(latent: usize, number: usize) -> usize
         len += 1;
     }
     len
-}
-
-/// Returns the least number w with `total` below 256^(w + 1).
-pub(crate) fn width_of(total: usize) -> usize
-    ensures { IsWidth total result }
-{
-    let mut width = 0;
-    let mut rest = total;
-    while rest >= 256 {
-        rest /= 256;
-        width += 1;
-    }
-    width
 }

@@ -41,7 +41,7 @@ pub struct Refusal {
 }
 
 impl Refusal {
-    /// The error, and the numbers of the keys that show it.
+    /// Returns the error with the numbers of the keys that show it.
     fn new(error: ZeroTrieBuildError, first: usize, second: usize) -> Self
         ensures { result ≡ record { error = error; first = first; second = second } }
     {
@@ -52,23 +52,13 @@ impl Refusal {
         }
     }
 
-    /// The error that two keys show, whichever is the first.
+    /// Returns the error that two keys show, whichever is the first.
     fn between(error: ZeroTrieBuildError, one: usize, other: usize) -> Self
         ensures error { result.error ≡ error }
         ensures first { result.first ≡ min one other }
         ensures second { result.second ≡ max one other }
     {
         Refusal::new(error, one.min(other), one.max(other))
-    }
-
-    /// What to do about it.
-    fn advice(&self) -> &'static str {
-        match &self.error {
-            ZeroTrieBuildError::Unsorted => "sort the keys by their bytes, each once",
-            ZeroTrieBuildError::DuplicateKey => "give each key once",
-            ZeroTrieBuildError::NonAsciiError => "take a kind of trie for keys of any bytes",
-            _ => "lower-case the keys first",
-        }
     }
 }
 
@@ -85,11 +75,11 @@ impl fmt::Display for Refusal {
             ZeroTrieBuildError::MixedCase => write!(f, "keys {a} and {b} {ALIKE}")?,
             other => return write!(f, "{other}"),
         }
-        write!(f, ": {}", self.advice())
+        write!(f, ": {}", self.error.advice())
     }
 }
 
-/// The first two neighbours that do not ascend.
+/// Returns the first two neighbours that do not ascend.
 fn unsorted<Key: TrieKey>(items: &[(Key, usize)]) -> Option<Refusal>
     ensures some { IfSome result (λ r. (r.error ≡ ZeroTrieBuildError.Unsorted)
         × AreShown simple_ascii (keyed Key.key items.now) r.error r.first r.second) }
@@ -99,7 +89,7 @@ fn unsorted<Key: TrieKey>(items: &[(Key, usize)]) -> Option<Refusal>
     Some(Refusal::new(ZeroTrieBuildError::Unsorted, first, first + 1))
 }
 
-/// The first key with a byte that is none of the kind's.
+/// Returns the first key with a byte that is none of the kind's.
 fn foreign<K: ZeroTrieWithOptions, Key: TrieKey>(items: &[(Key, usize)]) -> Option<Refusal>
     ensures some { IfSome result (λ r. (r.error ≡ ZeroTrieBuildError.NonAsciiError)
         × AreShown K.kind (keyed Key.key items.now) r.error r.first r.second) }
@@ -109,7 +99,7 @@ fn foreign<K: ZeroTrieWithOptions, Key: TrieKey>(items: &[(Key, usize)]) -> Opti
     Some(Refusal::new(ZeroTrieBuildError::NonAsciiError, first, first))
 }
 
-/// Whether the key is below all that begin with the front and then the byte.
+/// Returns whether the key is below all that begin with the front and then the byte.
 fn is_below(key: &[u8], front: &[u8], byte: u8) -> bool
     ensures { result ≡ is_lt (slice_cmp nat_cmp key.now (front.now ++ byte ∷ [])) }
 {
@@ -124,7 +114,7 @@ fn is_below(key: &[u8], front: &[u8], byte: u8) -> bool
     }
 }
 
-/// Whether the key begins with the front and then the byte.
+/// Returns whether the key begins with the front and then the byte.
 fn begins(key: &[u8], front: &[u8], byte: u8) -> bool
     ensures { IsTrue result ↔ BeginsThen front.now byte key.now }
 {
@@ -135,7 +125,7 @@ fn begins(key: &[u8], front: &[u8], byte: u8) -> bool
     common == front.len() && key[common] == byte
 }
 
-/// The number of a key that begins with the front and then the byte, of keys that ascend.
+/// Returns the number of a key that begins with the front and then the byte, of keys that ascend.
 fn key_after<Key: TrieKey>(items: &[(Key, usize)], front: &[u8], byte: u8) -> Option<usize>
     requires { Ascends (keyed Key.key items.now) }
     ensures some { IfSome result (λ i.
@@ -151,8 +141,8 @@ fn key_after<Key: TrieKey>(items: &[(Key, usize)], front: &[u8], byte: u8) -> Op
     }
 }
 
-/// The number of a key that continues with the other case of the letter by which the key parts from
-/// the next, of keys that ascend.
+/// Returns the number of a key that continues with the other case of the letter by which the key
+/// parts from the next, of keys that ascend.
 fn other_case<K: ZeroTrieWithOptions, Key: TrieKey>(
     items: &[(Key, usize)],
     key: &[u8],
@@ -175,9 +165,9 @@ fn other_case<K: ZeroTrieWithOptions, Key: TrieKey>(
     key_after(items, &key[..common], fold)
 }
 
-/// Two keys that differ in case, of keys that ascend. It does not allocate: if a key parts from the
-/// next by a letter in upper case, those that continue with this letter in lower case are side by
-/// side, and are searched for.
+/// Returns two keys that differ in case, of keys that ascend. Does not allocate: if a key parts
+/// from the next by a letter in upper case, those that continue with this letter in lower case are
+/// side by side, and are searched for.
 fn mixed<K: ZeroTrieWithOptions, Key: TrieKey>(items: &[(Key, usize)]) -> Option<Refusal>
     requires { Ascends (keyed Key.key items.now) }
     ensures some { IfSome result (λ r. (r.error ≡ ZeroTrieBuildError.MixedCase)
@@ -195,8 +185,8 @@ fn mixed<K: ZeroTrieWithOptions, Key: TrieKey>(items: &[(Key, usize)]) -> Option
     None
 }
 
-/// Which keys show why a build of a slice returns an error, as `try_from_sorted_slice` of the
-/// kind's tries, whose keys are to ascend strictly by their bytes. `None` if none do.
+/// Returns which keys show why a build of a slice returns an error, as `try_from_sorted_slice` of
+/// the kind's tries, whose keys are to ascend strictly by their bytes. `None` if none do.
 ///
 /// ```
 /// let items = [("Accept-CH", 1), ("Accept-Charset", 2), ("Host", 3)];
@@ -226,7 +216,7 @@ pub fn why_slice_refused<K: ZeroTrieWithOptions, Key: TrieKey>(
     mixed::<K, Key>(items)
 }
 
-/// The place of the first of the items whose key is that of the next.
+/// Returns the place of the first of the items whose key is that of the next.
 fn first_repeated(items: &[(&[u8], usize)]) -> Option<usize>
     ensures some { IfSome result (λ i. (i + 1 < length items.now)
         × (key_at (pairs_of items.now) i ≡ key_at (pairs_of items.now) (i + 1))) }
@@ -242,8 +232,8 @@ fn first_repeated(items: &[(&[u8], usize)]) -> Option<usize>
     None
 }
 
-/// Which keys show why a build of items in any order returns an error, by the items in the order of
-/// these prefixes, which is that of the folds of their keys.
+/// Returns which keys show why a build of items in any order returns an error, by the items in the
+/// order of these prefixes, which is that of the folds of their keys.
 fn why_sorted_refused<K: ZeroTrieWithOptions, Key: TrieKey>(
     items: &[(Key, usize)],
     prefixes: &[KeyPrefix],
@@ -268,7 +258,7 @@ fn why_sorted_refused<K: ZeroTrieWithOptions, Key: TrieKey>(
     Some(Refusal::between(error, prefixes[place].index, prefixes[place + 1].index))
 }
 
-/// Which keys show why a build of the pairs that an iterator gives returns an error, as
+/// Returns which keys show why a build of the pairs that an iterator gives returns an error, as
 /// `try_from_iter` of the kind's tries, which takes them in any order. `None` if none do.
 ///
 /// ```

@@ -1,10 +1,11 @@
 //! Lists of bytes that grow at their front.
 
-ghost use Rattle.std.specs.Prelude.{◌≡◌, ℕ, ◌<◌, ◌≤◌, List, [], ◌∷◌, ◌++◌, length, map, replicate, All, IfOk, OnOk, OnErr, slice_set, slice_index, bit_or, take, drop, ◌^◌};
+ghost use Rattle.std.specs.Prelude.{◌≡◌, ℕ, ◌+◌, ◌<◌, ◌≤◌, List, [], ◌∷◌, ◌++◌, length, map, replicate, All, IfOk, OnOk, OnErr, slice_set, slice_index, bit_or, take, drop, ◌^◌};
 ghost use Rattle.std.specs.List.{concat, range_with_len};
 ghost use Rattle.std.specs.List.Sorted.{IsPermutation};
 ghost use Rattle.zerotrie_base.specs.Branches.{total};
 ghost use Rattle.zerotrie_build.specs.Ranges.{range_at, laid_out};
+ghost use Rattle.zerotrie_build.specs.Zeros.{IsClear, set_to};
 
 use std::alloc::{AllocError, Global};
 use std::collections::VecDeque;
@@ -22,11 +23,11 @@ use std::collections::VecDeque;
 pub trait TrieBuilderStore: Sized {
     ghost list: { Self → List ℕ };
 
-    /// No bytes. It does not allocate.
+    /// Returns a store with no bytes. Does not allocate.
     fn atbs_new_empty(alloc: Global) -> Self
         ensures { list result ≡ [] };
 
-    /// How many bytes there are.
+    /// Returns how many bytes there are.
     fn atbs_len(&self) -> usize
         ensures { result ≡ length (list self.now) };
 
@@ -40,7 +41,7 @@ pub trait TrieBuilderStore: Sized {
         ensures ok { OnOk result (list self.new ≡ bytes.now ++ list self.old) }
         ensures err { OnErr result (list self.new ≡ list self.old) };
 
-    /// A copy of the bytes.
+    /// Returns a copy of the bytes.
     fn atbs_to_bytes(&self, alloc: Global) -> Result<Vec<u8>, AllocError>
         ensures { IfOk result (λ bytes. bytes.items ≡ list self.now) };
 
@@ -50,25 +51,23 @@ pub trait TrieBuilderStore: Sized {
         ensures { list self.new ≡ slice_set (list self.old) index
             (bit_or (slice_index (list self.old) index) bits) };
 
-    /// Takes in all of these bytes, if there are none so far. The list grows once, and then each
-    /// byte is set at its place, from the first to the last. A store that keeps its bytes in a
-    /// `Vec` can take this one as it is, as `VecDeque` does.
+    /// Sets these bytes from number `index` on, where all bytes are zeros, from the first to the
+    /// last. A store whose bytes lie together can copy them at once, as `VecDeque` does.
     ///
     /// ```
     /// let mut store: VecDeque<u8> = TrieBuilderStore::atbs_new_empty(rt.alloc());
-    /// store.atbs_fill(Vec::from_slice(rt.alloc(), b"abc")?)?;
-    /// assert_eq!(rt; store.atbs_to_bytes(rt.alloc())?.as_slice(), b"abc".as_slice());
+    /// store.atbs_prepend_n_zeros(4)?;
+    /// store.atbs_set_zeros(1, b"bc");
+    /// assert_eq!(rt; store.atbs_to_bytes(rt.alloc())?.as_slice(), b"\0bc\0".as_slice());
     /// ```
-    fn atbs_fill(&mut self, bytes: Vec<u8>) -> Result<(), AllocError>
-        requires { list self.old ≡ [] }
-        ensures ok { OnOk result (list self.new ≡ bytes.items) }
-        ensures err { OnErr result (list self.new ≡ list self.old) }
+    fn atbs_set_zeros(&mut self, index: usize, bytes: &[u8])
+        requires zeros { IsClear (list self.old) index }
+        requires fit { index + length bytes.now ≤ length (list self.old) }
+        ensures { list self.new ≡ set_to (list self.old) index bytes.now }
     {
-        self.atbs_prepend_n_zeros(bytes.len())?;
-        for index in 0..bytes.len() {
-            self.atbs_bitor_assign(index, bytes[index]);
+        for i in 0..bytes.len() {
+            self.atbs_bitor_assign(index + i, bytes[i]);
         }
-        Ok(())
     }
 
     /// Removes the first byte and returns it.
@@ -97,7 +96,7 @@ pub trait TrieBuilderStore: Sized {
         ensures err { OnErr result (list self.new ≡ list self.old) };
 }
 
-/// The sum of the lengths before the range of number `index`.
+/// Returns the sum of the lengths before the range of number `index`.
 fn start_of(lengths: &[usize], index: usize) -> usize
     requires at { index ≤ length lengths.now }
     requires fits { total lengths.now < 2 ^ 64 }
@@ -110,7 +109,7 @@ fn start_of(lengths: &[usize], index: usize) -> usize
     start
 }
 
-/// The bytes in the range of number `index`.
+/// Returns the bytes in the range of number `index`.
 #[tactic(auto, using(crate::proofs::Ranges::total_take_at))]
 fn range_of<'a>(bytes: &'a [u8], lengths: &[usize], index: usize) -> &'a [u8]
     requires at { index < length lengths.now }
@@ -121,7 +120,7 @@ fn range_of<'a>(bytes: &'a [u8], lengths: &[usize], index: usize) -> &'a [u8]
     &bytes[start..start + lengths[index]]
 }
 
-/// The ranges in this order.
+/// Returns the ranges in this order.
 fn ranges_in_order(
     alloc: Global,
     bytes: &[u8],
@@ -148,6 +147,17 @@ fn overwrite_front(store: &mut VecDeque<u8>, bytes: &[u8])
     for i in 0..bytes.len() {
         store[i] = bytes[i];
     }
+}
+
+/// So many bytes are set one after another at least as fast as by a copy.
+const SHORT: usize = 15;
+
+/// Puts bytes over those from number `index` on.
+fn copy_to(store: &mut VecDeque<u8>, index: usize, bytes: &[u8])
+    requires { index + length bytes.now ≤ length store.old.items }
+    ensures { store.new.items ≡ set_to store.old.items index bytes.now }
+{
+    store.make_contiguous()[index..index + bytes.len()].copy_from_slice(bytes);
 }
 
 impl TrieBuilderStore for VecDeque<u8> {
@@ -186,9 +196,15 @@ impl TrieBuilderStore for VecDeque<u8> {
         self[index] |= bits;
     }
 
-    fn atbs_fill(&mut self, bytes: Vec<u8>) -> Result<(), AllocError> {
-        *self = VecDeque::from_vec(bytes);
-        Ok(())
+    #[inline(always)]
+    fn atbs_set_zeros(&mut self, index: usize, bytes: &[u8]) {
+        if bytes.len() > SHORT {
+            copy_to(self, index, bytes);
+            return;
+        }
+        for i in 0..bytes.len() {
+            self.atbs_bitor_assign(index + i, bytes[i]);
+        }
     }
 
     fn atbs_pop_front(&mut self) -> u8 {

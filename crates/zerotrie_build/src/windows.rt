@@ -16,7 +16,7 @@ pub(crate) struct Window {
 }
 
 impl Window {
-    /// The window from an item to below another, at a depth.
+    /// Returns the window from an item to below another, at a depth.
     #[inline(always)]
     pub(crate) fn new(from: usize, to: usize, depth: usize) -> Self
         ensures { result ≡ record { from = from; to = to; depth = depth } }
@@ -40,7 +40,7 @@ pub(crate) enum Step {
     Branch,
 }
 
-/// The byte of the item's key at the depth, if there is one.
+/// Returns the byte of the item's key at the depth, if there is one.
 pub(crate) fn byte_at<'a, I: IndexedItems<'a>>(items: I, index: usize, depth: usize) -> Option<u8>
     requires { index < length (I.pairs items) }
     ensures is { result ≡ byte_of (I.pairs items) index depth }
@@ -52,7 +52,7 @@ pub(crate) fn byte_at<'a, I: IndexedItems<'a>>(items: I, index: usize, depth: us
     key.get(depth).copied()
 }
 
-/// How many bytes from 128 on two keys have in common in front.
+/// Returns how many bytes from 128 on two keys have in common in front.
 #[inline(always)]
 fn high_front_len(key: &[u8], other: &[u8]) -> usize
     ensures { result ≡ high_front key.now other.now }
@@ -65,7 +65,7 @@ fn high_front_len(key: &[u8], other: &[u8]) -> usize
     count
 }
 
-/// Where the bytes below 128 end that two keys have in common from a place on.
+/// Returns where the bytes below 128 end that two keys have in common from a place on.
 #[inline(always)]
 fn low_end(key: &[u8], other: &[u8], from: usize) -> usize
     requires key { from ≤ length key.now }
@@ -87,8 +87,8 @@ fn low_end(key: &[u8], other: &[u8], from: usize) -> usize
     end
 }
 
-/// The depth at which the literals end with which the text of the window begins. There is one at
-/// least.
+/// Returns the depth at which the literals end with which the text of the window begins. There is
+/// one at least.
 pub(crate) fn literals_end<'a, I: IndexedItems<'a>>(items: I, window: Window) -> usize
     requires some { window.from < window.to }
     requires items { window.to ≤ length (I.pairs items) }
@@ -106,8 +106,8 @@ pub(crate) fn literals_end<'a, I: IndexedItems<'a>>(items: I, window: Window) ->
     low_end(first, last, window.depth)
 }
 
-/// How many bytes from 128 on all keys of the window have in common in front, if they continue with
-/// this byte.
+/// Returns how many bytes from 128 on all keys of the window have in common in front, if they
+/// continue with this byte.
 fn span_len<'a, I: IndexedItems<'a>>(items: I, window: Window, byte: u8) -> usize
     requires some { window.from < window.to }
     requires items { window.to ≤ length (I.pairs items) }
@@ -127,8 +127,8 @@ fn span_len<'a, I: IndexedItems<'a>>(items: I, window: Window, byte: u8) -> usiz
     high_front_len(rest, &last[window.depth..])
 }
 
-/// What is first in the text of the window, if its first and its last key both continue with this
-/// byte.
+/// Returns what is first in the text of the window, if its first and its last key both continue
+/// with this byte.
 fn common_step<'a, K: ZeroTrieWithOptions, I: IndexedItems<'a>>(
     items: I,
     window: Window,
@@ -147,7 +147,7 @@ fn common_step<'a, K: ZeroTrieWithOptions, I: IndexedItems<'a>>(
     Step::Span(span_len(items, window, byte))
 }
 
-/// What is first in the text of the window.
+/// Returns what is first in the text of the window.
 pub(crate) fn first_step<'a, K: ZeroTrieWithOptions, I: IndexedItems<'a>>(
     items: I,
     window: Window,
@@ -179,7 +179,7 @@ pub(crate) struct Group {
     pub(crate) next: Option<u8>,
 }
 
-/// The byte at the depth of the item of this number, if it is in the window.
+/// Returns the byte at the depth of the item of this number, if it is in the window.
 pub(crate) fn byte_in<'a, I: IndexedItems<'a>>(items: I, window: Window, index: usize) -> Option<u8>
     requires { window.to ≤ length (I.pairs items) }
     ensures { index < window.to → result ≡ byte_of (I.pairs items) index window.depth }
@@ -190,8 +190,8 @@ pub(crate) fn byte_in<'a, I: IndexedItems<'a>>(items: I, window: Window, index: 
     byte_at(items, index, window.depth)
 }
 
-/// The first items that have one byte at the depth. It looks ever further ahead, and halves what is
-/// left once it was too far.
+/// Returns the first items that have one byte at the depth. Looks ever further ahead, and halves
+/// what is left once it was too far.
 pub(crate) fn group_of<'a, K: ZeroTrieWithOptions, I: IndexedItems<'a>>(
     items: I,
     window: Window,
@@ -223,7 +223,7 @@ pub(crate) fn group_of<'a, K: ZeroTrieWithOptions, I: IndexedItems<'a>>(
     Group { end: low, next }
 }
 
-/// The rest of the key and the value of the one item of a window, if there is but one.
+/// Returns the rest of the key and the value of the one item of a window, if there is but one.
 #[inline(always)]
 pub(crate) fn single_item<'a, I: IndexedItems<'a>>(
     items: I,
@@ -274,8 +274,8 @@ fn byte_len(high: bool, byte: u8) -> usize
     if byte < 128 || high { 1 } else { 2 }
 }
 
-/// How many bytes the literals and spans of a rest have that has itself less than 16, so that the
-/// length of each span has one.
+/// Returns how many bytes the literals and spans of a rest have that has itself less than 16, so
+/// that the length of each span has one.
 #[inline(always)]
 fn short_len(rest: &[u8]) -> usize
     requires { length rest.now < 16 }
@@ -290,8 +290,8 @@ fn short_len(rest: &[u8]) -> usize
     len
 }
 
-/// How many bytes the literals and spans of the rest of a key have, if its spans need not be
-/// counted one by one. If `ascii` is true, it has none.
+/// Returns how many bytes the literals and spans of the rest of a key have, if its spans need not
+/// be counted one by one. If `ascii` is true, it has none.
 #[inline(always)]
 pub(crate) fn rest_len<K: ZeroTrieWithOptions>(rest: &[u8], ascii: bool) -> Option<usize>
     requires { IsTrue ascii → All (λ b. b < 128) rest.now }

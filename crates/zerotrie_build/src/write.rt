@@ -1,6 +1,6 @@
 //! The second pass: the bytes of the text, from the first to the last.
 
-ghost use Rattle.std.specs.Prelude.{vec_capacity, ◌≡◌, ◌≢◌, ℕ, List, [], ◌∷◌, ◌+◌, ◌-◌, ◌*◌, ◌/◌, ◌%◌, ◌^◌, ◌<◌, ◌≤◌, ◌++◌, length, map, replicate, slice_index, slice_index_or, take, drop, reverse, All, IfOk, OnOk, IfErr, IfSome, IfNone, IsTrue};
+ghost use Rattle.std.specs.Prelude.{◌≡◌, ◌≢◌, ℕ, List, [], ◌∷◌, ◌+◌, ◌-◌, ◌*◌, ◌/◌, ◌%◌, ◌^◌, ◌<◌, ◌≤◌, ◌++◌, length, map, replicate, slice_index, slice_index_or, take, drop, reverse, All, IfOk, OnOk, IfErr, IfSome, IfNone, IsTrue};
 ghost use Rattle.zerotrie_base.specs.Maps.{map_of};
 ghost use Rattle.zerotrie_base.specs.Numbers.{value_form, span_form, SpellsAs, spelled_as};
 ghost use Rattle.zerotrie_base.specs.Branches.{total as total_of, ends, blocks, branch_front};
@@ -15,39 +15,53 @@ ghost use Rattle.zerotrie_build.specs.passes.Writing.{IsLead, spelled_with_bits,
 
 use crate::branch::{Layout, Next, PendingWindow, Position, WriteInput};
 use crate::items::IndexedItems;
-use crate::number::{BRANCH, SPAN, VALUE, number_bytes, width_of};
+use crate::number::{BRANCH, SPAN, VALUE, number_bytes};
+use crate::store::TrieBuilderStore;
 use crate::windows::{Step, Window, ascii_leaf, first_step, literals_end};
 use std::alloc::{AllocError, Allocator, Global};
-use zerotrie_base::{ZeroTrieBuildError, ZeroTrieWithOptions};
+use std::marker::Model;
+use zerotrie_base::{ZeroTrieBuildError, ZeroTrieWithOptions, least_width};
 
-/// A text that is written from its first byte on, in room for all of it.
+/// A text that is written from its first byte on into a store, which has its length from the start.
 #[derive(Drop)]
-pub(crate) struct Writing {
-    bytes: Vec<u8>,
-    /// How many bytes the text has in the end.
-    len: usize,
-    ghost room: { len ≤ vec_capacity bytes },
+pub(crate) struct Writing<S: TrieBuilderStore> {
+    store: S,
+    /// Where the next byte goes.
+    place: usize,
 }
 
-impl Writing {
+impl<S: TrieBuilderStore> Model for Writing<S> {
+    ghost use Rattle.zerotrie_build.specs.Zeros.{IsClear};
+    ghost use Rattle.zerotrie_build.specs.passes.Written.{Written, written_to};
+
+    ghost Value = { Written };
+
+    ghost view = { λ w. written_to (S.list w.store) w.place };
+
+    ghost invariant = { λ w. IsClear (S.list w.store) w.place };
+}
+
+impl<S: TrieBuilderStore + Drop> Writing<S> {
     ghost use Rattle.zerotrie_build.specs.passes.Writes.{HasRoom, FrontFits, Writes, FrontWritten, NodesWritten, WrittenTo};
 
-    /// Room for a text of this many bytes.
+    /// Returns a store of this many zeros, to be written from its front.
     pub(crate) fn new(alloc: Global, len: usize) -> Result<Self, AllocError>
-        ensures empty { IfOk result (λ w. w.bytes.items ≡ []) }
+        ensures empty { IfOk result (λ w. w.bytes ≡ []) }
         ensures len { IfOk result (λ w. w.len ≡ len) }
     {
-        let bytes = Vec::with_capacity(alloc, len)?;
-        Ok(Writing { bytes, len })
+        let mut store = S::atbs_new_empty(alloc);
+        store.atbs_prepend_n_zeros(len)?;
+        Ok(Writing { store, place: 0 })
     }
 
-    /// The bytes that are written.
-    pub(crate) fn into_bytes(self) -> Vec<u8>
-        ensures is { result.items ≡ self.bytes.items }
-        ensures short { length result.items < 2 ^ 64 }
+    /// Returns the store, if all of it is written.
+    pub(crate) fn into_store(self) -> S
+        requires { length self.bytes ≡ self.len }
+        ensures is { S.list result ≡ self.bytes }
+        ensures short { length (S.list result) < 2 ^ 64 }
     {
-        let Writing { bytes, len: _ } = self;
-        bytes
+        let Writing { store, place: _ } = self;
+        store
     }
 
     /// Writes a byte.
@@ -56,7 +70,8 @@ impl Writing {
         requires { HasRoom self.old 1 }
         ensures { Writes self.old self.new (byte ∷ []) }
     {
-        self.bytes.push_reserved(byte);
+        self.store.atbs_bitor_assign(self.place, byte);
+        self.place += 1;
     }
 
     /// Writes bytes.
@@ -65,8 +80,8 @@ impl Writing {
         requires { HasRoom self.old (length bytes.now) }
         ensures { Writes self.old self.new bytes.now }
     {
-        // As there is room, it does not allocate, so it cannot fail.
-        let _ = self.bytes.extend_from_slice(bytes);
+        self.store.atbs_set_zeros(self.place, bytes);
+        self.place += bytes.len();
     }
 
     /// Writes a number in the form whose shortest number of two bytes is `latent`, with these bits
@@ -215,7 +230,7 @@ impl Writing {
         ensures { Writes self.old self.new
             (branch_front table.now (target_lens lens.now numbers.now)) }
     {
-        let width = width_of(total(lens, numbers));
+        let width = least_width(total(lens, numbers));
         self.put_number(BRANCH, 32, 256 * width + numbers.len() % 256);
         self.put_all(table);
         self.put_offsets(lens, numbers, width + 1);
@@ -346,7 +361,7 @@ impl Writing {
     }
 }
 
-/// The sum of the lengths of the targets of these numbers.
+/// Returns the sum of the lengths of the targets of these numbers.
 fn total(lens: &[usize], numbers: &[usize]) -> usize
     requires within { All (λ i. i < length lens.now) numbers.now }
     requires small { total_of (target_lens lens.now numbers.now) < 2 ^ 64 }

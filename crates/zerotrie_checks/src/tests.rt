@@ -4,7 +4,6 @@ mod numbers;
 mod readers;
 mod refusal;
 mod tables;
-mod text_items;
 
 use std::alloc::Global;
 use std::fmt::Debug;

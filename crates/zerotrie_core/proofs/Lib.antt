@@ -6,6 +6,7 @@ mod ListingLemmas
 mod WalkLemmas
 mod CursorLemmas
 mod BorderLemmas
+mod TrieLemmas
 pub mod ListedLemmas
 mod WellFormedLemmas
 mod FaultLemmas

@@ -24,6 +24,8 @@ pub mod Machine
 pub mod Places
 pub mod reader
 pub mod Listings
+pub mod Parts
+pub mod Values
 pub mod Skips
 pub mod Nodewise
 pub mod listing

@@ -24,12 +24,11 @@ use crate::well_formed::branches::{has_table, has_width};
 use crate::well_formed::known_table::KnownTable;
 use crate::well_formed::{Expected, is_run};
 use std::alloc::{AllocError, Allocator};
-use std::error::Error;
-use std::fmt;
 use zerotrie_base::ZeroTrieWithOptions;
 
 /// The rule of the format that fails.
-#[derive(Clone, Copy, PartialEq, Eq, Debug)]
+#[derive(Clone, Copy, PartialEq, Eq, Debug, thiserror::Error)]
+#[error("{}", self.text())]
 pub enum FaultCause {
     /// No node of the kind begins with these bytes.
     ///
@@ -86,14 +85,6 @@ impl FaultCause {
         }
     }
 }
-
-impl fmt::Display for FaultCause {
-    fn fmt<W: fmt::Write>(&self, f: &mut fmt::Formatter<W>) -> fmt::Result {
-        f.write_str(self.text())
-    }
-}
-
-impl Error for FaultCause {}
 
 /// The first fault of malformed bytes.
 #[derive(Clone, Copy, PartialEq, Eq, Debug, thiserror::Error)]

@@ -1,4 +1,5 @@
-//! What reads tries in place: look-ups, listings, cursors and validation. Also the plain encoder.
+//! What reads tries in place: look-ups, listings, cursors and validation, over plain bytes, and for
+//! every type of trie by the trait `Trie`. Also the plain encoder.
 #![tactic(auto)]
 
 mod borders;
@@ -20,6 +21,8 @@ mod reader;
 mod simd;
 mod span_cursor;
 mod stream;
+mod trie;
+mod values;
 mod walk;
 mod well_formed;
 
@@ -30,13 +33,15 @@ pub use cursor_place::CursorPlace;
 pub use faults::{Fault, FaultCause, first_fault};
 pub use listing::{ListError, ZeroTrieIterator};
 pub use look_ups::LookUps;
-pub use node::Node;
+pub use node::{Node, first_node};
 pub use pair_stream::PairStream;
 pub use plain::plain_encode;
 pub use prefixes::{CommonPrefixes, longest_prefix};
 pub use reader::{get, get_counted};
 pub use span_cursor::{ByteProbeResult, SpanCursor};
 pub use stream::{Reached, ZeroTrieStream};
+pub use trie::{Trie, TrieRef};
+pub use values::{ZeroTrieValues, first_key_of};
 pub use walk::{Nodes, Part, Visit, count_pairs};
 pub use well_formed::{is_well_formed, is_well_formed_counted};
 pub use zerotrie_base::{

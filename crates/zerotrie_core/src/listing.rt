@@ -18,11 +18,21 @@ use zerotrie_base::ZeroTrieWithOptions;
 #[derive(Clone, PartialEq, Eq, Debug, Drop, Error)]
 pub enum ListError {
     /// An allocation failed.
-    #[error("out of memory")]
+    #[error("OutOfMemory")]
     OutOfMemory,
     /// A key is not a string. This happens only if the bytes are valid in no kind over ASCII keys.
-    #[error("a key is not text: the bytes are no trie, so ask is_well_formed of them first")]
+    #[error("NotText")]
     NotText,
+}
+
+impl ListError {
+    /// Returns what the error means, and what to do about it.
+    pub fn advice(&self) -> &'static str {
+        match self {
+            ListError::OutOfMemory => "out of memory: free memory, and iterate again",
+            ListError::NotText => "a key is not text: validate the bytes, which are no trie",
+        }
+    }
 }
 
 impl From<AllocError> for ListError {

@@ -189,7 +189,7 @@ fn span_at(lead: u8, rest: &[u8]) -> Option<(&[u8], &[u8])>
 
 /// Returns the first node of the bytes, or `None` if they begin with no node of the kind.
 #[inline(always)]
-pub(crate) fn first_node<K: ZeroTrieWithOptions>(bytes: &[u8]) -> Option<Node<'_>>
+pub fn first_node<K: ZeroTrieWithOptions>(bytes: &[u8]) -> Option<Node<'_>>
     ensures node { node_of K.kind bytes.now ≡ option_map shape result }
     ensures begins { IfSome result (λ node. Begins K.kind bytes.now (shape node)) }
 {

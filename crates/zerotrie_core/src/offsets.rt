@@ -2,7 +2,6 @@
 //! next bytes, and so on.
 
 ghost use Rattle.std.specs.Prelude.{◌≡◌, ◌+◌, ◌-◌, ◌*◌, ◌<◌, ◌≤◌, length, take, drop};
-ghost use Rattle.zerotrie_base.specs.Branches.{IsWidth};
 ghost use Rattle.zerotrie_base.specs.Nodes.{number_from, targets_behind, begin_of, end_of};
 
 /// Reads an offset of up to three bytes, the highest first, one from each block.
@@ -97,12 +96,4 @@ pub(crate) fn end_at(behind: &[u8], edges: usize, width: usize, index: usize) ->
         return targets.len();
     }
     offset_at(table, index, edges - 1, width)
-}
-
-/// Returns the least width field of a branch whose targets have this many bytes in total.
-pub(crate) fn least_width(total: usize) -> usize
-    ensures width { IsWidth total result }
-    ensures small { result ≤ 7 }
-{
-    total.max(1).ilog2() as usize / 8
 }

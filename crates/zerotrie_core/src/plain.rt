@@ -1,7 +1,6 @@
 //! The plain encoder of SimpleAscii tries.
 
-ghost use Rattle.std.specs.Prelude.{◌≡◌, ◌+◌, ◌^◌, ◌<◌, ◌≤◌, ◌↔◌, ◌++◌, length, take, drop, nat_lt, IsTrue, IfOk, OnOk, IfErr};
-ghost use Rattle.std.specs.List.{list_all};
+ghost use Rattle.std.specs.Prelude.{◌≡◌, ◌+◌, ◌^◌, ◌<◌, ◌≤◌, ◌↔◌, ◌++◌, length, take, drop, IsTrue, IfOk, OnOk, IfErr};
 ghost use Rattle.std.specs.Ordering.{nat_cmp};
 ghost use Rattle.std.specs.Cmp.Lexicographic.{slice_cmp};
 ghost use Rattle.std.specs.declared.cmp.Ordering.TheVariants.{Less};
@@ -15,7 +14,7 @@ mod nodes;
 
 use nodes::{push_branch, push_value};
 use std::alloc::Global;
-use zerotrie_base::ZeroTrieBuildError;
+use zerotrie_base::{ZeroTrieBuildError, are_ascii};
 
 fn is_ascending(items: &[(&[u8], usize)]) -> bool
     ensures { IsTrue result ↔ Ascends (pairs_of items.now) }
@@ -28,12 +27,6 @@ fn is_ascending(items: &[(&[u8], usize)]) -> bool
         }
     }
     true
-}
-
-fn are_ascii(items: &[(&[u8], usize)]) -> bool
-    ensures { result ≡ list_all (λ e. list_all (λ b. nat_lt b 128) e.0.now) items.now }
-{
-    items.iter().all(|(key, _)| key.is_ascii())
 }
 
 /// Returns the length of the key. From this call a proof learns that it is below 2^64.

@@ -50,9 +50,9 @@ impl<K: HashedKind> HashedTrie<K, Vec<u8>> {
     /// list of exactly two, a key and a number. A key is a string or a list of bytes. Numbers are
     /// whole, from 0 to 2^64 - 1.
     ///
-    /// The error is `Shape` if the value is neither an object nor a list, `NotPair` with the first
-    /// member or item that is no pair if there is one, `Build` with the reason if `try_from_iter`
-    /// of the pairs returns an error, and `OutOfMemory` if an allocation fails.
+    /// The error is `Shape` if the value is anything else, and `why_json_refused` then returns what
+    /// is no pair in it. It is `Build` with the reason if `try_from_iter` of the pairs returns an
+    /// error, and `OutOfMemory` if an allocation fails.
     pub fn try_from_json_value(alloc: Global, value: &Value) -> Result<Self, JsonError>
         ensures { IsBuildOfJson (λ _. K.kind) (λ trie. trie.store.items) (view value.now) result }
     {

@@ -5,7 +5,6 @@ mod bytes;
 mod cursor;
 mod json;
 mod list;
-mod prefixes;
 mod trie;
 
 pub use cursor::{HashedCursor, ZeroTrieExtendedCapacityCursor, ZeroTriePerfectHashCursor};

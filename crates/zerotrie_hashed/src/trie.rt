@@ -2,7 +2,6 @@
 
 ghost use Rattle.std.specs.Prelude.{◌≡◌, ◌==◌, ◌↔◌, IsTrue, IfOk, length, []};
 ghost use Rattle.std.specs.FinMap.{empty};
-ghost use Rattle.std.specs.Option.{is_some};
 ghost use Rattle.std.specs.Cmp.{on_equiv, on_per};
 ghost use Rattle.std.specs.Cmp as cmp;
 ghost use Rattle.std.specs.Cmp.Lexicographic.{pointwise, nat_list_eq_equiv};
@@ -24,8 +23,8 @@ use zerotrie_any::{
 };
 use zerotrie_build::{ByteSliceWithIndices, encoded_len};
 use zerotrie_core::{
-    ConvertStore, Ext, Hash, TrieKey, TrieStore, ZeroTrieBuildError, ZeroTrieBuilderOptions,
-    ZeroTrieWithOptions, get, laws,
+    ConvertStore, Ext, Hash, Trie, TrieKey, TrieKind, TrieStore, ZeroTrieBuildError,
+    ZeroTrieBuilderOptions, ZeroTrieWithOptions, get, laws,
 };
 
 /// A map from keys of any bytes to numbers, as a sequence of bytes that is read in place. `K` is
@@ -37,7 +36,7 @@ use zerotrie_core::{
 /// returns the result for their map. On malformed bytes results are unspecified; no call panics or
 /// reads outside them. A branch of 16 edges or more has a perfect hash, whose parameters are found
 /// by a search, so a map may have several encodings: tries with equal bytes have equal maps, but
-/// tries of one map may differ in their bytes.
+/// tries of one map may differ in their bytes. The trait `Trie` has further calls.
 #[derive(Drop)]
 pub struct HashedTrie<K, S> {
     /// The bytes of the trie.
@@ -153,8 +152,30 @@ impl<K, S: TrieStore> HashedTrie<K, S> {
     }
 }
 
+impl<K: HashedKind, S: TrieStore> Trie for HashedTrie<K, S> {
+    ghost kind = { λ _. K.kind };
+
+    ghost bytes = { λ t. S.stored t.store };
+
+    #[inline(always)]
+    fn trie_kind(&self) -> TrieKind {
+        ZeroTrieBuilderOptions::of::<K>().kind()
+    }
+
+    #[inline(always)]
+    fn as_bytes(&self) -> &[u8] {
+        self.store.bytes()
+    }
+}
+
 impl<K: HashedKind, S: TrieStore> HashedTrie<K, S> {
     /// Returns the value of the key, or `None` if the trie does not have it. Does not allocate.
+    ///
+    /// ```
+    /// let trie = ZeroTriePerfectHash::from_bytes(b"abc\x85");
+    /// assert_eq!(rt; trie.get(b"abc"), Some(5));
+    /// assert_eq!(rt; trie.get(b"ab"), None);
+    /// ```
     ///
     /// On malformed bytes the result is unspecified; it never panics or reads outside them.
     ///
@@ -167,35 +188,6 @@ impl<K: HashedKind, S: TrieStore> HashedTrie<K, S> {
             → result ≡ look K.kind m key.now }
     {
         get::<K>(self.as_bytes(), key)
-    }
-
-    /// Returns the value of a `str` key, as `get` does for its bytes.
-    ///
-    /// ```
-    /// let trie = ZeroTriePerfectHash::from_bytes(b"abc\x85");
-    /// assert_eq!(rt; trie.get_str("abc"), Some(5));
-    /// ```
-    #[inline(always)]
-    pub fn get_str(&self, key: &str) -> Option<usize>
-        ensures { (m : Map) → Means K.kind (S.stored self.now.store) m
-            → result ≡ look K.kind m key.now }
-    {
-        self.get(key.as_bytes())
-    }
-
-    /// Returns whether the trie has the key. Does not allocate.
-    ///
-    /// ```
-    /// let trie = ZeroTriePerfectHash::from_bytes(b"abc\x85");
-    /// assert!(rt; trie.contains_key(b"abc"));
-    /// assert!(rt; !trie.contains_key(b"ab"));
-    /// ```
-    #[inline(always)]
-    pub fn contains_key(&self, key: &[u8]) -> bool
-        ensures { (m : Map) → Means K.kind (S.stored self.now.store) m
-            → result ≡ is_some (look K.kind m key.now) }
-    {
-        self.get(key).is_some()
     }
 }
 

@@ -14,7 +14,7 @@ version = 1
 
 -- the number of an index in the header, which no kind has
 abbrev pub index_number : ℕ
-index_number = 16
+index_number = 24
 
 -- the header without its checksum: the magic, the version, the number of what is sealed, its length
 abbrev pub front_as : ℕ → List ℕ → List ℕ

@@ -9,5 +9,5 @@ mod tables;
 mod writing;
 
 pub use checksum::crc32c;
-pub use reading::{SealError, Sealed, open, open_index};
+pub use reading::{SealError, Sealed, begins_sealed, open, open_index};
 pub use writing::{HEADER_LEN, INDEX_NUMBER, header_of, seal, seal_index};

@@ -45,6 +45,21 @@ pub struct Sealed<'a> {
     pub trie: &'a [u8],
 }
 
+/// Returns whether a file begins as each sealed one does, with the magic of its 8 bytes.
+///
+/// ```
+/// let file = seal(rt.alloc(), TrieKind::Simple, b"a\x85")?;
+/// assert!(rt; begins_sealed(file.as_slice()));
+/// assert!(rt; !begins_sealed(b"\x00a\x85"));
+/// ```
+///
+/// No tagged trie does, as the first byte of the magic is the number of no kind.
+pub fn begins_sealed(file: &[u8]) -> bool
+    ensures { IsTrue result ↔ (take 8 file.now ≡ magic) }
+{
+    file.starts_with(&MAGIC)
+}
+
 /// Returns the number in the header of a file, if it begins as a sealed one and its version is
 /// known.
 fn number_in(file: &[u8]) -> Result<u16, SealError>
@@ -54,7 +69,7 @@ fn number_in(file: &[u8]) -> Result<u16, SealError>
     ensures number { IfOk result (λ number. kind_in file.now ≡ number) }
     ensures fault { IfErr result (IsFileFault file.now) }
 {
-    if !file.starts_with(&MAGIC) {
+    if !begins_sealed(file) {
         return Err(SealError::NoMagic);
     }
     if file.len() < HEADER_LEN {

@@ -22,7 +22,7 @@ pub(crate) const FRONT_LEN: usize = 20;
 pub const HEADER_LEN: usize = 24;
 
 /// The number in the header of the sealed file of an index. No kind of trie has it.
-pub const INDEX_NUMBER: u16 = 16;
+pub const INDEX_NUMBER: u16 = 24;
 
 /// Returns the header of these bytes, with this number and this checksum.
 fn header_with(number: u16, bytes: &[u8], checksum: u32) -> [u8; HEADER_LEN]
@@ -90,7 +90,7 @@ pub fn seal(alloc: Global, kind: TrieKind, trie: &[u8]) -> Result<Vec<u8>, Alloc
 ///
 /// ```
 /// let file = seal_index(rt.alloc(), b"an index")?;
-/// assert_eq!(rt; file[8..12], b"\x01\x00\x10\x00"[..]);
+/// assert_eq!(rt; file[8..12], b"\x01\x00\x18\x00"[..]);
 /// ```
 ///
 /// The bytes need not be an index. An error means that an allocation failed.

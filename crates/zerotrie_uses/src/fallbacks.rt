@@ -7,7 +7,7 @@ ghost use Rattle.zerotrie.specs.Kind.{simple_ascii, perfect_hash};
 ghost use Rattle.zerotrie.specs.Maps.{Map};
 ghost use Rattle.zerotrie.specs.Texts.{Means};
 
-use zerotrie::{TrieStore, ZeroTriePerfectHash, ZeroTrieSimpleAscii};
+use zerotrie::{Trie, TrieStore, ZeroTriePerfectHash, ZeroTrieSimpleAscii};
 
 /// Returns the value that a locale falls back to: that of the longest key that is the name itself, or
 /// the part of it before one of its hyphens. So `en-Latn-GB` falls back to `en-Latn`, and `fil-PH` to

@@ -37,12 +37,12 @@ abbrev pub or_else : Option ℕ → Option ℕ → Option ℕ
 or_else None other = other
 or_else (Some v) other = Some v
 
--- what stands beside the matrix under a suffix that is not empty
+-- what is beside the matrix under a suffix that is not empty
 abbrev pub beside_matrix : Parts → Map → List ℕ → List ℕ → Option ℕ
 beside_matrix t primary prefix [] = None
 beside_matrix t primary prefix (b ∷ suffix) = look simple_ascii primary (prefix ++ (t.delimiter ∷ (b ∷ suffix)))
 
--- what a dense row answers: a value that stands beside the matrix, else the matrix's
+-- the result of a dense row: a value beside the matrix, else the matrix's
 abbrev pub in_row : Parts → Map → Map → List ℕ → List ℕ → ℕ → Option ℕ
 in_row t primary columns prefix suffix row = or_else (beside_matrix t primary prefix suffix)
     (in_matrix t row (look simple_ascii primary (prefix ++ (t.delimiter ∷ []))) (look simple_ascii columns suffix))

@@ -31,7 +31,7 @@ laid_rows rows = map (laid (length (suffixes rows))) rows
 abbrev pub dense_rows : List LaidRow → List LaidRow
 dense_rows rows = filter (λ row. row.dense) rows
 
--- the pairs of a row that stand beside the matrix: all of a sparse row, and of a dense one those outside its window
+-- the pairs of a row that are beside the matrix: all of a sparse row, and of a dense one those outside its window
 abbrev pub beside : LaidRow → Pairs
 beside row = if row.dense then without row.offset row.pairs else row.pairs
 
@@ -43,7 +43,7 @@ numbers n rows = placed n (map (λ row. row.prefix) (dense_rows rows))
 abbrev pub row_offsets : ℕ → List LaidRow → Pairs
 row_offsets delimiter rows = map (λ row. (row.prefix ++ delimiter ∷ [], row.offset)) (dense_rows rows)
 
--- and prefix, delimiter and suffix of each value that stands beside the matrix.
+-- and prefix, delimiter and suffix of each value beside the matrix.
 abbrev pub under : List ℕ → ℕ → Pairs → Pairs
 under prefix delimiter pairs = map {B = List ℕ × ℕ} (λ e. (prefix ++ (delimiter ∷ e.0), e.1)) pairs
 

@@ -32,6 +32,6 @@ record_of t = to_le_bytes w16 t.suffix_count ++ (t.delimiter ∷ to_le_bytes w64
 abbrev pub number_at : List ℕ → ℕ → ℕ
 number_at bytes place = from_le_bytes w64 (drop place bytes)
 
--- how many bytes a record asks for, by what stands in its first 27
+-- how many bytes a record asks for, by its first 27
 abbrev pub asked : List ℕ → ℕ
 asked bytes = 27 + number_at bytes 3 + number_at bytes 11 + 2 * number_at bytes 19

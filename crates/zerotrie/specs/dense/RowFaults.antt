@@ -1,4 +1,4 @@
--- Why texts and rows are refused, one by one: words for private functions.
+-- Why texts and rows are errors, one by one: words for private functions.
 use Rattle.std.specs.Prelude.{◌≡◌, ℕ, ◌^◌, ◌<◌, ◌≤◌, ◌⊎◌, List, [], ◌∷◌, Any, Contains}
 use Rattle.zerotrie_core.specs.Kind.{simple_ascii}
 use Rattle.zerotrie_core.specs.Maps.{Pairs, Ascends, map_of}
@@ -36,7 +36,7 @@ abbrev pub AllInRange : Rows → Type 0
 AllInRange [] = Unit {0}
 AllInRange (row ∷ rows) = AreInRange row.1 × AllInRange rows
 
--- why a text is refused, or one of some
+-- why a text is an error, or one of some
 abbrev pub IsTextFault : ℕ → List ℕ → ZeroTrieBuildError → Type 0
 IsTextFault delimiter text e = ((e ≡ NonAsciiError) × Any (λ b. 128 ≤ b) text) ⊎ ((e ≡ IllegalDelimiter) × Contains text delimiter)
 
@@ -52,6 +52,6 @@ abbrev pub SomeWideWindow : Rows → Type 0
 SomeWideWindow [] = ⊥
 SomeWideWindow (row ∷ rows) = HasWideWindow row.1 ⊎ SomeWideWindow rows
 
--- why a row is refused
+-- why a row is an error
 abbrev pub IsRowRefusal : Pairs → ZeroTrieBuildError → Type 0
 IsRowRefusal row e = (e ≡ OutOfMemory) ⊎ ((e ≡ CapacityExceeded) × HasWideWindow row)

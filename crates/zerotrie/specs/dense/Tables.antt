@@ -1,4 +1,4 @@
--- What the parts of a built table are, and why a build is refused.
+-- What the parts of a built table are, and why a build fails.
 use Rattle.std.specs.Prelude.{◌≡◌, ℕ, ◌<◌, ◌≤◌, ◌^◌, ◌⊎◌, length, All, Any, Contains}
 use Rattle.zerotrie_core.specs.Kind.{simple_ascii}
 use Rattle.zerotrie_core.specs.Maps.{map_of}

@@ -15,11 +15,21 @@ use zerotrie_ascii::ZeroTrieSimpleAscii;
 #[derive(Clone, PartialEq, Eq, Debug, Drop, Error)]
 pub enum RecordError {
     /// There are fewer bytes than the first ones say.
-    #[error("the record is cut: give all of its bytes")]
+    #[error("Truncated")]
     Truncated,
     /// There are more bytes than the first ones say.
-    #[error("bytes follow the record: give its bytes alone")]
+    #[error("TrailingBytes")]
     TrailingBytes,
+}
+
+impl RecordError {
+    /// Returns what the error means, and what to do about it.
+    pub fn advice(&self) -> &'static str {
+        match self {
+            RecordError::Truncated => "the record is cut: give all of its bytes",
+            RecordError::TrailingBytes => "bytes follow the record: give its bytes alone",
+        }
+    }
 }
 
 /// Returns the little-endian number in the eight bytes at `place`.

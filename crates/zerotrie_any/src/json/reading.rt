@@ -1,15 +1,14 @@
 //! Reads the pairs in a JSON value, and builds the trie of them.
 
 ghost use Rattle.std.specs.Prelude.{◌≡◌, IfOk};
-ghost use Rattle.serde_json.specs.Data.{array, object};
 ghost use Rattle.serde_json.specs.View.{view, items_view, members_view};
 ghost use Rattle.zerotrie_core.specs.Items.{keyed};
 ghost use Rattle.zerotrie_any.specs.Json.{number_in, byte_in, key_in, pair_in, pairs_in, each, member_pairs};
-ghost use Rattle.zerotrie_any.specs.JsonCalls.{IsReading, IsReadingOfAll, IsFirstNoPair, HasPairs, IsBuildOfJson};
+ghost use Rattle.zerotrie_any.specs.JsonCalls.{IsReading, HasPairs, IsBuildOfJson};
 ghost use Rattle.zerotrie_any.specs.Auto.{auto_kind};
 ghost use Rattle.zerotrie_any.specs.Flavors.{flavor_kind};
 
-use crate::json::{JsonError, NoPair};
+use crate::json::JsonError;
 use crate::routes::bytes_from_iter;
 use crate::trie::ZeroTrie;
 use serde_json::{Map, Value};
@@ -20,14 +19,14 @@ use zerotrie_core::ZeroTrieWithOptions;
 type OwnedPairs = Vec<(Vec<u8>, usize)>;
 
 /// Returns the whole number in a value.
-fn number_of(value: &Value) -> Option<usize>
+pub(crate) fn number_of(value: &Value) -> Option<usize>
     ensures { result ≡ number_in (view value.now) }
 {
     value.as_u64().map(|number| number as usize)
 }
 
 /// Returns the byte in a value.
-fn byte_of(value: &Value) -> Option<u8>
+pub(crate) fn byte_of(value: &Value) -> Option<u8>
     ensures { result ≡ byte_in (view value.now) }
 {
     let number = value.as_u64()?;
@@ -84,32 +83,25 @@ fn pair_of(alloc: Global, value: &Value) -> Result<(Vec<u8>, usize), JsonError>
 
 /// Returns the pairs in the items of a list.
 fn pairs_of_list(alloc: Global, items: &[Value]) -> Result<OwnedPairs, JsonError>
-    ensures { IsReadingOfAll (λ pairs. keyed (λ key. key.items) pairs.items)
-        (each pair_in (items_view items.now))
-        (IsFirstNoPair (array (items_view items.now))) result }
+    ensures { IsReading (λ pairs. keyed (λ key. key.items) pairs.items)
+        (each pair_in (items_view items.now)) result }
 {
     let mut pairs = Vec::new(alloc);
-    for (index, item) in items.iter().enumerate() {
-        match pair_of(alloc, item) {
-            Ok(pair) => pairs.push(pair)?,
-            Err(JsonError::Shape) => return Err(JsonError::NotPair(NoPair::Item(index + 1))),
-            Err(_) => return Err(JsonError::OutOfMemory),
-        }
+    for item in items {
+        pairs.push(pair_of(alloc, item)?)?;
     }
     Ok(pairs)
 }
 
 /// Returns the pairs in the members of an object, in the order of their keys.
 fn pairs_of_members(alloc: Global, members: &Map<String, Value>) -> Result<OwnedPairs, JsonError>
-    ensures { IsReadingOfAll (λ pairs. keyed (λ key. key.items) pairs.items)
-        (member_pairs (members_view members.now.entries))
-        (IsFirstNoPair (object (members_view members.now.entries))) result }
+    ensures { IsReading (λ pairs. keyed (λ key. key.items) pairs.items)
+        (member_pairs (members_view members.now.entries)) result }
 {
     let mut pairs = Vec::new(alloc);
     for (key, value) in members {
         let Some(number) = number_of(value) else {
-            let name = String::from_str(alloc, key.as_str())?;
-            return Err(JsonError::NotPair(NoPair::Member(name)));
+            return Err(JsonError::Shape);
         };
         pairs.push((Vec::from_slice(alloc, key.as_bytes())?, number))?;
     }
@@ -118,8 +110,8 @@ fn pairs_of_members(alloc: Global, members: &Map<String, Value>) -> Result<Owned
 
 /// Returns the pairs in a value.
 fn pairs_of(alloc: Global, value: &Value) -> Result<OwnedPairs, JsonError>
-    ensures { IsReadingOfAll (λ pairs. keyed (λ key. key.items) pairs.items)
-        (pairs_in (view value.now)) (IsFirstNoPair (view value.now)) result }
+    ensures { IsReading (λ pairs. keyed (λ key. key.items) pairs.items) (pairs_in (view value.now))
+        result }
 {
     if let Some(members) = value.as_object() {
         return pairs_of_members(alloc, members);
@@ -136,6 +128,11 @@ fn pairs_of(alloc: Global, value: &Value) -> Result<OwnedPairs, JsonError>
 /// let value = Value::from_str(rt.alloc(), r#"{"ad":22,"adef":33}"#)?;
 /// let bytes = bytes_from_json::<Simple>(rt.alloc(), &value)?;
 /// assert_eq!(rt; bytes.as_slice(), b"ad\x90\x06ef\x90\x11".as_slice());
+///
+/// for text in [r#"{"a":1.5}"#, r#"{"a":-1}"#, r#"[["a"]]"#, "1"] {
+///     let value = Value::from_str(rt.alloc(), text)?;
+///     assert!(rt; bytes_from_json::<Simple>(rt.alloc(), &value) == Err(JsonError::Shape));
+/// }
 /// ```
 ///
 /// The value is an object from keys to numbers, or a list of pairs in any order. A pair is a list
@@ -146,9 +143,9 @@ fn pairs_of(alloc: Global, value: &Value) -> Result<OwnedPairs, JsonError>
 /// An object has each key once: of a key that is written twice, `Value::from_str` keeps the last
 /// number. A list may have a key twice, which is the error `DuplicateKey` of its build.
 ///
-/// The error is `Shape` if the value is neither an object nor a list, `NotPair` with the first
-/// member or item that is no pair if there is one, `Build` with the reason if `bytes_from_iter` of
-/// the pairs returns an error, and `OutOfMemory` if an allocation fails.
+/// The error is `Shape` if the value is anything else, and `why_json_refused` then returns what is
+/// no pair in it. It is `Build` with the reason if `bytes_from_iter` of the pairs returns an error,
+/// and `OutOfMemory` if an allocation fails.
 pub fn bytes_from_json<K: ZeroTrieWithOptions>(
     alloc: Global,
     value: &Value,
@@ -173,9 +170,9 @@ impl ZeroTrie<Vec<u8>> {
     /// list of exactly two, a key and a number. A key is a string or a list of bytes. Numbers are
     /// whole, from 0 to 2^64 - 1.
     ///
-    /// The error is `Shape` if the value is neither an object nor a list, `NotPair` with the first
-    /// member or item that is no pair if there is one, `Build` with the reason if `try_from_iter`
-    /// of the pairs returns an error, and `OutOfMemory` if an allocation fails.
+    /// The error is `Shape` if the value is anything else, and `why_json_refused` then returns what
+    /// is no pair in it. It is `Build` with the reason if `try_from_iter` of the pairs returns an
+    /// error, and `OutOfMemory` if an allocation fails.
     pub fn try_from_json_value(alloc: Global, value: &Value) -> Result<Self, JsonError>
         ensures kind { IfOk result (λ trie.
             HasPairs (view value.now) (λ pairs. flavor_kind trie.flavor ≡ auto_kind pairs)) }

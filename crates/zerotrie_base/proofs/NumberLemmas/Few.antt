@@ -1,5 +1,5 @@
 -- Numbers of two to four bytes.
-use Rattle.std.proofs.Common.{◌≡◌, ℕ, ◌+◌, ◌*◌, ◌/◌, ◌%◌, ◌^◌, ◌<◌, ◌≤◌, List, ◌∷◌, refl, ◌∙◌, arith, Some, ltb}
+use Rattle.std.proofs.Common.{◌≡◌, ℕ, ◌+◌, ◌*◌, ◌/◌, ◌%◌, ◌^◌, ◌<◌, ◌≤◌, List, ◌∷◌, refl, ◌∙◌, Some}
 use Rattle.std.proofs.lemmas.Bool.{lt-ltb, le-ltb}
 use Rattle.zerotrie_base.specs.Numbers.{BeginsWith}
 use Rattle.zerotrie_base.proofs.NumberLemmas.Numbers.{read_from, read_on, is_read, IsBytes}

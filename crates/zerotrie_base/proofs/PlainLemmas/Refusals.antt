@@ -43,10 +43,10 @@ ascii_key [] e = tt
 ascii_key (b ∷ key) e = let r = both_true (nat_lt b 128) (list_all (λ b. nat_lt b 128) key) e in (below_128 b r.0, ascii_key key r.1)
 
 -- the test of all bytes of all keys
-pub ascii_keys : (items : Items) → list_all (λ e. list_all (λ b. nat_lt b 128) e.0.now) items ≡ true → AsciiKeys (pairs_from 0 items)
+pub ascii_keys : (items : Items) → list_all (λ e. list_all (λ b. nat_lt b 128) e.0) (pairs_of items) ≡ true → AsciiKeys (pairs_from 0 items)
 ascii_keys [] e = tt
 ascii_keys (x ∷ items) e =
-    let r = both_true (list_all (λ b. nat_lt b 128) x.0.now) (list_all (λ e. list_all (λ b. nat_lt b 128) e.0.now) items) e in
+    let r = both_true (list_all (λ b. nat_lt b 128) x.0.now) (list_all (λ e. list_all (λ b. nat_lt b 128) e.0) (pairs_of items)) e in
     (ascii_key x.0.now r.0, ascii_keys items r.1)
 
 some_byte : (key : List ℕ) → list_all (λ b. nat_lt b 128) key ≡ false → Any (λ b. 128 ≤ b) key
@@ -57,10 +57,10 @@ some_byte (b ∷ key) e =
       | inr later ↦ let r = some_byte key later in (suc r.0, r.1, (let h = r.2 in omega arith), r.3, r.4)
     ]
 
-pub some_high : (items : Items) → list_all (λ e. list_all (λ b. nat_lt b 128) e.0.now) items ≡ false → Any (λ e. Any (λ b. 128 ≤ b) e.0) (pairs_of items)
+pub some_high : (items : Items) → list_all (λ e. list_all (λ b. nat_lt b 128) e.0) (pairs_of items) ≡ false → Any (λ e. Any (λ b. 128 ≤ b) e.0) (pairs_of items)
 some_high [] e = absurd (cc)
 some_high (x ∷ items) e =
-    elim (one_false (list_all (λ b. nat_lt b 128) x.0.now) (list_all (λ e. list_all (λ b. nat_lt b 128) e.0.now) items) e) [
+    elim (one_false (list_all (λ b. nat_lt b 128) x.0.now) (list_all (λ e. list_all (λ b. nat_lt b 128) e.0) (pairs_of items)) e) [
       | inl high ↦ (0, (x.0.now, x.1), omega arith, refl, some_byte x.0.now high)
       | inr later ↦ let r = some_high items later in (suc r.0, r.1, (let h = r.2 in omega arith), r.3, r.4)
     ]

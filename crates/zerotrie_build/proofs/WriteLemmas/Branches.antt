@@ -24,7 +24,7 @@ use Rattle.zerotrie_build.specs.declared.branch.Next.TheVariants.{Go}
 use Rattle.zerotrie_build.specs.declared.windows.Step.TheVariants.{End, Branch}
 use Rattle.zerotrie_build.specs.passes.Windows.{window, edge_of, step_of}
 use Rattle.zerotrie_build.specs.passes.Measured.{NoneFirst, HasFirstTargets, TargetWindows, sizes_of}
-use Rattle.zerotrie_build.specs.declared.write.Writing.{Writing}
+use Rattle.zerotrie_build.specs.passes.Written.{Written}
 use Rattle.zerotrie_build.specs.passes.Writes.{HasRoom, Writes, NodesWritten}
 use Rattle.zerotrie_build.specs.passes.Writing.{no_window, window_at, edge_no, target_lens, position_at, text_of, placed_next, next_of, Listed, Texts, IsLayout, HasSlots, IsPending}
 use Rattle.zerotrie_build.proofs.OrderLemmas.Sorting.{ordered_distinct}
@@ -129,7 +129,7 @@ front_size {kind = kind} {all = all} {cs = cs} {table = table} {numbers = number
     (omega arith, omega arith)
 
 -- what of the slots leads to the targets of a branch
-pub branch_slots : {kind : Kind} {all : Pairs} {slots : List ℕ} {slot end : ℕ} {w : Window} {old new : Writing} {rest : Window} (k : Opened kind all slots slot end w)
+pub branch_slots : {kind : Kind} {all : Pairs} {slots : List ℕ} {slot end : ℕ} {w : Window} {old new : Written} {rest : Window} (k : Opened kind all slots slot end w)
     → Going kind all w k.known.bytes k.known.behind old new rest → step_of kind all rest ≡ Branch → HasSlots kind all rest slots slot
 branch_slots {kind = kind} {all = all} k g e =
     let o = k.known in
@@ -149,7 +149,7 @@ branch_slots {kind = kind} {all = all} k g e =
     }
 
 -- what stands after the values, literals and spans of a window is known, and so are the targets
-branch_same : {kind : Kind} {all : Pairs} {slots : List ℕ} {slot end last : ℕ} {w : Window} {old new : Writing} {rest : Window} (k : Opened kind all slots slot end w) (other : Opened kind all slots slot last w)
+branch_same : {kind : Kind} {all : Pairs} {slots : List ℕ} {slot end last : ℕ} {w : Window} {old new : Written} {rest : Window} (k : Opened kind all slots slot end w) (other : Opened kind all slots slot last w)
     → Going kind all w k.known.bytes k.known.behind old new rest → NoneFirst kind all rest → (other.known.behind ≡ rest) × (other.cs ≡ k.cs)
 branch_same {all = all} k other g stops =
     let s = on_stop g.run stops in
@@ -157,19 +157,19 @@ branch_same {all = all} k other g stops =
     (same ∙ s.0, parts_same all k.known.behind other.cs k.cs (subst (λ x. TargetWindows all x other.cs) same other.known.parts) k.known.parts)
 
 -- the windows that were found are those of the targets
-pub branch_windows : {kind : Kind} {all : Pairs} {slots : List ℕ} {slot end : ℕ} {w : Window} {old new : Writing} {rest : Window} (k : Opened kind all slots slot end w)
+pub branch_windows : {kind : Kind} {all : Pairs} {slots : List ℕ} {slot end : ℕ} {w : Window} {old new : Written} {rest : Window} (k : Opened kind all slots slot end w)
     → Going kind all w k.known.bytes k.known.behind old new rest → step_of kind all rest ≡ Branch → {table numbers : List ℕ} (ws : List Window) → TargetWindows all rest ws
     → IsLayout kind (edge_no all ws) (length ws) table numbers → (ws ≡ k.cs) × IsLayout kind (edge_no all k.cs) (length k.cs) table numbers
 branch_windows {kind = kind} {all = all} {rest = rest} k g e {table = table} {numbers = numbers} ws parts laid =
     let same = parts_same all rest ws k.cs parts (subst (λ x. TargetWindows all x k.cs) (on_stop g.run (inr e)).0 k.known.parts) in
     (same, subst (λ x. IsLayout kind (edge_no all x) (length x) table numbers) same laid)
 
-branch_two : {kind : Kind} {all : Pairs} {slots : List ℕ} {slot end : ℕ} {w : Window} {old new : Writing} {rest : Window} (k : Opened kind all slots slot end w)
+branch_two : {kind : Kind} {all : Pairs} {slots : List ℕ} {slot end : ℕ} {w : Window} {old new : Written} {rest : Window} (k : Opened kind all slots slot end w)
     → Going kind all w k.known.bytes k.known.behind old new rest → step_of kind all rest ≡ Branch → 2 ≤ length k.cs
 branch_two {kind = kind} {all = all} k g e = let s = on_stop g.run (inr e) in (k.known.some (ap (step_of kind all) s.0 ∙ e)).0
 
 -- the slots with the lengths of the targets
-pub branch_lens : {kind : Kind} {all : Pairs} {slots : List ℕ} {slot end : ℕ} {w : Window} {old new : Writing} {rest : Window} {table numbers : List ℕ} (k : Opened kind all slots slot end w)
+pub branch_lens : {kind : Kind} {all : Pairs} {slots : List ℕ} {slot end : ℕ} {w : Window} {old new : Written} {rest : Window} {table numbers : List ℕ} (k : Opened kind all slots slot end w)
     → Going kind all w k.known.bytes k.known.behind old new rest → step_of kind all rest ≡ Branch → IsLayout kind (edge_no all k.cs) (length k.cs) table numbers
     → (n : ℕ) → n ≡ length numbers → (take (slot + n - slot) (drop slot slots) ≡ sizes_of kind all k.cs) × (slot + n ≤ length slots)
 branch_lens {kind = kind} {all = all} {slots = slots} {slot = slot} k g e laid n count =
@@ -202,7 +202,7 @@ branch_small {kind = kind} o laid ls ns ls_is ns_is =
 front_same : (table tb lens ls : List ℕ) → tb ≡ table → ls ≡ lens → branch_front tb ls ≡ branch_front table lens
 front_same table tb lens ls a b = ap (λ x. branch_front x ls) a ∙ ap (branch_front table) b
 
-pub branch_room : {kind : Kind} {all : Pairs} {slots : List ℕ} {slot end : ℕ} {w : Window} {old new : Writing} {rest : Window} {table numbers : List ℕ} (k : Opened kind all slots slot end w)
+pub branch_room : {kind : Kind} {all : Pairs} {slots : List ℕ} {slot end : ℕ} {w : Window} {old new : Written} {rest : Window} {table numbers : List ℕ} (k : Opened kind all slots slot end w)
     → Going kind all w k.known.bytes k.known.behind old new rest → step_of kind all rest ≡ Branch → HasRoom old (size_of kind (window all w))
     → IsLayout kind (edge_no all k.cs) (length k.cs) table numbers → (tb ls ns : List ℕ) → tb ≡ table → ls ≡ sizes_of kind all k.cs → ns ≡ numbers → HasRoom new (length (branch_front tb (target_lens ls ns)))
 branch_room {kind = kind} {all = all} {table = table} {numbers = numbers} k g e room laid tb ls ns tb_is ls_is ns_is =
@@ -249,7 +249,7 @@ leads_at {kind = kind} {all = all} {slots = slots} {slot = slot} {end = end} {w 
     same (next_leads k numbers)
 
 -- a branch was written
-pub front_branch : {kind : Kind} {all : Pairs} {slots : List ℕ} {slot end : ℕ} {w : Window} {old new : Writing} {rest : Window} {table numbers : List ℕ} (newer : Writing) (k : Opened kind all slots slot end w)
+pub front_branch : {kind : Kind} {all : Pairs} {slots : List ℕ} {slot end : ℕ} {w : Window} {old new : Written} {rest : Window} {table numbers : List ℕ} (newer : Written) (k : Opened kind all slots slot end w)
     → Going kind all w k.known.bytes k.known.behind old new rest → step_of kind all rest ≡ Branch → IsLayout kind (edge_no all k.cs) (length k.cs) table numbers
     → (tb ls ns : List ℕ) → tb ≡ table → ls ≡ sizes_of kind all k.cs → ns ≡ numbers → Writes new newer (branch_front tb (target_lens ls ns))
     → (next : List Next) → next ≡ next_of kind slots slot k.cs numbers → NodesWritten kind all slots slot w next old newer
@@ -284,7 +284,7 @@ front_branch {kind = kind} {all = all} {slots = slots} {slot = slot} {end = end}
     }
 
 -- no branch was there to write
-pub front_end : {kind : Kind} {all : Pairs} {slots : List ℕ} {slot end : ℕ} {w : Window} {old new : Writing} {rest : Window} (k : Opened kind all slots slot end w)
+pub front_end : {kind : Kind} {all : Pairs} {slots : List ℕ} {slot end : ℕ} {w : Window} {old new : Written} {rest : Window} (k : Opened kind all slots slot end w)
     → Going kind all w k.known.bytes k.known.behind old new rest → step_of kind all rest ≡ End → (next : List Next) → next ≡ [] → NodesWritten kind all slots slot w next old new
 front_end {kind = kind} {all = all} {slots = slots} {slot = slot} {w = w} {old = old} {new = new} {rest = rest} k g e next none =
     let s = on_stop g.run (inl e) in
@@ -312,7 +312,7 @@ hashed_order perfect_hash n es h = refl
 hashed_order extended_capacity n es h = refl
 
 -- why a branch was refused
-pub branch_refused : {kind : Kind} {all : Pairs} {slots : List ℕ} {slot end : ℕ} {w : Window} {old new : Writing} {rest : Window} (err : ZeroTrieBuildError) (k : Opened kind all slots slot end w)
+pub branch_refused : {kind : Kind} {all : Pairs} {slots : List ℕ} {slot end : ℕ} {w : Window} {old new : Written} {rest : Window} (err : ZeroTrieBuildError) (k : Opened kind all slots slot end w)
     → Ordered kind all → Going kind all w k.known.bytes k.known.behind old new rest → step_of kind all rest ≡ Branch
     → (err ≢ OutOfMemory → (err ≡ CouldNotSolvePerfectHash) × ((cs : List Window) → TargetWindows all rest cs → AreCrooked kind (map (edge_of all) cs)))
     → err ≢ OutOfMemory → (err ≡ CouldNotSolvePerfectHash) × Cause kind all err

@@ -12,7 +12,7 @@ use Rattle.zerotrie_build.specs.declared.windows.Step.TheVariants.{Value, Litera
 use Rattle.zerotrie_build.specs.passes.Windows.{cut, window, item_no, high_front, step_of, HasLiteralAt, IsAsciiLeaf}
 use Rattle.zerotrie_build.specs.passes.Measured.{Passes, NoneFirst, HasFirstTargets}
 use Rattle.zerotrie_build.specs.passes.Measured.Passes.{here, value as run_value, literal as run_literal, span as run_span}
-use Rattle.zerotrie_build.specs.declared.write.Writing.{Writing}
+use Rattle.zerotrie_build.specs.passes.Written.{Written}
 use Rattle.zerotrie_build.specs.passes.Writes.{HasRoom, FrontFits, Writes, FrontWritten}
 use Rattle.zerotrie_build.specs.passes.Writing.{Listed}
 use Rattle.zerotrie_build.proofs.WriteLemmas.Puts.{puts_nothing, puts_then, grows}
@@ -22,7 +22,7 @@ use Rattle.zerotrie_build.proofs.WindowLemmas.Spans.{step_literal, step_span}
 use Rattle.zerotrie_build.proofs.WriteLemmas.Listed.{listed_value, listed_literal, listed_span}
 
 -- The window was written as far as the rest, in front of what is after its values, literals and spans.
-pub record Going (kind : Kind) (all : Pairs) (w : Window) (bytes : ℕ) (behind : Window) (old new : Writing) (rest : Window) : Type 0 where
+pub record Going (kind : Kind) (all : Pairs) (w : Window) (bytes : ℕ) (behind : Window) (old new : Written) (rest : Window) : Type 0 where
   pub done : List ℕ
   pub left : ℕ
   pub puts : Writes old new done
@@ -32,7 +32,7 @@ pub record Going (kind : Kind) (all : Pairs) (w : Window) (bytes : ℕ) (behind 
   pub ordered : Ordered kind (window all rest)
   pub to_is : rest.to ≡ w.to
 
-pub going_start : {kind : Kind} {all : Pairs} {w : Window} {cs : List Window} (start : Writing) (o : HasFirstTargets kind all w cs) → Going kind all w o.bytes o.behind start start w
+pub going_start : {kind : Kind} {all : Pairs} {w : Window} {cs : List Window} (start : Written) (o : HasFirstTargets kind all w cs) → Going kind all w o.bytes o.behind start start w
 going_start start o = record {
   done = [];
   left = o.bytes;
@@ -108,7 +108,7 @@ exact_none kind [] h = refl
 exact_none kind (([], v) ∷ pairs) h = absurd (cc)
 exact_none kind ((b ∷ key, v) ∷ pairs) h = exact_none kind pairs h
 
-pub going_value : {kind : Kind} {all : Pairs} {w behind : Window} {bytes : ℕ} {old new : Writing} {rest : Window} (newer : Writing) (v : ℕ)
+pub going_value : {kind : Kind} {all : Pairs} {w behind : Window} {bytes : ℕ} {old new : Written} {rest : Window} (newer : Written) (v : ℕ)
     → Going kind all w bytes behind old new rest → NoneFirst kind all behind → w.to ≤ length all → step_of kind all rest ≡ Value v → SpellsAs value_form v (spelled_as value_form v)
     → Writes new newer (spelled_as value_form v) → Going kind all w bytes behind old newer (record rest { from = rest.from + 1 })
 going_value {kind = kind} {all = all} {w = w} {rest = rest} newer v g stops within e s p =
@@ -177,7 +177,7 @@ literals (suc n) kind all w behind left run stops inside within keys up low =
           (subst (Listed kind _) (sym st.is) (listed_literal kind b (take n (drop (w.depth + 1) key) ++ t) (window all next) st.low (cut_some all w.from w.to (w.depth + 1) inside within) rest));
     }
 
-pub going_literals : {kind : Kind} {all : Pairs} {w behind : Window} {bytes : ℕ} {old new : Writing} {rest : Window} (newer : Writing) (b end : ℕ)
+pub going_literals : {kind : Kind} {all : Pairs} {w behind : Window} {bytes : ℕ} {old new : Written} {rest : Window} (newer : Written) (b end : ℕ)
     → Going kind all w bytes behind old new rest → NoneFirst kind all behind → w.to ≤ length all → AreKeys kind all → step_of kind all rest ≡ Literal b
     → rest.depth < end → ((i : ℕ) → rest.depth ≤ i → i < end → HasLiteralAt all rest i) → end ≤ length (item_no all rest.from).0
     → Writes new newer (take (end - rest.depth) (drop rest.depth (item_no all rest.from).0)) → Going kind all w bytes behind old newer (record rest { depth = end })
@@ -202,7 +202,7 @@ going_literals {kind = kind} {all = all} {w = w} {behind = behind} {rest = rest}
     }
 
 -- all that is left of a window
-pub going_lone : {kind : Kind} {all : Pairs} {w behind : Window} {bytes : ℕ} {old new : Writing} {rest : Window} (newer : Writing) (key : List ℕ) (v : ℕ)
+pub going_lone : {kind : Kind} {all : Pairs} {w behind : Window} {bytes : ℕ} {old new : Written} {rest : Window} (newer : Written) (key : List ℕ) (v : ℕ)
     → Going kind all w bytes behind old new rest → NoneFirst kind all behind → w.to ≤ length all → AreKeys kind all → IsAsciiLeaf all rest key v → SpellsAs value_form v (spelled_as value_form v)
     → Writes new newer (key ++ spelled_as value_form v) → Going kind all w bytes behind old newer (record { from = rest.from + 1; to = rest.to; depth = rest.depth + length key })
 going_lone {kind = kind} {all = all} {w = w} {behind = behind} {rest = rest} newer key v g stops within keys lone s p =
@@ -234,7 +234,7 @@ going_lone {kind = kind} {all = all} {w = w} {behind = behind} {rest = rest} new
 run_some : (n : ℕ) (run : List ℕ) → 0 < n → length run ≡ n → run ≡ [] → ⊥
 run_some n run some long none = let l = ap length none in omega arith
 
-pub going_span : {kind : Kind} {all : Pairs} {w behind : Window} {bytes : ℕ} {old new : Writing} {rest : Window} (newer : Writing) (n : ℕ)
+pub going_span : {kind : Kind} {all : Pairs} {w behind : Window} {bytes : ℕ} {old new : Written} {rest : Window} (newer : Written) (n : ℕ)
     → Going kind all w bytes behind old new rest → NoneFirst kind all behind → w.to ≤ length all → AreKeys kind all → step_of kind all rest ≡ Span n → SpellsAs span_form n (spelled_as span_form n)
     → Writes new newer (spelled_as span_form n ++ take n (drop rest.depth (item_no all rest.from).0)) → Going kind all w bytes behind old newer (record rest { depth = rest.depth + n })
 going_span {kind = kind} {all = all} {w = w} {rest = rest} newer n g stops within keys e s p =
@@ -266,7 +266,7 @@ pub no_more : (n : ℕ) → n ≤ n
 no_more n = omega arith
 
 -- room for all of a window is room for its front
-pub front_fits : {kind : Kind} {all : Pairs} {w : Window} (start : Writing) → w.to ≤ length all → AreKeys kind all → Ordered kind (window all w) → HasRoom start (size_of kind (window all w)) → FrontFits kind all w start
+pub front_fits : {kind : Kind} {all : Pairs} {w : Window} (start : Written) → w.to ≤ length all → AreKeys kind all → Ordered kind (window all w) → HasRoom start (size_of kind (window all w)) → FrontFits kind all w start
 front_fits start within keys up room = λ rest n run stops. let size = (along run within keys up).size in let r = room in omega arith
 
 -- the bytes of what is left fit
@@ -276,11 +276,11 @@ open_bytes o = elim o.stops [
   | inr e ↦ let n = o.some e in let l = n.1 in omega arith
 ]
 
-pub room_value : {kind : Kind} {all : Pairs} {w behind : Window} {bytes : ℕ} {old new : Writing} {rest : Window} (v len : ℕ)
+pub room_value : {kind : Kind} {all : Pairs} {w behind : Window} {bytes : ℕ} {old new : Written} {rest : Window} (v len : ℕ)
     → Going kind all w bytes behind old new rest → NoneFirst kind all behind → step_of kind all rest ≡ Value v → bytes ≤ len → HasRoom old len → HasRoom new (length (spelled_as value_form v))
 room_value v len g s e b r = let o = on_value g.run s v e in let a = grows g.puts in let l = g.puts.same in let z = g.sized in let i = o.is in omega arith
 
-pub room_literals : {kind : Kind} {all : Pairs} {w behind : Window} {bytes : ℕ} {old new : Writing} {rest : Window} (b end len : ℕ)
+pub room_literals : {kind : Kind} {all : Pairs} {w behind : Window} {bytes : ℕ} {old new : Written} {rest : Window} (b end len : ℕ)
     → Going kind all w bytes behind old new rest → NoneFirst kind all behind → w.to ≤ length all → AreKeys kind all → step_of kind all rest ≡ Literal b
     → rest.depth < end → ((i : ℕ) → rest.depth ≤ i → i < end → HasLiteralAt all rest i) → bytes ≤ len → HasRoom old len → HasRoom new (end - rest.depth)
 room_literals {kind = kind} {all = all} {behind = behind} {rest = rest} b end len g stops within keys e past low h r =
@@ -289,7 +289,7 @@ room_literals {kind = kind} {all = all} {behind = behind} {rest = rest} b end le
     let o = literals (end - rest.depth) kind all rest behind g.left g.run stops inside (omega arith) keys g.ordered (λ i from below. low i from (omega arith)) in
     let a = grows g.puts in let l = g.puts.same in let z = g.sized in let i = o.is in omega arith
 
-pub room_lone : {kind : Kind} {all : Pairs} {w behind : Window} {bytes : ℕ} {old new : Writing} {rest : Window} (key : List ℕ) (v len : ℕ)
+pub room_lone : {kind : Kind} {all : Pairs} {w behind : Window} {bytes : ℕ} {old new : Written} {rest : Window} (key : List ℕ) (v len : ℕ)
     → Going kind all w bytes behind old new rest → NoneFirst kind all behind → w.to ≤ length all → AreKeys kind all → IsAsciiLeaf all rest key v → bytes ≤ len → HasRoom old len
     → HasRoom new (length key + length (spelled_as value_form v))
 room_lone {kind = kind} {all = all} {behind = behind} {rest = rest} key v len g stops within keys lone h r =
@@ -299,12 +299,12 @@ room_lone {kind = kind} {all = all} {behind = behind} {rest = rest} key v len g 
     let last = on_value o.run stops v (lone_value kind all rest key v lone) in
     let a = grows g.puts in let l = g.puts.same in let z = g.sized in let i = o.is in let j = last.is in omega arith
 
-pub room_span : {kind : Kind} {all : Pairs} {w behind : Window} {bytes : ℕ} {old new : Writing} {rest : Window} (n len : ℕ)
+pub room_span : {kind : Kind} {all : Pairs} {w behind : Window} {bytes : ℕ} {old new : Written} {rest : Window} (n len : ℕ)
     → Going kind all w bytes behind old new rest → NoneFirst kind all behind → step_of kind all rest ≡ Span n → bytes ≤ len → HasRoom old len → HasRoom new (length (spelled_as span_form n) + n)
 room_span n len g s e h r = let o = on_span g.run s n e in let a = grows g.puts in let l = g.puts.same in let z = g.sized in let i = o.is in omega arith
 
 -- the bytes of a span are in the first key
-pub span_within : {kind : Kind} {all : Pairs} {w behind : Window} {bytes : ℕ} {old new : Writing} {rest : Window} (n : ℕ)
+pub span_within : {kind : Kind} {all : Pairs} {w behind : Window} {bytes : ℕ} {old new : Written} {rest : Window} (n : ℕ)
     → Going kind all w bytes behind old new rest → w.to ≤ length all → AreKeys kind all → step_of kind all rest ≡ Span n
     → (rest.from < length all) × (rest.depth + n ≤ length (item_no all rest.from).0)
 span_within {kind = kind} {all = all} {rest = rest} n g within keys e =
@@ -321,7 +321,7 @@ span_within {kind = kind} {all = all} {rest = rest} n g within keys e =
     ]
 
 -- nothing is left of the values, literals and spans
-pub front_written : {kind : Kind} {all : Pairs} {w : Window} {cs : List Window} {old new : Writing} {rest : Window} (o : HasFirstTargets kind all w cs)
+pub front_written : {kind : Kind} {all : Pairs} {w : Window} {cs : List Window} {old new : Written} {rest : Window} (o : HasFirstTargets kind all w cs)
     → Going kind all w o.bytes o.behind old new rest → NoneFirst kind all rest → FrontWritten kind all w rest old new
 front_written {kind = kind} {all = all} {w = w} {rest = rest} o g stops =
     let s = on_stop g.run stops in
@@ -334,7 +334,7 @@ front_written {kind = kind} {all = all} {w = w} {rest = rest} o g stops =
     }
 
 -- all of them are written
-pub going_front : {kind : Kind} {all : Pairs} {w : Window} {cs : List Window} {old new : Writing} {rest : Window} (o : HasFirstTargets kind all w cs) → AreKeys kind all
+pub going_front : {kind : Kind} {all : Pairs} {w : Window} {cs : List Window} {old new : Written} {rest : Window} (o : HasFirstTargets kind all w cs) → AreKeys kind all
     → FrontWritten kind all w rest old new → NoneFirst kind all rest → Going kind all w o.bytes o.behind old new rest
 going_front {kind = kind} {all = all} {rest = rest} o keys f stops =
     let same : o.behind ≡ rest = behind_same o.run o.stops f.run stops in

@@ -8,25 +8,25 @@ use Rattle.std.specs.List.{range_with_len}
 use Rattle.zerotrie_base.specs.Numbers.{Form, Spells, extender, spelled_as, branch_form}
 use Rattle.zerotrie_base.specs.Branches.{IsWidth, blocks, total, ends, branch_front}
 use Rattle.zerotrie_base.proofs.CallerLemmas.{below_metadata, spelling_is, Completes, length-blocks, width_is}
-use Rattle.zerotrie_build.specs.declared.write.Writing.{Writing}
+use Rattle.zerotrie_build.specs.passes.Written.{Written}
 use Rattle.zerotrie_build.specs.passes.Writes.{Writes}
 use Rattle.zerotrie_base.specs.plain.Encoding.{with_bits}
 use Rattle.zerotrie_build.specs.passes.Writing.{target_lens}
 
-pub puts_nothing : (start : Writing) → Writes start start []
-puts_nothing start = record { is = sym (append-nil start.bytes.items); same = refl }
+pub puts_nothing : (start : Written) → Writes start start []
+puts_nothing start = record { is = sym (append-nil start.bytes); same = refl }
 
-pub puts_then : {old new newer : Writing} {xs ys : List ℕ} → Writes old new xs → Writes new newer ys → Writes old newer (xs ++ ys)
+pub puts_then : {old new newer : Written} {xs ys : List ℕ} → Writes old new xs → Writes new newer ys → Writes old newer (xs ++ ys)
 puts_then {old = old} {xs = xs} {ys = ys} p q = record {
-  is = q.is ∙ ap (λ t. t ++ ys) p.is ∙ append_assoc old.bytes.items xs ys;
+  is = q.is ∙ ap (λ t. t ++ ys) p.is ∙ append_assoc old.bytes xs ys;
   same = q.same ∙ p.same;
 }
 
-pub puts_same : {old new : Writing} {xs ys : List ℕ} → xs ≡ ys → Writes old new xs → Writes old new ys
+pub puts_same : {old new : Written} {xs ys : List ℕ} → xs ≡ ys → Writes old new xs → Writes old new ys
 puts_same {old = old} {new = new} e = subst (Writes old new) e
 
-pub grows : {old new : Writing} {xs : List ℕ} → Writes old new xs → length new.bytes.items ≡ length old.bytes.items + length xs
-grows {old = old} {xs = xs} p = ap length p.is ∙ length-append old.bytes.items xs
+pub grows : {old new : Written} {xs : List ℕ} → Writes old new xs → length new.bytes ≡ length old.bytes + length xs
+grows {old = old} {xs = xs} p = ap length p.is ∙ length-append old.bytes xs
 
 -- a number with bits of metadata is its spelling
 pub number_is : (form : Form) (v bits : ℕ) (bytes : List ℕ) → (form.latent_value ≡ 16) ⊎ (form.latent_value ≡ 32) → bits ≡ form.metadata * (2 * form.latent_value)

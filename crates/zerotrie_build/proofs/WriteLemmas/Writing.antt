@@ -16,7 +16,7 @@ use Rattle.zerotrie_build.specs.declared.branch.Next.{Next}
 use Rattle.zerotrie_build.specs.declared.branch.Next.TheVariants.{Go, Text}
 use Rattle.zerotrie_build.specs.passes.Windows.{window}
 use Rattle.zerotrie_build.specs.passes.Measured.{IsMeasured, sizes_of, whole_window}
-use Rattle.zerotrie_build.specs.declared.write.Writing.{Writing}
+use Rattle.zerotrie_build.specs.passes.Written.{Written}
 use Rattle.zerotrie_build.specs.passes.Writes.{HasRoom, NodesWritten, WrittenTo}
 use Rattle.zerotrie_build.specs.passes.Writing.{Listed, Texts, position_at, text_of, HasSlotsTo, IsPending}
 use Rattle.zerotrie_build.specs.passes.Writing.IsPending.{done, go as to_go, text as to_text}
@@ -50,9 +50,9 @@ leads_start m = to_text (measured_to m) done
 pub first_pushed : (all : Pairs) (one : List Next) (to : ℕ) → one ≡ Text (record { to = to; depth = 0 }) ∷ [] → to ≡ length all → text_of (whole_window all) ∷ [] ≡ reverse one
 first_pushed all one to pushed is = sym (ap reverse pushed ∙ ap (λ n. Text (record { to = n; depth = 0 }) ∷ []) is)
 
-pub left_start : {kind : Kind} {all : Pairs} {slots : List ℕ} {len : ℕ} (start : Writing) → IsMeasured kind all slots len → start.bytes.items ≡ [] → start.len ≡ len → WrittenTo kind all start (whole_window all ∷ [])
+pub left_start : {kind : Kind} {all : Pairs} {slots : List ℕ} {len : ℕ} (start : Written) → IsMeasured kind all slots len → start.bytes ≡ [] → start.len ≡ len → WrittenTo kind all start (whole_window all ∷ [])
 left_start {kind = kind} {all = all} {len = len} start m none room = record {
-  room = (let e = sum_by-cons (λ n. n) (size_of kind (window all (whole_window all))) [] in let l = m.len_is in let w = ap (size_of kind) (cut_whole all) in let n = ap length none in omega arith);
+  sized = (let e = sum_by-cons (λ n. n) (size_of kind (window all (whole_window all))) [] in let l = m.len_is in let w = ap (size_of kind) (cut_whole all) in let n = ap length none in omega arith);
   completes = λ texts h. subst (λ x. Listed kind (x ++ concat texts) all) (sym none) (texts_whole texts h);
 }
   where
@@ -61,15 +61,15 @@ left_start {kind = kind} {all = all} {len = len} start m none room = record {
     texts_whole (t ∷ u ∷ ts) h = absurd (h.1)
     texts_whole (t ∷ []) h = subst (λ x. Listed kind x all) (sym (append-nil t)) (subst (Listed kind t) (cut_whole all) h.0)
 
-pub left_room : {kind : Kind} {all : Pairs} {now : Writing} {w : Window} {ws : List Window} → WrittenTo kind all now (w ∷ ws) → HasRoom now (size_of kind (window all w))
+pub left_room : {kind : Kind} {all : Pairs} {now : Written} {w : Window} {ws : List Window} → WrittenTo kind all now (w ∷ ws) → HasRoom now (size_of kind (window all w))
 left_room {kind = kind} {all = all} {w = w} {ws = ws} l =
     let t = sum_by-cons (λ n. n) (size_of kind (window all w)) (sizes_of kind all ws) in
-    let r = l.room in omega arith
+    let r = l.sized in omega arith
 
 -- nothing is left to be written
-pub left_end : (kind : Kind) (all : Pairs) (now : Writing) (ws : List Window) → ws ≡ [] → length now.bytes.items < 2 ^ 64 → WrittenTo kind all now ws → Means kind now.bytes.items (map_of all)
+pub left_end : (kind : Kind) (all : Pairs) (now : Written) (ws : List Window) → ws ≡ [] → length now.bytes < 2 ^ 64 → WrittenTo kind all now ws → Means kind now.bytes (map_of all)
 left_end kind all now [] e small l =
-    let done = subst (λ x. Listed kind x all) (append-nil now.bytes.items) (l.completes [] tt) in
+    let done = subst (λ x. Listed kind x all) (append-nil now.bytes) (l.completes [] tt) in
     record {
       short = small;
       pairs = done.listed;
@@ -82,26 +82,26 @@ sizes_append : (kind : Kind) (all : Pairs) (xs ys : List Window) → sizes_of ki
 sizes_append kind all xs ys = ap (map (size_of kind)) (map-append (window all) xs ys) ∙ map-append (size_of kind) (map (window all) xs) (map (window all) ys)
 
 -- the next window is written
-pub left_more : {kind : Kind} {all : Pairs} {slots : List ℕ} {slot : ℕ} {old new : Writing} {w : Window} {next : List Next} {ws : List Window}
+pub left_more : {kind : Kind} {all : Pairs} {slots : List ℕ} {slot : ℕ} {old new : Written} {w : Window} {next : List Next} {ws : List Window}
     → WrittenTo kind all old (w ∷ ws) → (p : NodesWritten kind all slots slot w next old new) → WrittenTo kind all new (p.targets ++ ws)
 left_more {kind = kind} {all = all} {old = old} {w = w} {ws = ws} l p =
     let split_len = ap total (sizes_append kind all p.targets ws) ∙ total_append (sizes_of kind all p.targets) (sizes_of kind all ws) in
     let before = sum_by-cons (λ x. x) (size_of kind (window all w)) (sizes_of kind all ws) in
     let sized = p.sized in
     record {
-      room = (let r = l.room in let a = grows p.puts in let b = p.puts.same in omega arith);
+      sized = (let r = l.sized in let a = grows p.puts in let b = p.puts.same in omega arith);
       completes = λ texts h.
           (let s = split kind all p.targets ws texts h in
           let one = l.completes ((p.front ++ concat s.front) ∷ s.back) (p.lists s.front s.front_texts, s.back_texts) in
           subst (λ x. Listed kind x all)
-          (ap (λ x. old.bytes.items ++ x) (append_assoc p.front (concat s.front) (concat s.back) ∙ ap (λ x. p.front ++ x) (sym (concat_append s.front s.back) ∙ ap concat (sym s.is)))
-          ∙ sym (append_assoc old.bytes.items p.front (concat texts)) ∙ ap (λ x. x ++ concat texts) (sym p.puts.is)) one);
+          (ap (λ x. old.bytes ++ x) (append_assoc p.front (concat s.front) (concat s.back) ∙ ap (λ x. p.front ++ x) (sym (concat_append s.front s.back) ∙ ap concat (sym s.is)))
+          ∙ sym (append_assoc old.bytes p.front (concat texts)) ∙ ap (λ x. x ++ concat texts) (sym p.puts.is)) one);
     }
 
 -- and less is left
-pub left_less : {kind : Kind} {all : Pairs} {slots : List ℕ} {slot : ℕ} {old new : Writing} {w : Window} {next : List Next} {ws : List Window} (rest : List Next)
+pub left_less : {kind : Kind} {all : Pairs} {slots : List ℕ} {slot : ℕ} {old new : Written} {w : Window} {next : List Next} {ws : List Window} (rest : List Next)
     → WrittenTo kind all old (w ∷ ws) → NodesWritten kind all slots slot w next old new
-    → (new.len - length new.bytes.items) + length (next ++ rest) < (old.len - length old.bytes.items) + suc (length rest)
+    → (new.len - length new.bytes) + length (next ++ rest) < (old.len - length old.bytes) + suc (length rest)
 left_less {next = next} rest l p =
     let room = left_room l in
     let a = grows p.puts in let s = p.puts.same in let z = p.sized in let m = p.many in

@@ -33,7 +33,7 @@ abbrev pub ComesBefore : Sibling → List Sibling → Type 0
 ComesBefore s [] = Unit {0}
 ComesBefore s (t ∷ siblings) = (t.depth < s.depth) ⊎ ((t.depth ≡ s.depth) × (s.byte < t.byte))
 
--- The bytes begin with the text of a sibling, which stands above the key, and the pairs with those that the text lists.
+-- The bytes begin with the text of a sibling, which is above the key, and the pairs with those that the text lists.
 -- While it was written this many siblings waited, and so the stack of k was enough.
 pub record BeginsWithSibling (k : ℕ) (key : List ℕ) (s : Sibling) (waited : ℕ) (Rest : List ℕ → Pairs → Type 0) (bytes : List ℕ) (pairs : Pairs) : Type 0 where
   pub text : List ℕ
@@ -56,7 +56,7 @@ abbrev pub Aside : ℕ → List ℕ → List Sibling → List ℕ → Pairs → 
 Aside k key [] bytes pairs = (bytes ≡ []) × (pairs ≡ [])
 Aside k key (s ∷ siblings) bytes pairs = ComesBefore s siblings × BeginsWithSibling k key s (length siblings) (Aside k key siblings) bytes pairs
 
--- In front stands the text of what is under this many first bytes of the key, and after it the siblings.
+-- First comes the text of what is under this many first bytes of the key, and after it the siblings.
 pub record TextAndSiblings (k : ℕ) (Front : List ℕ → Type 0) (key : List ℕ) (depth : ℕ) (siblings : List Sibling) (front : ℕ) (bytes : List ℕ) (pairs : Pairs) : Type 0 where
   pub text : List ℕ
   pub rest : List ℕ
@@ -80,7 +80,7 @@ abbrev pub ClosedTo : ℕ → List ℕ → ℕ → List Sibling → ℕ → List
 ClosedTo k key depth siblings front bytes pairs =
     TextAndSiblings k (λ text. (text ≢ []) × (depth < length key → NoValueFirst text)) key depth siblings front bytes pairs
 
--- the text and the siblings, the last that was set aside last, stand so
+-- the text and the siblings, the last that was saved last, are in this order
 abbrev pub IsClosedTo : ℕ → List ℕ → ℕ → Text → List Sibling → Pairs → Type 0
 IsClosedTo k key depth text siblings listed = (bytes : List ℕ) × Has text bytes × ClosedTo k key depth (newest_first siblings) text.front bytes listed
 

@@ -23,11 +23,11 @@ pub data Passes (kind : Kind) (all : Pairs) : Window → Window → ℕ → Type
       → Passes kind all (record w { depth = w.depth + m }) behind n
       → Passes kind all w behind (length (spelled_as span_form m) + m + n)
 
--- none of these stands first
+-- none of these comes first
 abbrev pub NoneFirst : Kind → Pairs → Window → Type 0
 NoneFirst kind all w = (step_of kind all w ≡ End) ⊎ (step_of kind all w ≡ Branch)
 
--- the windows are those of the targets of the branch that stands first in a window, or it is empty
+-- the windows are those of the targets of the branch that comes first in a window, or it is empty
 abbrev pub TargetWindows : Pairs → Window → List Window → Type 0
 TargetWindows all w [] = w.from ≡ w.to
 TargetWindows all w (c ∷ cs) = (c.from ≡ w.from) × (c.depth ≡ w.depth + 1) × IsGroup all w c.to × TargetWindows all (record w { from = c.to }) cs

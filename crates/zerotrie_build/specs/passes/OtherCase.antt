@@ -1,4 +1,4 @@
--- Where a key parts from the next by a letter, and another goes on with the letter's other case.
+-- Where a key parts from the next by a letter, and another continues with the letter's other case.
 use Rattle.std.specs.Prelude.{◌≡◌, ◌≢◌, ◌==◌, ℕ, List, [], ◌∷◌, All, MatchBool}
 use Rattle.zerotrie_base.specs.Kind.{Kind, fold_byte}
 use Rattle.zerotrie_base.specs.Maps.{Pairs}
@@ -12,7 +12,7 @@ BeginsThen (a ∷ front) byte (b ∷ key) = (b ≡ a) × BeginsThen front byte k
 abbrev pub NoneBeginsThen : List ℕ → ℕ → Pairs → Type 0
 NoneBeginsThen front byte pairs = All (λ e. BeginsThen front byte e.0 → ⊥) pairs
 
--- the key parts from the next, and the other goes on with the fold of its byte there, which is another byte
+-- the key parts from the next, and the other continues with the fold of its byte there, which is another byte
 abbrev pub HasOtherCase : Kind → List ℕ → List ℕ → List ℕ → Type 0
 HasOtherCase kind [] next other = ⊥
 HasOtherCase kind (a ∷ key) [] [] = ⊥

@@ -1,4 +1,4 @@
--- What is known while the first pass goes on.
+-- What is known during the first pass.
 use Rattle.std.specs.Prelude.{◌≡◌, ℕ, ◌+◌, ◌-◌, ◌^◌, ◌<◌, ◌≤◌, List, [], ◌∷◌, ◌++◌, length, map, replicate, slice_set, if◌then◌else◌}
 use Rattle.std.specs.List.{concat}
 use Rattle.zerotrie_base.specs.Kind.{Kind, is_hashed}
@@ -13,7 +13,7 @@ use Rattle.zerotrie_build.specs.declared.measure.Turn.TheVariants.{Window as Nex
 use Rattle.zerotrie_build.specs.passes.Windows.{window, step_of}
 use Rattle.zerotrie_build.specs.passes.Measured.{Passes, TargetWindows, sizes_of, ends_from, AreSlotsOf, AreSlotsOfEach, whole_window}
 
--- after some front stand the pairs of the window, but for the value of the empty key
+-- after some front come the pairs of the window, but for the value of the empty key
 abbrev pub IsBehindFront : Pairs → Window → Type 0
 IsBehindFront all w = (front : List ℕ) × ((b : ℕ) → residual b (behind_all front all) ≡ residual b (window all w))
 

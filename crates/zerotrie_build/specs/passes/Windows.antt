@@ -1,4 +1,4 @@
--- Windows of the items, and what stands first in their texts.
+-- Windows of the items, and what comes first in their texts.
 use Rattle.std.specs.Prelude.{Bool, true, false, ◌⊎◌, ◌≡◌, ◌≢◌, ℕ, ◌+◌, ◌-◌, ◌<◌, ◌≤◌, ◌==◌, ◌&&◌, nat_lt, nat_le, if◌then◌else◌, List, [], ◌∷◌, length, map, take, drop, All, slice_get, slice_index, slice_index_or, Option, Some, None}
 use Rattle.zerotrie_base.specs.Kind.{Kind, has_spans}
 use Rattle.zerotrie_base.specs.Maps.{Pairs}
@@ -32,7 +32,7 @@ high_front [] l = 0
 high_front (a ∷ k) [] = 0
 high_front (a ∷ k) (b ∷ l) = if (a == b) && nat_le 128 a then 1 + high_front k l else 0
 
--- by the bytes with which the first and the last key go on, the value of the first item, and how many bytes from 128
+-- by the bytes with which the first and the last key continue, the value of the first item, and how many bytes from 128
 -- on the two keys have in common
 abbrev pub step_at : Kind → Option ℕ → Option ℕ → ℕ → ℕ → Step
 step_at kind None last v high = Value v
@@ -40,7 +40,7 @@ step_at kind (Some b) None v high = Branch
 step_at kind (Some b) (Some c) v high =
     if c == b then (if nat_le 128 b && has_spans kind then Span high else Literal b) else Branch
 
--- what stands first in the text of a window
+-- what comes first in the text of a window
 abbrev pub step_of : Kind → Pairs → Window → Step
 step_of kind all w = if nat_lt w.from w.to
     then step_at kind (byte_of all w.from w.depth) (byte_of all (w.to - 1) w.depth) (item_no all w.from).1
@@ -54,7 +54,7 @@ pub record HasLiteralAt (all : Pairs) (w : Window) (depth : ℕ) : Type 0 where
   pub first : byte_of all w.from depth ≡ Some byte
   pub last : byte_of all (w.to - 1) depth ≡ Some byte
 
--- The window has one item, with this value, whose key goes on with this rest.
+-- The window has one item, with this value, whose key continues with this rest.
 pub record IsSingleItem (all : Pairs) (w : Window) (rest : List ℕ) (value : ℕ) : Type 0 where
   pub one : w.to ≡ w.from + 1
   pub deep : w.depth ≤ length (item_no all w.from).0
@@ -74,7 +74,7 @@ short_size high (b ∷ rest) = byte_size high b + short_size (nat_le 128 b) rest
 abbrev pub IsRestLen : Kind → List ℕ → ℕ → Type 0
 IsRestLen kind rest n = (All (λ b. b < 128) rest × (n ≡ length rest)) ⊎ ((has_spans kind ≡ true) × (length rest < 16) × (n ≡ short_size false rest))
 
--- The window has one item, with this value, whose key goes on with this rest, and the rest is ASCII.
+-- The window has one item, with this value, whose key continues with this rest, and the rest is ASCII.
 pub record IsAsciiLeaf (all : Pairs) (w : Window) (rest : List ℕ) (value : ℕ) : Type 0 where
   pub one : w.to ≡ w.from + 1
   pub deep : w.depth ≤ length (item_no all w.from).0
@@ -89,10 +89,10 @@ pub record IsGroup (all : Pairs) (w : Window) (end : ℕ) : Type 0 where
   pub same : (i : ℕ) → w.from ≤ i → i < end → byte_of all i w.depth ≡ byte_of all w.from w.depth
   pub other : end < w.to → byte_of all end w.depth ≢ byte_of all w.from w.depth
 
--- the first item of a window goes on with the byte, if there is one
+-- the first item of a window continues with the byte, if there is one
 abbrev pub GoesOnWith : Pairs → Window → Option ℕ → Type 0
 GoesOnWith all w byte = w.from < w.to → byte ≡ byte_of all w.from w.depth
 
--- the first items end there, and the next one goes on with this byte
+-- the first items end there, and the next one continues with this byte
 abbrev pub IsGroupTo : Pairs → Window → Group → Type 0
 IsGroupTo all w group = IsGroup all w group.end × (group.end < w.to → group.next ≡ byte_of all group.end w.depth)

@@ -23,7 +23,7 @@ IsLead bits latent = ((latent ≡ 16) × ((bits ≡ 128) ⊎ (bits ≡ 160))) �
 abbrev pub spelled_with_bits : ℕ → ℕ → ℕ → List ℕ
 spelled_with_bits bits latent number = spelled latent (bits / (2 * latent)) number
 
--- The bytes are a text of the kind, and what it lists answers as these pairs.
+-- The bytes are a text of the kind, and what it lists has the results of these pairs.
 pub record Listed (kind : Kind) (bytes : List ℕ) (pairs : Pairs) : Type 0 where
   pub listed : Pairs
   pub lists : Lists kind bytes listed
@@ -70,7 +70,7 @@ pub record IsLayout (kind : Kind) (edge : ℕ → ℕ) (count : ℕ) (table numb
   pub permutation : IsPermutation (range_with_len 0 count) numbers
   pub in_order : is_hashed kind count ≡ false → numbers ≡ range_with_len 0 count
 
--- A branch stands first in the window, and its slots begin at one of these.
+-- A branch comes first in the window, and its slots begin at one of these.
 pub record HasSlots (kind : Kind) (all : Pairs) (w : Window) (slots : List ℕ) (slot : ℕ) : Type 0 where
   pub windows : List Window
   pub parts : TargetWindows all w windows

@@ -5,7 +5,8 @@ ghost use Rattle.zerotrie_base.specs.Numbers.{value_form, spelled_as, SpellsAs};
 ghost use Rattle.zerotrie_base.specs.Branches.{total as total_of, ends, blocks, branch_front};
 ghost use Rattle.zerotrie_build.specs.array.Texts.{Prepends, Counts, newest_first, bytes_of, lens_of};
 
-use crate::number::{BRANCH, VALUE, number_bytes, width_of};
+use crate::number::{BRANCH, VALUE, number_bytes};
+use zerotrie_base::least_width;
 
 /// A target of a branch that is not written yet.
 #[derive(Clone, Copy, Debug, Default)]
@@ -101,14 +102,14 @@ impl Text<'_> {
             (branch_front (bytes_of (newest_first siblings.now))
             (lens_of (newest_first siblings.now))) }
     {
-        let width = width_of(total);
+        let width = least_width(total);
         self.put_offsets(siblings, total, width + 1);
         self.put_edges(siblings);
         self.put_all(&number_bytes(BRANCH, 32, 256 * width + siblings.len() % 256));
     }
 }
 
-/// How many bytes the targets have together, or the greatest number if they have more.
+/// Returns how many bytes the targets have together, or the greatest number if they have more.
 pub(crate) fn total(siblings: &[Sibling]) -> usize
     ensures exact { total_of (lens_of (newest_first siblings.now)) < 2 ^ 64
         → result ≡ total_of (lens_of (newest_first siblings.now)) }

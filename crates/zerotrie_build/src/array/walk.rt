@@ -46,7 +46,7 @@ fn set_aside<const K: usize>(
     Ok(())
 }
 
-/// Where the siblings at this depth begin, which were set aside last.
+/// Returns where the siblings at this depth begin, which were set aside last.
 fn start_of<const K: usize>(siblings: &ArrayVec<Sibling, K>, depth: usize) -> usize
     ensures within { result ≤ length siblings.now.items }
     ensures level { AllAt depth (newest_first (drop result siblings.now.items)) }
@@ -83,7 +83,7 @@ fn join<const K: usize>(
     Ok(())
 }
 
-/// Whether siblings lie at this depth.
+/// Returns whether siblings lie at this depth.
 fn has_siblings_at<const K: usize>(siblings: &ArrayVec<Sibling, K>, depth: usize) -> bool
     ensures yes { result ≡ true → NoneAt depth (newest_first siblings.now.items) → ⊥ }
     ensures no { result ≡ false → NoneAt depth (newest_first siblings.now.items) }

@@ -17,7 +17,7 @@ use zerotrie_core::{
 
 type Builder = ZeroTrieBuilder<VecDeque<u8>>;
 
-/// The text of sorted items.
+/// Returns the text of sorted items.
 fn text_of<K: ZeroTrieWithOptions>(
     alloc: Global,
     items: ByteSliceWithIndices<'_>,
@@ -27,7 +27,7 @@ fn text_of<K: ZeroTrieWithOptions>(
     Ok(builder.to_bytes(alloc)?)
 }
 
-/// The text by the slice route.
+/// Returns the text by the slice route.
 fn by_slice<K: ZeroTrieWithOptions>(
     alloc: Global,
     items: &[(&[u8], usize)],
@@ -35,7 +35,7 @@ fn by_slice<K: ZeroTrieWithOptions>(
     text_of::<K>(alloc, ByteSliceWithIndices::from_byte_slice(items))
 }
 
-/// The lengths that are told beforehand are those of the texts.
+/// Returns whether `encoded_len` and the text have this length.
 fn has_len<K: ZeroTrieWithOptions>(
     alloc: Global,
     items: &[(&[u8], usize)],
@@ -46,7 +46,7 @@ fn has_len<K: ZeroTrieWithOptions>(
     Ok(told == len && text_of::<K>(alloc, given)?.len() == len)
 }
 
-/// The keys of one byte each, with value 0.
+/// Returns the keys of one byte each, with value 0.
 fn keys_of(alloc: Global, bytes: &[u8]) -> Result<Vec<(&[u8], usize)>, Fail> {
     let mut items: Vec<(&[u8], usize)> = Vec::new(alloc);
     for byte in bytes.chunks(1) {
@@ -82,44 +82,58 @@ fn lengths_of_long_keys(rt: HostRuntime) -> Result<(), Fail> {
     Ok(())
 }
 
-/// A store that keeps the trait's `atbs_fill` grows once, and each byte is set at a place after
-/// those set before.
+/// Returns whether a build into a store of its own grows it once, by zeros, and sets each byte of
+/// the text once, at places that ascend.
+fn writes_in_place<K: ZeroTrieWithOptions>(
+    alloc: Global,
+    items: &[(&[u8], usize)],
+    len: usize,
+) -> Result<bool, Fail> {
+    let given = ByteSliceWithIndices::from_byte_slice(items);
+    let builder: ZeroTrieBuilder<Counting> = ZeroTrieBuilder::from_sorted_tuple_slice(
+        alloc,
+        given,
+        ZeroTrieBuilderOptions::of::<K>(),
+    )?;
+    let text = text_of::<K>(alloc, given)?;
+    let counts = (builder.data.zeros, builder.data.others, builder.data.sets);
+    Ok(
+        text.len() == len
+            && builder.to_bytes(alloc)? == text
+            && counts == (1, 0, len)
+            && builder.data.ascends,
+    )
+}
+
 #[test]
-fn a_build_grows_once(rt: HostRuntime) -> Result<(), Fail> {
-    let rows: [&[(&str, usize)]; 3] = [
-        &[("", 11), ("ad", 22), ("adef", 33), ("adghk", 44)],
-        &[("bår", 2), ("båzzøø", 3), ("foo", 1)],
-        &[
-            ("a", 0),
-            ("b", 1),
-            ("c", 2),
-            ("d", 3),
-            ("e", 4),
-            ("f", 5),
-            ("g", 6),
-            ("h", 7),
-            ("i", 8),
-            ("j", 9),
-            ("k", 10),
-            ("l", 11),
-            ("m", 12),
-            ("n", 13),
-            ("o", 14),
-            ("p", 15),
-        ],
+fn a_build_writes_the_store_in_place(rt: HostRuntime) -> Result<(), Fail> {
+    let alloc = rt.alloc();
+    let four: [(&[u8], usize); 4] = [(b"", 11), (b"ad", 22), (b"adef", 33), (b"adghk", 44)];
+    assert!(rt; writes_in_place::<Simple>(alloc, &four, 16)?);
+    let no_case: [(&[u8], usize); 6] = [
+        (b"", 0),
+        (b"aBc", 1),
+        (b"aBcD", 2),
+        (b"aBcF", 4),
+        (b"aBce", 3),
+        (b"aBcghi", 5),
     ];
-    for items in rows {
-        let builder: ZeroTrieBuilder<Counting> = ZeroTrieBuilder::from_sorted_tuple_slice(
-            rt.alloc(),
-            ByteSliceWithIndices::from_str_slice(items),
-            ZeroTrieBuilderOptions::of::<Hash>(),
-        )?;
-        assert!(rt; builder.data.grew == 1 && builder.data.ascends);
-    }
+    assert!(rt; writes_in_place::<Ignore>(alloc, &no_case, 19)?);
+    let spans: [(&[u8], usize); 3] = [
+        (b"b\xC3\xA5r", 2),
+        (b"b\xC3\xA5zz\xC3\xB8\xC3\xB8", 3),
+        (b"foo", 1),
+    ];
+    assert!(rt; writes_in_place::<Hash>(alloc, &spans, 22)?);
+    let all: Vec<u8> = (0..=255u8).collect(alloc)?;
+    let bytes = keys_of(alloc, all.as_slice())?;
+    let letters = numbered(alloc, all.get(97..113).ok_or("short")?, 1)?;
+    assert!(rt; writes_in_place::<Hash>(alloc, letters.as_slice(), 65)?);
+    assert!(rt; writes_in_place::<Hash>(alloc, bytes.as_slice(), 1281)?);
     Ok(())
 }
 
-/// The text, with the memory of both passes from the heap.
+/// Returns the text, with the memory of both passes from the heap.
 fn over_heap<K: ZeroTrieWithOptions>(
     alloc: Global,
     heap: &LocalHeap,
@@ -157,7 +171,7 @@ fn every_size_of_heap(rt: HostRuntime) -> Result<(), Fail> {
     Ok(())
 }
 
-/// 4,913 keys of three bytes in ascending order, one after another. All of their bytes are
+/// Returns 4,913 keys of three bytes in ascending order, one after another. All of their bytes are
 /// multiples of the step.
 fn many_keys(alloc: Global, step: u8) -> Result<Vec<u8>, Fail> {
     let mut keys = Vec::new(alloc);
@@ -169,8 +183,8 @@ fn many_keys(alloc: Global, step: u8) -> Result<Vec<u8>, Fail> {
     Ok(keys)
 }
 
-/// 8,192 keys of thirteen letters `a` or `b` in ascending order, one after another. Each branch is
-/// to two keys or more.
+/// Returns 8,192 keys of thirteen letters `a` or `b` in ascending order, one after another. Each
+/// branch is to two keys or more.
 fn keys_of_two_letters(alloc: Global) -> Result<Vec<u8>, Fail> {
     let mut keys = Vec::new(alloc);
     for number in 0..8192usize {
@@ -181,7 +195,7 @@ fn keys_of_two_letters(alloc: Global) -> Result<Vec<u8>, Fail> {
     Ok(keys)
 }
 
-/// The items of keys of so many bytes, with their numbers as values.
+/// Returns the items of keys of so many bytes, with their numbers as values.
 fn numbered(alloc: Global, keys: &[u8], len: usize) -> Result<Vec<(&[u8], usize)>, Fail>
     requires { 0 < len }
 {
@@ -192,7 +206,7 @@ fn numbered(alloc: Global, keys: &[u8], len: usize) -> Result<Vec<(&[u8], usize)
     Ok(items)
 }
 
-/// Items have a text as long as was told beforehand, which has each of the keys.
+/// Returns whether the text of the items is as long as `encoded_len` says, and has each of the keys.
 fn has_all<K: ZeroTrieWithOptions>(alloc: Global, items: &[(&[u8], usize)]) -> Result<bool, Fail> {
     let text = by_slice::<K>(alloc, items)?;
     let mut all = has_len::<K>(alloc, items, text.len())?;
@@ -202,14 +216,14 @@ fn has_all<K: ZeroTrieWithOptions>(alloc: Global, items: &[(&[u8], usize)]) -> R
     Ok(all)
 }
 
-/// Many items have a text with all of them.
+/// Returns whether the text of many items has all of them.
 fn has_many<K: ZeroTrieWithOptions>(alloc: Global, step: u8) -> Result<bool, Fail> {
     let keys = many_keys(alloc, step)?;
     let items = numbered(alloc, keys.as_slice(), 3)?;
     has_all::<K>(alloc, items.as_slice())
 }
 
-/// Many items that branch to two have a text with all of them.
+/// Returns whether the text of many items that branch to two has all of them.
 fn has_twos<K: ZeroTrieWithOptions>(alloc: Global) -> Result<bool, Fail> {
     let keys = keys_of_two_letters(alloc)?;
     let items = numbered(alloc, keys.as_slice(), 13)?;

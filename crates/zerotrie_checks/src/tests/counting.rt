@@ -7,13 +7,18 @@ use std::alloc::{AllocError, Global};
 use std::collections::VecDeque;
 use zerotrie_build::TrieBuilderStore;
 
-/// A store that counts how often it grew, and knows whether the places that were written ascend
-/// strictly.
+/// A store that counts the calls that grow it and those that write it, and knows whether the places
+/// that were written ascend strictly.
 #[derive(Drop)]
 pub struct Counting {
     bytes: VecDeque<u8>,
     next: usize,
-    pub grew: usize,
+    /// How often zeros were put in front.
+    pub zeros: usize,
+    /// How many other calls changed its length or its order.
+    pub others: usize,
+    /// How often a byte was set.
+    pub sets: usize,
     pub ascends: bool,
 }
 
@@ -24,7 +29,9 @@ impl TrieBuilderStore for Counting {
         Counting {
             bytes: VecDeque::new(alloc),
             next: 0,
-            grew: 0,
+            zeros: 0,
+            others: 0,
+            sets: 0,
             ascends: true,
         }
     }
@@ -34,12 +41,12 @@ impl TrieBuilderStore for Counting {
     }
 
     fn atbs_push_front(&mut self, byte: u8) -> Result<(), AllocError> {
-        self.grew = self.grew.saturating_add(1);
+        self.others = self.others.saturating_add(1);
         self.bytes.atbs_push_front(byte)
     }
 
     fn atbs_extend_front(&mut self, bytes: &[u8]) -> Result<(), AllocError> {
-        self.grew = self.grew.saturating_add(1);
+        self.others = self.others.saturating_add(1);
         self.bytes.atbs_extend_front(bytes)
     }
 
@@ -48,21 +55,24 @@ impl TrieBuilderStore for Counting {
     }
 
     fn atbs_bitor_assign(&mut self, index: usize, bits: u8) {
+        self.sets = self.sets.saturating_add(1);
         self.ascends = self.ascends && index >= self.next;
         self.next = index.saturating_add(1);
         self.bytes.atbs_bitor_assign(index, bits);
     }
 
     fn atbs_pop_front(&mut self) -> u8 {
+        self.others = self.others.saturating_add(1);
         self.bytes.atbs_pop_front()
     }
 
     fn atbs_prepend_n_zeros(&mut self, count: usize) -> Result<(), AllocError> {
-        self.grew = self.grew.saturating_add(1);
+        self.zeros = self.zeros.saturating_add(1);
         self.bytes.atbs_prepend_n_zeros(count)
     }
 
     fn atbs_permute_front(&mut self, lengths: &[usize], order: &[usize]) -> Result<(), AllocError> {
+        self.others = self.others.saturating_add(1);
         self.bytes.atbs_permute_front(lengths, order)
     }
 }

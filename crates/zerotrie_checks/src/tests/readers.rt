@@ -282,8 +282,8 @@ fn in_front_of_a_span(rt: HostRuntime) {
     same(&rt, cursor.rest(), Some(&bytes[1..]));
 }
 
-/// A listing over a heap gives a beginning of the pairs, then perhaps one error, and nothing more.
-/// Answers how many errors came.
+/// Returns how many errors a listing over a heap has. It gives a beginning of the pairs, then
+/// perhaps one error, and nothing more.
 fn refusals<H: AllocGlobal + Abort>(rt: &H, heap: &LocalHeap, bytes: &[u8]) -> Result<usize, Fail> {
     let mut all = ZeroTrieIterator::new::<Hash>(rt.alloc(), bytes);
     let mut refused = 0_usize;

@@ -45,7 +45,7 @@ AreGrouped kind key rest branches = IsText kind rest × AreEntered kind key (len
 abbrev pub GoesGrouped : Kind → List ℕ → List ℕ → List OpenBranch → Type 0
 GoesGrouped kind key rest branches = IsText kind rest × (AreEntered kind key (length key) branches ⊎ IsFresh kind key rest branches)
 
--- the innermost branch stands after fewer bytes than d, or there is none but one without targets
+-- the innermost branch comes after fewer bytes than d, or there is none but one without targets
 abbrev pub StandsBelow : ℕ → List OpenBranch → Type 0
 StandsBelow d [] = Unit {0}
 StandsBelow d (o ∷ branches) = (o.depth < d) ⊎ ((o.edges ≤ o.next) × (branches ≡ []))

@@ -7,7 +7,7 @@ use Rattle.zerotrie_core.specs.declared.stream.opened.OpenBranch.{OpenBranch}
 use Rattle.zerotrie_core.specs.declared.stream.Reached.{Reached}
 use Rattle.zerotrie_core.specs.declared.stream.Reached.TheVariants.{Pair, Bytes, End}
 
--- after how many bytes of the key the innermost branch stands
+-- after how many bytes of the key the innermost branch comes
 abbrev pub first_depth : List OpenBranch → ℕ
 first_depth [] = 0
 first_depth (o ∷ branches) = o.depth

@@ -1,4 +1,4 @@
--- The state of a listing: the text that it stands in, and the branches that are open.
+-- The state of a listing: the text that it is in, and the branches that are open.
 use Rattle.std.specs.Prelude.{◌≡◌, ℕ, Option, Some, None, ◌+◌, ◌-◌, ◌<◌, ◌≤◌, List, [], ◌∷◌, ◌++◌, length, take, Bool, nat_lt, if◌then◌else◌}
 use Rattle.zerotrie_base.specs.Kind.{Kind}
 use Rattle.zerotrie_base.specs.Maps.{Pairs, with_run}
@@ -25,13 +25,13 @@ pairs_left kind prefix rest branches = with_run prefix (listed kind rest) ++ pai
 abbrev pub left_in : Bool → Kind → List ℕ → List ℕ → List OpenBranch → Left
 left_in ended kind prefix rest branches = if ended then over else to_come (pairs_left kind prefix rest branches)
 
--- An open branch stands after a beginning of the prefix, and knows where its next target begins, if one is left.
+-- An open branch comes after a beginning of the prefix, and knows where its next target begins, if one is left.
 pub record IsOpen (depth : ℕ) (o : OpenBranch) : Type 0 where
   pub low : o.depth ≤ depth
   pub inside : o.next ≤ o.edges
   pub begins : o.next < o.edges → o.begin ≡ begin_of o.edges o.width o.behind.now o.next
 
--- each open branch has a target left, and inner ones stand after no shorter beginning
+-- each open branch has a target left, and inner ones come after no shorter beginning
 abbrev pub Nested : ℕ → List OpenBranch → Type 0
 Nested depth [] = Unit {0}
 Nested depth (o ∷ branches) = IsOpen depth o × (o.next < o.edges) × Nested o.depth branches

@@ -28,7 +28,7 @@ abbrev pub IsAfterFront : Kind → List ℕ → List ℕ → Option (List ℕ) �
 IsAfterFront kind front key None = (more : List ℕ) → same_key kind (front ++ more) key ≡ false
 IsAfterFront kind front key (Some left) = (taken : List ℕ) × (key ≡ taken ++ left) × (same_key kind front taken ≡ true)
 
--- The pairs that are left stand after one whose key is this one to the kind.
+-- The pairs that are left come after one whose key is this one to the kind.
 pub record LeavesAfter (kind : Kind) (key : List ℕ) (pairs left : Pairs) : Type 0 where
   pub before : Pairs
   pub own : List ℕ
@@ -58,7 +58,7 @@ abbrev pub IsEntered : Kind → Shape → ℕ → List ℕ → List ℕ → List
 IsEntered kind node byte bytes key branches None key' branches' = AlwaysStops kind node byte
 IsEntered kind node byte bytes key branches (Some rest) key' branches' = GoesInto kind node byte bytes key branches rest key' branches'
 
--- A walk goes on towards a key: bytes that are the run to the kind go from what is left of the sought key to the end of
+-- A walk continues towards a key: bytes that are the run to the kind go from what is left of the sought key to the end of
 -- the key at hand, and the pairs that are left then are the last of those before.
 pub record LeadsOn (kind : Kind) (bytes left key : List ℕ) (branches : List OpenBranch) (rest after key' : List ℕ) (branches' : List OpenBranch) : Type 0 where
   pub run : List ℕ

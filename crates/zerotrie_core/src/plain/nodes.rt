@@ -6,8 +6,7 @@ ghost use Rattle.zerotrie_base.specs.Branches.{IsWidth, blocks};
 ghost use Rattle.zerotrie_base.specs.Canonical.{branch_node};
 ghost use Rattle.zerotrie_base.specs.plain.Encoding.{with_bits, AreTargets};
 
-use crate::offsets::least_width;
-use zerotrie_base::{ZeroTrieBuildError, write_varint_meta2, write_varint_meta3};
+use zerotrie_base::{ZeroTrieBuildError, least_width, write_varint_meta2, write_varint_meta3};
 
 /// Writes a number, with these bits added to its lead byte.
 fn push_number(out: &mut Vec<u8>, bits: u8, number: &[u8]) -> Result<(), ZeroTrieBuildError>

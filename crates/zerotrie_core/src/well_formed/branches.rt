@@ -11,10 +11,9 @@ ghost use Rattle.zerotrie_core.specs.well_formed.Testing.{AlwaysNoText};
 
 use crate::branch::Branch;
 use crate::here::Here;
-use crate::offsets::least_width;
 use crate::simd::lanes::rising_in_17;
 use crate::well_formed::known_table::KnownTable;
-use zerotrie_base::{ZeroTrieWithOptions, folded};
+use zerotrie_base::{ZeroTrieWithOptions, folded, least_width};
 
 fn rises<K: ZeroTrieWithOptions>(edges: &[u8]) -> bool
     ensures rises { IsTrue result ↔ IsStrictlyIncreasing (map (fold_byte K.kind) edges.now) }

@@ -192,14 +192,3 @@ fn a_key_that_is_no_text(rt: HostRuntime) {
         is_refused(trie.to_btreemap(alloc), &ListError::NotText),
     );
 }
-
-#[test]
-fn texts_of_errors(rt: HostRuntime) {
-    let alloc = rt.alloc();
-    holds(
-        &rt,
-        is_written(alloc, &ListError::OutOfMemory, "out of memory"),
-    );
-    let text = "a key is not text: the bytes are no trie, so ask is_well_formed of them first";
-    holds(&rt, is_written(alloc, &ListError::NotText, text));
-}

@@ -319,69 +319,6 @@ fn json_of_a_hashed_branch(rt: HostRuntime) {
     holds(&rt, is_text_from_to(json, r#"{"a":0,"b":1,"#, r#""p":15}"#));
 }
 
-/// Returns whether a trie over ASCII keys returns an error with this text for a JSON value.
-fn is_json_refused<K: AsciiKind>(alloc: Global, row: &(&str, &str)) -> bool {
-    match value_of(alloc, row.0) {
-        Ok(value) => match ascii_from_json::<K>(alloc, &value) {
-            Ok(_) => false,
-            Err(error) => is_written(alloc, &error, row.1),
-        },
-        Err(_) => false,
-    }
-}
-
-const SHAPE: &str =
-    "the value has no pairs: give an object from text to number, or a list of pairs of a key and a number";
-
-const ITEM: &str =
-    "item 1 of the list is no pair of a key and a whole number from 0 to 18446744073709551615";
-
-const REFUSED: &[(&str, &str)] = &[
-    (
-        r#"{"a":1.5}"#,
-        r#"the value of "a" is no whole number from 0 to 18446744073709551615"#,
-    ),
-    (
-        r#"{"b":true,"a":0,"a b":-0}"#,
-        r#"the value of "a b" is no whole number from 0 to 18446744073709551615"#,
-    ),
-    (
-        r#"{"a\"":18446744073709551616}"#,
-        r#"the value of "a\"" is no whole number from 0 to 18446744073709551615"#,
-    ),
-    (r#"[["a"]]"#, ITEM),
-    (r#"[["a",1,2]]"#, ITEM),
-    (
-        r#"[["a",1],[[256],1],2]"#,
-        "item 2 of the list is no pair of a key and a whole number from 0 to 18446744073709551615",
-    ),
-    (r#"[{"a":1}]"#, ITEM),
-    (r#""a""#, SHAPE),
-    ("null", SHAPE),
-    (
-        r#"[["a",1],[[97],2]]"#,
-        "the pairs in the value make no trie: a key was given twice: give each key once",
-    ),
-    (
-        r#"{"å":1}"#,
-        "the pairs in the value make no trie: a key has a byte that is not ASCII: take a kind of trie for keys of any bytes",
-    ),
-];
-
-const REFUSED_WITHOUT_CASE: (&str, &str) = (
-    r#"{"A":1,"a":2}"#,
-    "the pairs in the value make no trie: two keys begin alike but for the case of a letter: lower-case the keys first",
-);
-
-#[test]
-fn json_is_refused(rt: HostRuntime) {
-    let alloc = rt.alloc();
-    for row in REFUSED {
-        holds(&rt, is_json_refused::<Simple>(alloc, row));
-    }
-    holds(&rt, is_json_refused::<Ignore>(alloc, &REFUSED_WITHOUT_CASE));
-}
-
 /// Writes a trie as a program would, with one error for all calls.
 fn written(alloc: Global) -> Result<Vec<u8>, Error> {
     let trie = ascii_of::<Simple>(alloc, &[("bar", 2), ("foo", 1)])?;
@@ -414,20 +351,4 @@ fn other_bytes_are_not_loaded(rt: HostRuntime) {
         is_refused(foreign, &LoadError::Tag(TagError::InvalidTag)),
     );
     holds(&rt, ZeroTrie::load(b"\x07a\x85").is_ok());
-}
-
-#[test]
-fn texts_of_errors(rt: HostRuntime) {
-    let alloc = rt.alloc();
-    let text = "there are no bytes, and so no tag: give all of the tagged bytes";
-    holds(&rt, is_written(alloc, &TagError::Empty, text));
-    let text =
-        "the first byte is no tag of the kind that is read: read the bytes as the kind that wrote them";
-    holds(&rt, is_written(alloc, &TagError::InvalidTag, text));
-}
-
-#[test]
-fn texts_of_json_errors(rt: HostRuntime) {
-    let error = JsonError::OutOfMemory;
-    holds(&rt, is_written(rt.alloc(), &error, "out of memory"));
 }

@@ -1,4 +1,4 @@
-use Rattle.std.proofs.Common.{rules, ◌≡◌, ◌∷◌, ◌+◌, ◌*◌, ◌%◌, arith, ap, ◌∙◌}
+use Rattle.std.proofs.Common.{rules, ◌≡◌, ◌∷◌, ◌%◌, arith, ap, ◌∙◌}
 use Rattle.zerotrie_base.proofs.NumberLemmas.Numbers.{read_from}
 use Rattle.zerotrie_base.proofs.NumberLemmas.Few.{last, onward, begins}
 use Rattle.zerotrie_base.proofs.varint.read_few.Goals as goal

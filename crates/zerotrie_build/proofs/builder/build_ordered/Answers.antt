@@ -1,4 +1,4 @@
-use Rattle.std.proofs.Common.{◌≡◌, ◌<◌, ◌^◌, length, refl, [], ◌∷◌, sym, ◌∙◌, subst, Ok}
+use Rattle.std.proofs.Common.{◌<◌, ◌^◌, length, refl, [], ◌∷◌, sym, subst, Ok, arith}
 use Rattle.std.specs.Prelude.{IsTrue}
 use Rattle.std.proofs.lemmas.Result.{err_from_is_err_and}
 use Rattle.zerotrie_build.specs.Order.{AreAsciiKeys}
@@ -30,13 +30,15 @@ put_pending-requires g c =
     let ascii = subst (λ x. IsTrue x → AreAsciiKeys all) (sym c.new-input.ensures.ascii) c.requires.ascii in
     λ k. ((refl, tt), (c.requires.keys, (ascii, (c.requires.ordered, (whole_window all ∷ [], written, pending)))))
 
+pub into_store-requires : goal.into_store-requires
+into_store-requires g c = let s = c.in_ok-put_pending.ensures.put.sized in omega arith
+
 pub returns : goal.returns
 returns g c =
     let kind = g.K.ZeroTrieWithOptions.kind in
     let all = g.I.IndexedItems.pairs c.args.items in
-    let bytes = c.into_bytes.ensures in
-    let short : length c.put_pending.new.self.bytes.items < 2 ^ 64 = rw (sym bytes.is) bytes.short in
+    let store = c.into_store.ensures in
+    let short : length c.put_pending.new.self.bytes < 2 ^ 64 = rw (sym store.is) store.short in
     let means = left_end kind all c.put_pending.new.self [] refl short c.in_ok-put_pending.ensures.put in
-    let filled : g.S.TrieBuilderStore.list c.atbs_fill.new.self ≡ c.put_pending.new.self.bytes.items = c.in_ok-atbs_fill.ensures.ok ∙ bytes.is in
-    written_build kind g.S.TrieBuilderStore.list all (Ok c.atbs_fill.new.self) c.meant_fits.ensures c.canonical_exactly.ensures.text
-    (ordered_distinct kind all c.requires.ordered) (rw filled means) tt
+    written_build kind g.S.TrieBuilderStore.list all (Ok c.into_store.result) c.meant_fits.ensures c.canonical_exactly.ensures.text
+    (ordered_distinct kind all c.requires.ordered) (rw store.is means) tt

@@ -12,7 +12,7 @@ overflow_mul-width g c = record {
   fits = (
       let f = c.ranges.total.fits in
       let p : 256 ^ (7 + 1) ≡ 2 ^ 64 = refl in
-      let w = c.width_of-width.ensures.least 7 (omega arith) in omega arith);
+      let w = c.least_width-width.ensures.small in omega arith);
 }
 
 pub overflow_add-width : goal.overflow_add-width
@@ -20,7 +20,7 @@ overflow_add-width g c = record {
   fits = (
       let f = c.ranges.total.fits in
       let p : 256 ^ (7 + 1) ≡ 2 ^ 64 = refl in
-      let w = c.width_of-width.ensures.least 7 (omega arith) in
+      let w = c.least_width-width.ensures.small in
       let few = c.requires.few in omega arith);
 }
 
@@ -29,7 +29,7 @@ overflow_add-result-2 g c = record {
   fits = (
       let f = c.ranges.total.fits in
       let p : 256 ^ (7 + 1) ≡ 2 ^ 64 = refl in
-      let w = c.width_of-width.ensures.least 7 (omega arith) in omega arith);
+      let w = c.least_width-width.ensures.small in omega arith);
 }
 
 pub overflow_mul-result : goal.overflow_mul-result
@@ -37,9 +37,9 @@ overflow_mul-result g c = record {
   fits = (
       let f = c.ranges.total.fits in
       let p : 256 ^ (7 + 1) ≡ 2 ^ 64 = refl in
-      let w = c.width_of-width.ensures.least 7 (omega arith) in
+      let w = c.least_width-width.ensures.small in
       let few = c.requires.few in
-      let offsets : (c.width_of-width.result + 1) * (c.args.edges - 1) ≤ 8 * 255 = mul-le-mul {n₂ = 8} {m₂ = 255} (omega arith) (omega arith) in
+      let offsets : (c.least_width-width.result + 1) * (c.args.edges - 1) ≤ 8 * 255 = mul-le-mul {n₂ = 8} {m₂ = 255} (omega arith) (omega arith) in
       omega arith);
 }
 
@@ -48,10 +48,10 @@ overflow_add-result-3 g c = record {
   fits = (
       let f = c.ranges.total.fits in
       let p : 256 ^ (7 + 1) ≡ 2 ^ 64 = refl in
-      let w = c.width_of-width.ensures.least 7 (omega arith) in
+      let w = c.least_width-width.ensures.small in
       let few = c.requires.few in
       let head = c.number_len.ensures.few in
-      let offsets : (c.width_of-width.result + 1) * (c.args.edges - 1) ≤ 8 * 255 = mul-le-mul {n₂ = 8} {m₂ = 255} (omega arith) (omega arith) in
+      let offsets : (c.least_width-width.result + 1) * (c.args.edges - 1) ≤ 8 * 255 = mul-le-mul {n₂ = 8} {m₂ = 255} (omega arith) (omega arith) in
       let table : c.if-is_hashed.table ≤ 2 * 256 + 1 = elim c.if-is_hashed.branch [
         | then-is_hashed w ↦ let is = w.table-is in omega arith
         | else-is_hashed w ↦ let is = w.table-is in omega arith
@@ -63,8 +63,8 @@ pub returns : goal.returns
 returns g c lengths count sum =
     let kind = g.K.ZeroTrieWithOptions.kind in
     let n = c.args.edges in
-    let w = c.width_of-width.result in
-    let wide : w ≡ width (total_of lengths) = width_is c.args.total w c.width_of-width.ensures ∙ ap width (sym sum) in
+    let w = c.least_width-width.result in
+    let wide : w ≡ width (total_of lengths) = width_is c.args.total w c.least_width-width.ensures.width ∙ ap width (sym sum) in
     let head = c.number_len.ensures.len branch_form refl in
     let head_is : length (spelled_as branch_form (256 * w + n % 256)) ≡ length (spelled_as branch_form (256 * width (total_of lengths) + length lengths % 256)) =
     ap (λ x. length (spelled_as branch_form (256 * x + n % 256))) wide ∙ ap (λ m. length (spelled_as branch_form (256 * width (total_of lengths) + m % 256))) (sym count) in

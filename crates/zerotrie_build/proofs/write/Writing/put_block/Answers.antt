@@ -9,7 +9,7 @@ use Rattle.zerotrie_build.proofs.Nodes.{total_more, offsets_more}
 use Rattle.zerotrie_build.proofs.write.Writing.put_block.Goals as goal
 
 pub overflow_add-end : goal.overflow_add-end
-overflow_add-end c =
+overflow_add-end g c =
     let v = c.loop-index.invariant in
     let ns = c.args.numbers.now in
     let ls = target_lens c.args.lens.now ns in
@@ -22,14 +22,14 @@ overflow_add-end c =
     record { fits = omega arith }
 
 pub put-requires : goal.put-requires
-put-requires c =
+put-requires g c =
     let v = c.loop-index.invariant in
     let p = v.puts in let a = grows p in let s = p.same in let r = c.requires.room in
     let n = block_so_far c.args.place c.loop-index.index (target_lens c.args.lens.now c.args.numbers.now) in
     let t = c.loop-index-test.true in let u = c.loop-index.auto.index in omega arith
 
 pub loop-index-preserved : goal.loop-index-preserved
-loop-index-preserved c =
+loop-index-preserved g c =
     let v = c.loop-index.invariant in
     let i = c.loop-index.index in
     let ts = c.args.lens.now in

@@ -10,4 +10,4 @@ invariant-loop-value g l =
     × Going g.K.ZeroTrieWithOptions.kind (g.I.IndexedItems.pairs l.items) l.fn.window o.bytes o.behind l.initial.self l.self l.rest
 
 abbrev pub decreases-loop-value : goal.decreases-loop-value
-decreases-loop-value g l = l.self.len - length l.self.bytes.items
+decreases-loop-value g l = l.self.len - length l.self.bytes

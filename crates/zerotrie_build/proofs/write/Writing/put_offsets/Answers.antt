@@ -5,7 +5,7 @@ use Rattle.zerotrie_build.proofs.WriteLemmas.Puts.{grows, puts_then, blocks_len,
 use Rattle.zerotrie_build.proofs.write.Writing.put_offsets.Goals as goal
 
 pub put_block-requires-clause-room : goal.put_block-requires-clause-room
-put_block-requires-clause-room c =
+put_block-requires-clause-room g c =
     let v = c.loop-place.invariant in
     let ls = target_lens c.args.lens.now c.args.numbers.now in
     let n = blocks_len v.0 c.loop-place.place c.args.bytes ls c.loop-place-test.true v.1 in
@@ -14,7 +14,7 @@ put_block-requires-clause-room c =
     let p = v.3 in let a = grows p in let s = p.same in let r = c.requires.room in omega arith
 
 pub loop-place-preserved : goal.loop-place-preserved
-loop-place-preserved c =
+loop-place-preserved g c =
     let v = c.loop-place.invariant in
     let os = ends (target_lens c.args.lens.now c.args.numbers.now) in (
       v.0 ++ map (λ o. o / 256 ^ (c.loop-place.place - 1) % 256) os,

@@ -9,4 +9,4 @@ invariant-loop-next g l = (ws : List Window) × WrittenTo g.K.ZeroTrieWithOption
     × IsPending g.K.ZeroTrieWithOptions.kind (g.I.IndexedItems.pairs l.items) l.input.slots.now l.position (reverse l.pending.items) ws
 
 abbrev pub decreases-loop-next : goal.decreases-loop-next
-decreases-loop-next g l = (l.self.len - length l.self.bytes.items) + length (reverse l.pending.items)
+decreases-loop-next g l = (l.self.len - length l.self.bytes) + length (reverse l.pending.items)

@@ -2,11 +2,8 @@ use Rattle.std.proofs.Common.{◌≡◌, ◌*◌, ◌/◌, length, arith, sym, a
 use Rattle.zerotrie.proofs.RecordLemmas.{read_back, parts_join, asks_it, record_is_one}
 use Rattle.zerotrie.proofs.dense.table.ZeroAsciiDenseSparse2dTrieBorrowed.try_from_record_bytes.Goals as goal
 
-cells_are : (c : goal.After-from_bytes-2) → length c.split_at-3.result.1.now ≡ 2 * c.number_in-cells.result
-cells_are c = omega (arith, c.split_at.ensures.back_len, c.split_at-2.ensures.back_len, c.split_at-3.ensures.back_len)
-
-read : goal.returns-clause-read
-read c =
+pub returns-clause-read : goal.returns-clause-read
+returns-clause-read c =
     let p = c.from_bytes.result.store.now in
     let below = c.split_at-2.result.1.now in
     let s = c.from_bytes-2.result.store.now in
@@ -20,9 +17,6 @@ read c =
     (parts_join c.split_at.result.1.now p below s m c.number_in-primary_len.result c.number_in-suffixes_len.result
     (c.from_bytes.ensures ∙ c.split_at-2.ensures.front) c.split_at-2.ensures.back (c.from_bytes-2.ensures ∙ c.split_at-3.ensures.front) c.split_at-3.ensures.back ∙ c.split_at.ensures.back)
 
-pub returns-clause-read : goal.returns-clause-read
-returns-clause-read c = read c
-
 pub returns-clause-written : goal.returns-clause-written
 returns-clause-written c parts w e =
     let p = ap length c.from_bytes.ensures in
@@ -33,9 +27,9 @@ returns-clause-written c parts w e =
       primary = omega (arith, p, c.split_at-2.ensures.front_len);
       suffixes = omega (arith, s, c.split_at-3.ensures.front_len);
       half = c.number_in-cells.result;
-      even = cells_are c;
+      even = omega (arith, c.split_at.ensures.back_len, c.split_at-2.ensures.back_len, c.split_at-3.ensures.back_len);
       matrix = omega arith;
-    }) w (sym (read c) ∙ e)
+    }) w (sym (returns-clause-read c) ∙ e)
 
 pub returns-then-given-asked-clause-written : goal.returns-then-given-asked-clause-written
 returns-then-given-asked-clause-written c parts w e = let a = asks_it c.args.bytes.now parts w e in absurd (omega (arith, c.number_in-primary_len.ensures, c.number_in-suffixes_len.ensures, c.number_in-cells.ensures))

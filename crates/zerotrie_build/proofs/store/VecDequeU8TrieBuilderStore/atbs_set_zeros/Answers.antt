@@ -1,0 +1,7 @@
+use Rattle.zerotrie_build.proofs.Filling.{set_next}
+use Rattle.zerotrie_build.proofs.store.VecDequeU8TrieBuilderStore.atbs_set_zeros.Goals as goal
+
+pub loop-i-preserved : goal.loop-i-preserved
+loop-i-preserved c =
+    set_next c.args.self.now.items c.loop-i.self.items _ c.args.bytes.now c.args.index c.loop-i.i
+    c.loop-i-test.true c.requires.fit c.requires.zeros c.loop-i.invariant c.atbs_bitor_assign.ensures
