@@ -7,7 +7,7 @@ use Rattle.std.proofs.lemmas.List.{map-append}
 use Rattle.zerotrie_core.specs.Kind.{Kind}
 use Rattle.zerotrie_core.specs.Maps.{Pairs}
 use Rattle.zerotrie_core.specs.Texts.{Lists}
-use Rattle.zerotrie_any.specs.Listed.{first_key_of}
+use Rattle.zerotrie_core.specs.Values.{first_key_of}
 use Rattle.zerotrie_reverse.specs.Descent.{key_at, value_at}
 use Rattle.zerotrie_reverse.specs.Tables.{pair_at, pairs_at, IsTable}
 

@@ -5,7 +5,7 @@ use Rattle.std.specs.List.Sorted.{IsNonDecreasingBy}
 use Rattle.zerotrie_core.specs.Kind.{Kind}
 use Rattle.zerotrie_core.specs.Maps.{Pairs}
 use Rattle.zerotrie_core.specs.Texts.{Lists}
-use Rattle.zerotrie_any.specs.Listed.{first_key_of}
+use Rattle.zerotrie_core.specs.Values.{first_key_of}
 use Rattle.zerotrie_reverse.specs.Descent.{key_at, value_at}
 
 -- The trie that a table is of, and how many places the table has.

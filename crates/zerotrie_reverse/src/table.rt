@@ -5,7 +5,7 @@ ghost use Rattle.std.specs.Option.{option_map};
 ghost use Rattle.zerotrie_core.specs.Kind.{kind_with};
 ghost use Rattle.zerotrie_core.specs.Maps.{Pairs};
 ghost use Rattle.zerotrie_core.specs.Texts.{Lists};
-ghost use Rattle.zerotrie_any.specs.Listed.{first_key_of};
+ghost use Rattle.zerotrie_core.specs.Values.{first_key_of};
 ghost use Rattle.zerotrie_reverse.specs.Descent.{key_at};
 ghost use Rattle.zerotrie_reverse.specs.Tables.{IsTable};
 
@@ -13,8 +13,7 @@ use crate::descent::read_key_at;
 use crate::places::{first_place_of, sorted_places};
 use std::alloc::{AllocError, Global};
 use std::marker::Model;
-use zerotrie_any::first_key_of;
-use zerotrie_core::{ZeroTrieBuilderOptions, ZeroTrieWithOptions, by_kind};
+use zerotrie_core::{ZeroTrieBuilderOptions, ZeroTrieWithOptions, by_kind, first_key_of};
 
 /// A table over the bytes of a trie of any kind that finds the first key that has a value.
 ///

@@ -1,73 +1,37 @@
-//! Reverse look-ups in the tries of each type.
+//! Reverse look-ups in every trie.
 
-ghost use Rattle.std.specs.Prelude.{◌≡◌, ◌≤◌, ℕ, List, length, IfOk};
-ghost use Rattle.zerotrie_core.specs.Kind.{Kind};
+ghost use Rattle.std.specs.Prelude.{◌≡◌, ◌≤◌, length, IfOk};
 ghost use Rattle.zerotrie_core.specs.Maps.{Pairs};
 ghost use Rattle.zerotrie_core.specs.Texts.{Lists};
-ghost use Rattle.zerotrie_any.specs.Flavors.{flavor_kind};
 
 use crate::table::KeysByValue;
 use std::alloc::{AllocError, Global};
-use zerotrie_any::{ZeroTrie, ZeroTrieFlavor};
-use zerotrie_ascii::{AsciiKind, AsciiTrie};
-use zerotrie_core::{Ext, Hash, Simple, TrieStore};
-use zerotrie_hashed::{HashedKind, HashedTrie};
+use zerotrie_core::{Trie, by_kind};
 
 /// A trie whose keys can be found by their values: each type of trie, over each store.
 ///
 /// ```
-/// let trie = ZeroTriePerfectHash::try_from_iter(rt.alloc(), [("xyz", 22), ("abc", 11)])?;
+/// let trie = TrieRef { kind: TrieKind::Simple, bytes: b"in\x83to\x84" };
 /// let table = trie.keys_by_value(rt.alloc())?;
-/// let key = table.first_key_of(rt.alloc(), 22)?.ok_or("no key")?;
-/// assert_eq!(rt; key.as_slice(), b"xyz".as_slice());
+/// let key = table.first_key_of(rt.alloc(), 4)?.ok_or("no key")?;
+/// assert_eq!(rt; key.as_slice(), b"into".as_slice());
 /// ```
-pub trait Reverse {
-    // The kind of the trie.
-    ghost kind: { Self → Kind };
-
-    // The bytes of the trie.
-    ghost bytes: { Self → List ℕ };
-
+pub trait Reverse: Trie {
     /// Builds the table that finds the first key that has a value.
     ///
     /// The only error is a failed allocation.
     fn keys_by_value(&self, alloc: Global) -> Result<KeysByValue<'_>, AllocError>
-        ensures of { IfOk result (λ t. (t.kind ≡ kind self.now) × (t.bytes ≡ bytes self.now)) }
-        ensures size { IfOk result (λ t. (pairs : Pairs) → Lists (kind self.now) (bytes self.now) pairs
-            → t.size ≤ length pairs) };
-}
-
-impl<K: AsciiKind, S: TrieStore> Reverse for AsciiTrie<K, S> {
-    ghost kind = { λ _. K.kind };
-
-    ghost bytes = { λ t. S.stored t.store };
-
-    fn keys_by_value(&self, alloc: Global) -> Result<KeysByValue<'_>, AllocError> {
-        KeysByValue::new::<K>(alloc, self.as_bytes())
+        ensures of { IfOk result (λ t.
+            (t.kind ≡ Self.kind self.now) × (t.bytes ≡ Self.bytes self.now)) }
+        ensures size { IfOk result (λ t.
+            (pairs : Pairs) → Lists (Self.kind self.now) (Self.bytes self.now) pairs
+            → t.size ≤ length pairs) }
+    {
+        by_kind!(
+            self.trie_kind(),
+            KeysByValue::new::<_>(alloc, self.as_bytes())
+        )
     }
 }
 
-impl<K: HashedKind, S: TrieStore> Reverse for HashedTrie<K, S> {
-    ghost kind = { λ _. K.kind };
-
-    ghost bytes = { λ t. S.stored t.store };
-
-    fn keys_by_value(&self, alloc: Global) -> Result<KeysByValue<'_>, AllocError> {
-        KeysByValue::new::<K>(alloc, self.as_bytes())
-    }
-}
-
-impl<S: TrieStore> Reverse for ZeroTrie<S> {
-    ghost kind = { λ t. flavor_kind t.flavor };
-
-    ghost bytes = { λ t. S.stored t.store };
-
-    fn keys_by_value(&self, alloc: Global) -> Result<KeysByValue<'_>, AllocError> {
-        let bytes = self.as_bytes();
-        match self.flavor {
-            ZeroTrieFlavor::SimpleAscii => KeysByValue::new::<Simple>(alloc, bytes),
-            ZeroTrieFlavor::PerfectHash => KeysByValue::new::<Hash>(alloc, bytes),
-            ZeroTrieFlavor::ExtendedCapacity => KeysByValue::new::<Ext>(alloc, bytes),
-        }
-    }
-}
+impl<R: Trie> Reverse for R {}

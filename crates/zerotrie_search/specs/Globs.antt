@@ -46,7 +46,7 @@ pub data Item : Type 0 where
 abbrev pub Reading : Type 0
 Reading = Option (Item × List ℕ)
 
--- a class of so many bytes; it has one at least
+-- a class of this many bytes; it has one at least
 abbrev pub class_of : Bool → List ℕ → Option ℕ → Reading
 class_of negated text None = None
 class_of negated text (Some n) = if n == 0 then None else Some (class negated (take n text), drop (n + 1) text)

@@ -79,7 +79,7 @@ pairs_from kind bytes to bound = filter (λ e. is_from bound e.0 && is_up_to_end
 abbrev pub left_from : Bool → Kind → List ℕ → Bound (List ℕ) → List ℕ → Left
 left_from ended kind bytes to bound = if ended then over else to_come (pairs_from kind bytes to bound)
 
--- from a bound on there are at most so many pairs, in whatever the bytes list
+-- from a bound on there are at most this many pairs, in whatever the bytes list
 abbrev pub MostFrom : Kind → List ℕ → Bound (List ℕ) → List ℕ → ℕ → Type 0
 MostFrom kind bytes to bound most = (pairs : Pairs) → Lists kind bytes pairs → length (pairs_from kind bytes to bound) ≤ most
 

@@ -12,7 +12,7 @@ abbrev pub begins_left : Option (List ℕ) → List ℕ → Bool
 begins_left None key = false
 begins_left (Some left) key = is_some (after_run left key)
 
--- whether a key has these bytes in this order, whatever stands before, between and after them
+-- whether a key has these bytes in this order, whatever comes before, between and after them
 abbrev pub has_within : List ℕ → List ℕ → Bool
 has_within [] key = true
 has_within (b ∷ sought) [] = false

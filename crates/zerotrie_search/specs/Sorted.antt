@@ -48,7 +48,7 @@ sorted_item (Err e) after = Some (Err OutOfMemory)
 abbrev pub sorted_turns : Sorting → ℕ
 sorted_turns s = if s.left.ended then 0 else 1 + s.most
 
--- a call of `advance` takes one of so many turns if it finds a pair, and else leaves none
+-- a call of `advance` takes one of this many turns if it finds a pair, and else leaves none
 abbrev pub Spends : Result Bool AllocError → ℕ → ℕ → Type 0
 Spends (Ok true) before after = before ≡ 1 + after
 Spends (Ok false) before after = after ≡ 0

@@ -8,7 +8,7 @@ module _ {S : Type 0} (IsAfter : List ℕ → S → Type 0) (accepts_from : S �
   abbrev pub StandsAfter : List ℕ → S → Type 0
   StandsAfter front state = IsAfter front state × ((key : List ℕ) → accepts_from state key ≡ accepts (front ++ key))
 
-  -- each state of a trail stands after the bytes up to it
+  -- each state of a trail is that after the bytes up to it
   abbrev pub IsTrail : List ℕ → List (ℕ × S) → Type 0
   IsTrail front [] = Unit {0}
   IsTrail front (e ∷ trail) = StandsAfter (front ++ e.0 ∷ []) e.1 × IsTrail (front ++ e.0 ∷ []) trail

@@ -15,7 +15,7 @@ ghost use Rattle.std.specs.Prelude.{◌≡◌, ℕ, List, [], ◌∷◌, ◌++�
 /// assert!(rt; automaton.is_match(state));
 /// ```
 ///
-/// A state stands for the bytes that may follow, and `accepts_from` says which do. So the first
+/// A state is the set of what may follow, and `accepts_from` says which do. So the first
 /// state accepts the keys themselves, and a step takes its byte off the front of what follows.
 pub trait Automaton {
     type State: Copy + Drop;

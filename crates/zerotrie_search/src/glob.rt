@@ -5,22 +5,24 @@ ghost use Rattle.std.specs.Int.{bit_at};
 ghost use Rattle.zerotrie_search.specs.Globs as glob;
 ghost use Rattle.zerotrie_search.specs.Globs.{matches, any_match};
 ghost use Rattle.zerotrie_search.specs.GlobItems.{item_of};
+ghost use Rattle.zerotrie_search.specs.declared.TheConstants.{WORD_LIMIT};
 ghost use Rattle.zerotrie_search.specs.declared.glob.GlobError.TheVariants.{Malformed, TooLong};
 
 mod pattern;
 
+use crate::WORD_LIMIT;
 use crate::automaton::Automaton;
 use pattern::{Item, first_item, may_be_empty, takes};
 use thiserror::Error;
 
-/// Why a pattern is refused.
+/// Why a pattern is an error.
 #[derive(Clone, Copy, Debug, PartialEq, Eq, Error)]
 pub enum GlobError {
     /// A class has no end or no byte, or the last byte is a backslash that escapes nothing.
     #[error("the pattern is malformed")]
     Malformed,
-    /// The pattern has more than 63 items.
-    #[error("the pattern has more than 63 items")]
+    /// The pattern has more items than `WORD_LIMIT`.
+    #[error("the pattern has more than {WORD_LIMIT} items")]
     TooLong,
 }
 
@@ -44,7 +46,7 @@ fn marked(marks: u64, place: u32) -> u64
 /// Returns whether the place after an item is reached with no byte, and the marks after the byte,
 /// with that of the item. `reached` says whether the item itself is reached.
 fn after_item(item: Item<'_>, byte: u8, place: u32, reached: bool, marks: u64) -> (bool, u64)
-    requires { place < 63 }
+    requires { place < WORD_LIMIT }
     ensures { (all more : List glob.Item) (key : List ℕ) → drop place all ≡ item_of item.entry ∷ more
         → (any_match result.1 0 all key || (result.0 && matches more (byte ∷ key)))
         ≡ (any_match marks 0 all key || (reached && matches (item_of item.entry ∷ more) (byte ∷ key))) }
@@ -83,7 +85,7 @@ fn after_item(item: Item<'_>, byte: u8, place: u32, reached: bool, marks: u64) -
 #[derive(Clone, Copy, Debug)]
 pub struct Glob<'p> {
     pattern: &'p [u8],
-    ghost few: { length (glob.items pattern.now) ≤ 63 },
+    ghost few: { length (glob.items pattern.now) ≤ WORD_LIMIT },
 }
 
 impl<'p> Glob<'p> {
@@ -91,12 +93,12 @@ impl<'p> Glob<'p> {
     pub fn new(pattern: &'p [u8]) -> Result<Self, GlobError>
         ensures ok { IfOk result (λ g. (g.pattern.now ≡ pattern.now) × (glob.no_item pattern.now ≡ [])) }
         ensures malformed { IfErr result (λ e. e ≡ Malformed → glob.no_item pattern.now ≢ []) }
-        ensures long { IfErr result (λ e. e ≡ TooLong → 63 < length (glob.items pattern.now)) }
+        ensures long { IfErr result (λ e. e ≡ TooLong → WORD_LIMIT < length (glob.items pattern.now)) }
     {
         let mut left = pattern;
         let mut count: usize = 0;
         while let Some((_item, rest)) = first_item(left) {
-            if count == 63 {
+            if count == WORD_LIMIT {
                 return Err(GlobError::TooLong);
             }
             count += 1;

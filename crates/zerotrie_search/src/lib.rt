@@ -1,6 +1,7 @@
 //! Searches: the pairs of a trie whose keys an automaton accepts.
 #![tactic(auto)]
 
+mod any;
 mod automaton;
 mod beginning;
 mod combination;
@@ -17,6 +18,7 @@ mod subsequence;
 mod trail;
 mod tries;
 
+pub use any::{AnyAutomaton, SearchBy, WordError};
 pub use automaton::Automaton;
 pub use beginning::BeginsWith;
 pub use combination::{AnyCase, Both, Either, Not};
@@ -30,3 +32,6 @@ pub use search::ZeroTrieSearch;
 pub use sorted::{ZeroTrieSorted, ZeroTrieSortedIterator};
 pub use subsequence::Subsequence;
 pub use tries::Search;
+
+/// The most letters that a word of a fuzzy search has, and the most items of a pattern.
+pub const WORD_LIMIT: usize = 63;

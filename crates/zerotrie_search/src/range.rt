@@ -26,7 +26,9 @@ use std::ops::Bound;
 /// A state is the range of what may follow, or `None` if nothing may.
 #[derive(Clone, Copy, Debug)]
 pub struct KeyRange<'p> {
+    /// Where the range begins.
     pub from: Bound<&'p [u8]>,
+    /// Where it ends.
     pub to: Bound<&'p [u8]>,
 }
 

@@ -4,7 +4,7 @@ ghost use Rattle.zerotrie_search.specs.Sets.{has_within};
 
 use crate::automaton::Automaton;
 
-/// Accepts the keys that have these bytes in this order, whatever stands before, between and after
+/// Accepts the keys that have these bytes in this order, whatever comes before, between and after
 /// them.
 ///
 /// ```
@@ -16,7 +16,7 @@ use crate::automaton::Automaton;
 /// assert!(rt; automaton.is_match(state));
 /// ```
 ///
-/// A state is what is left of the bytes. Any key may go on with them, so a search passes over no
+/// A state is what is left of the bytes. Any key may continue with them, so a search skips no
 /// pair unread.
 #[derive(Clone, Copy, Debug)]
 pub struct Subsequence<'p>(pub &'p [u8]);

@@ -1,14 +1,14 @@
-//! Searches of the tries of each type.
+//! Searches of every trie.
 
 ghost use Rattle.std.specs.Prelude.{◌≡◌, ◌≤◌, ℕ, List, length, IfOk};
 ghost use Rattle.std.specs.Option.{option_map};
 ghost use Rattle.std.specs.Range.Bound.{bound_map, bounds_contain};
 ghost use Rattle.std.specs.declared.ops.Bound.TheVariants.{Included, Excluded, Unbounded};
-ghost use Rattle.zerotrie_core.specs.Kind.{Kind, kind_with};
+ghost use Rattle.zerotrie_core.specs.Kind.{kind_with};
+ghost use Rattle.zerotrie_base.specs.Kinds.{kind_of};
 ghost use Rattle.zerotrie_core.specs.Maps.{Pairs, Map, beginning};
 ghost use Rattle.zerotrie_core.specs.Texts.{Means};
 ghost use Rattle.zerotrie_core.specs.Listings.{rest_after, to_come};
-ghost use Rattle.zerotrie_any.specs.Flavors.{flavor_kind};
 ghost use Rattle.zerotrie_search.specs.Searches.{IsSearch};
 ghost use Rattle.zerotrie_search.specs.Sets.{by_bytes};
 ghost use Rattle.zerotrie_search.specs.Sorted.{within, first_of, last_of};
@@ -19,10 +19,14 @@ use crate::search::ZeroTrieSearch;
 use crate::sorted::{ZeroTrieSorted, ZeroTrieSortedIterator, last_between};
 use std::alloc::{AllocError, Global};
 use std::ops::Bound;
-use zerotrie_any::{ZeroTrie, ZeroTrieFlavor};
-use zerotrie_ascii::{AsciiKind, AsciiTrie};
-use zerotrie_core::{Ext, Hash, Simple, TrieStore, ZeroTrieBuilderOptions, ZeroTrieStream};
-use zerotrie_hashed::{HashedKind, HashedTrie};
+use zerotrie_core::{Trie, TrieKind, ZeroTrieBuilderOptions, ZeroTrieStream, by_kind};
+
+/// Returns the options of a kind.
+fn options_of(kind: TrieKind) -> ZeroTrieBuilderOptions
+    ensures { kind_with result ≡ kind_of kind }
+{
+    by_kind!(kind, ZeroTrieBuilderOptions::of::<_>())
+}
 
 /// A trie whose pairs can be searched: each type of trie, over each store.
 ///
@@ -37,18 +41,15 @@ use zerotrie_hashed::{HashedKind, HashedTrie};
 ///
 /// A search lists the accepted pairs in the order of the trie's `stream`. It does not allocate for
 /// each pair. On malformed bytes it ends too: it lists at most as many pairs as bytes.
-pub trait Search {
-    // The kind of the trie.
-    ghost kind: { Self → Kind };
-
-    // The bytes of the trie.
-    ghost bytes: { Self → List ℕ };
-
+pub trait Search: Trie {
     /// Lists the pairs whose keys an automaton accepts.
     fn search<T: Automaton>(&self, alloc: Global, automaton: T) -> ZeroTrieSearch<'_, T>
-        ensures pairs { IsSearch (kind self.now) (bytes self.now) (λ pairs. pairs)
+        ensures pairs { IsSearch (Self.kind self.now) (Self.bytes self.now) (λ pairs. pairs)
             (T.accepts automaton) result.stream.left result.left }
-        ensures automaton { result.automaton ≡ automaton };
+        ensures automaton { result.automaton ≡ automaton }
+    {
+        ZeroTrieSearch::new(alloc, self.stream(alloc), automaton)
+    }
 
     /// Lists the pairs whose keys begin with a prefix, as the kind compares bytes, and whose whole
     /// keys an automaton accepts.
@@ -69,10 +70,14 @@ pub trait Search {
         prefix: &[u8],
         automaton: T,
     ) -> Result<ZeroTrieSearch<'_, T>, AllocError>
-        ensures pairs { IfOk result (λ search. IsSearch (kind self.now) (bytes self.now)
-            (beginning (kind self.now) prefix.now)
+        ensures pairs { IfOk result (λ search. IsSearch (Self.kind self.now) (Self.bytes self.now)
+            (beginning (Self.kind self.now) prefix.now)
             (T.accepts automaton) search.stream.left search.left) }
-        ensures automaton { IfOk result (λ search. search.automaton ≡ automaton) };
+        ensures automaton { IfOk result (λ search. search.automaton ≡ automaton) }
+    {
+        let pairs = self.stream_prefix(alloc, prefix)?;
+        Ok(ZeroTrieSearch::new(alloc, pairs, automaton))
+    }
 
     /// Lists the pairs that come after a key, of those whose keys begin with a prefix, or of all
     /// pairs if the prefix is empty, and whose whole keys an automaton accepts. Lists none if no
@@ -95,10 +100,19 @@ pub trait Search {
         key: &[u8],
         automaton: T,
     ) -> Result<ZeroTrieSearch<'_, T>, AllocError>
-        ensures pairs { IfOk result (λ search. IsSearch (kind self.now) (bytes self.now)
-            (λ pairs. rest_after (kind self.now) key.now (beginning (kind self.now) prefix.now pairs))
+        ensures pairs { IfOk result (λ search. IsSearch (Self.kind self.now) (Self.bytes self.now)
+            (λ pairs. rest_after (Self.kind self.now) key.now
+            (beginning (Self.kind self.now) prefix.now pairs))
             (T.accepts automaton) search.stream.left search.left) }
-        ensures automaton { IfOk result (λ search. search.automaton ≡ automaton) };
+        ensures automaton { IfOk result (λ search. search.automaton ≡ automaton) }
+    {
+        let bytes = self.as_bytes();
+        let pairs = by_kind!(
+            self.trie_kind(),
+            ZeroTrieStream::after::<_>(alloc, bytes, prefix, key)
+        )?;
+        Ok(ZeroTrieSearch::new(alloc, pairs, automaton))
+    }
 
     /// Lists the pairs whose keys are between two bounds, in the order of bytes.
     ///
@@ -120,17 +134,12 @@ pub trait Search {
         from: Bound<&'p [u8]>,
         to: Bound<&'p [u8]>,
     ) -> ZeroTrieSearch<'_, KeyRange<'p>>
-        ensures { IsSearch (kind self.now) (bytes self.now) (λ pairs. pairs)
+        ensures { IsSearch (Self.kind self.now) (Self.bytes self.now) (λ pairs. pairs)
             (bounds_contain by_bytes (bound_map (λ b. b.now) from.entry)
             (bound_map (λ b. b.now) to.entry)) result.stream.left result.left }
     {
         self.search(alloc, KeyRange { from, to })
     }
-
-    /// Returns the options of the trie's kind, and its bytes.
-    fn parts(&self) -> (ZeroTrieBuilderOptions, &[u8])
-        ensures kind { kind_with result.0 ≡ kind self.now }
-        ensures bytes { result.1.now ≡ bytes self.now };
 
     /// Lists the pairs whose keys are between two bounds in ascending order of bytes, in every kind.
     ///
@@ -153,14 +162,15 @@ pub trait Search {
         from: Bound<&[u8]>,
         to: Bound<&'p [u8]>,
     ) -> Result<ZeroTrieSorted<'_, 'p>, AllocError>
-        ensures pairs { IfOk result (λ s. (m : Map) → Means (kind self.now) (bytes self.now) m
+        ensures pairs { IfOk result (λ s. (m : Map)
+            → Means (Self.kind self.now) (Self.bytes self.now) m
             → s.left ≡ to_come (within (bound_map (λ b. b.now) from.entry)
             (bound_map (λ b. b.now) to.entry) m)) }
-        ensures most { IfOk result (λ s. s.most ≤ length (bytes self.now)) }
-        ensures kind { IfOk result (λ s. s.kind ≡ kind self.now) }
-        ensures bytes { IfOk result (λ s. s.bytes ≡ bytes self.now) }
+        ensures most { IfOk result (λ s. s.most ≤ length (Self.bytes self.now)) }
+        ensures kind { IfOk result (λ s. s.kind ≡ Self.kind self.now) }
+        ensures bytes { IfOk result (λ s. s.bytes ≡ Self.bytes self.now) }
     {
-        let (options, bytes) = self.parts();
+        let (options, bytes) = (options_of(self.trie_kind()), self.as_bytes());
         let sorted = ZeroTrieSorted::with_options(alloc, options, bytes, from, to)?;
         Ok(sorted)
     }
@@ -188,12 +198,13 @@ pub trait Search {
         from: Bound<&[u8]>,
         to: Bound<&'p [u8]>,
     ) -> Result<ZeroTrieSortedIterator<'_, 'p>, AllocError>
-        ensures pairs { IfOk result (λ s. (m : Map) → Means (kind self.now) (bytes self.now) m
+        ensures pairs { IfOk result (λ s. (m : Map)
+            → Means (Self.kind self.now) (Self.bytes self.now) m
             → s.left ≡ to_come (within (bound_map (λ b. b.now) from.entry)
             (bound_map (λ b. b.now) to.entry) m)) }
-        ensures most { IfOk result (λ s. s.most ≤ length (bytes self.now)) }
-        ensures kind { IfOk result (λ s. s.kind ≡ kind self.now) }
-        ensures bytes { IfOk result (λ s. s.bytes ≡ bytes self.now) }
+        ensures most { IfOk result (λ s. s.most ≤ length (Self.bytes self.now)) }
+        ensures kind { IfOk result (λ s. s.kind ≡ Self.kind self.now) }
+        ensures bytes { IfOk result (λ s. s.bytes ≡ Self.bytes self.now) }
     {
         let sorted = self.stream_sorted(alloc, from, to)?;
         Ok(ZeroTrieSortedIterator::new(sorted))
@@ -213,7 +224,8 @@ pub trait Search {
     /// It compares the edges at one place for each byte that it goes back or down. On malformed bytes
     /// the result is unspecified. An error means that an allocation failed.
     fn first_from(&self, alloc: Global, key: &[u8]) -> Result<Option<(Vec<u8>, usize)>, AllocError>
-        ensures { IfOk result (λ r. (m : Map) → Means (kind self.now) (bytes self.now) m
+        ensures { IfOk result (λ r. (m : Map)
+            → Means (Self.kind self.now) (Self.bytes self.now) m
             → option_map {U = List ℕ × ℕ} (λ p. (p.0.items, p.1)) r
             ≡ first_of (within (Included key.now) Unbounded m)) }
     {
@@ -234,7 +246,8 @@ pub trait Search {
     ///
     /// On malformed bytes the result is unspecified. An error means that an allocation failed.
     fn first_after(&self, alloc: Global, key: &[u8]) -> Result<Option<(Vec<u8>, usize)>, AllocError>
-        ensures { IfOk result (λ r. (m : Map) → Means (kind self.now) (bytes self.now) m
+        ensures { IfOk result (λ r. (m : Map)
+            → Means (Self.kind self.now) (Self.bytes self.now) m
             → option_map {U = List ℕ × ℕ} (λ p. (p.0.items, p.1)) r
             ≡ first_of (within (Excluded key.now) Unbounded m)) }
     {
@@ -257,7 +270,8 @@ pub trait Search {
     /// It costs what `first_from` does. On malformed bytes the result is unspecified. An error means
     /// that an allocation failed.
     fn last_before(&self, alloc: Global, key: &[u8]) -> Result<Option<(Vec<u8>, usize)>, AllocError>
-        ensures { IfOk result (λ r. (m : Map) → Means (kind self.now) (bytes self.now) m
+        ensures { IfOk result (λ r. (m : Map)
+            → Means (Self.kind self.now) (Self.bytes self.now) m
             → option_map {U = List ℕ × ℕ} (λ p. (p.0.items, p.1)) r
             ≡ last_of (within Unbounded (Excluded key.now) m)) }
     {
@@ -288,145 +302,15 @@ pub trait Search {
         from: Bound<&[u8]>,
         to: Bound<&[u8]>,
     ) -> Result<Option<(Vec<u8>, usize)>, AllocError>
-        ensures { IfOk result (λ r. (m : Map) → Means (kind self.now) (bytes self.now) m
+        ensures { IfOk result (λ r. (m : Map)
+            → Means (Self.kind self.now) (Self.bytes self.now) m
             → option_map {U = List ℕ × ℕ} (λ p. (p.0.items, p.1)) r
             ≡ last_of (within (bound_map (λ b. b.now) from.entry)
             (bound_map (λ b. b.now) to.entry) m)) }
     {
-        let (options, bytes) = self.parts();
+        let (options, bytes) = (options_of(self.trie_kind()), self.as_bytes());
         last_between(alloc, options, bytes, from, to)
     }
 }
 
-impl<K: AsciiKind, S: TrieStore> Search for AsciiTrie<K, S> {
-    ghost kind = { λ _. K.kind };
-
-    ghost bytes = { λ t. S.stored t.store };
-
-    fn parts(&self) -> (ZeroTrieBuilderOptions, &[u8]) {
-        (ZeroTrieBuilderOptions::of::<K>(), self.as_bytes())
-    }
-
-    fn search<T: Automaton>(&self, alloc: Global, automaton: T) -> ZeroTrieSearch<'_, T> {
-        ZeroTrieSearch::new(alloc, self.stream(alloc), automaton)
-    }
-
-    fn search_prefix<T: Automaton + Drop>(
-        &self,
-        alloc: Global,
-        prefix: &[u8],
-        automaton: T,
-    ) -> Result<ZeroTrieSearch<'_, T>, AllocError> {
-        let pairs = ZeroTrieStream::with_prefix::<K>(alloc, self.as_bytes(), prefix)?;
-        Ok(ZeroTrieSearch::new(alloc, pairs, automaton))
-    }
-
-    fn search_after<T: Automaton + Drop>(
-        &self,
-        alloc: Global,
-        prefix: &[u8],
-        key: &[u8],
-        automaton: T,
-    ) -> Result<ZeroTrieSearch<'_, T>, AllocError> {
-        let pairs = ZeroTrieStream::after::<K>(alloc, self.as_bytes(), prefix, key)?;
-        Ok(ZeroTrieSearch::new(alloc, pairs, automaton))
-    }
-}
-
-impl<K: HashedKind, S: TrieStore> Search for HashedTrie<K, S> {
-    ghost kind = { λ _. K.kind };
-
-    ghost bytes = { λ t. S.stored t.store };
-
-    fn parts(&self) -> (ZeroTrieBuilderOptions, &[u8]) {
-        (ZeroTrieBuilderOptions::of::<K>(), self.as_bytes())
-    }
-
-    fn search<T: Automaton>(&self, alloc: Global, automaton: T) -> ZeroTrieSearch<'_, T> {
-        ZeroTrieSearch::new(alloc, self.stream(alloc), automaton)
-    }
-
-    fn search_prefix<T: Automaton + Drop>(
-        &self,
-        alloc: Global,
-        prefix: &[u8],
-        automaton: T,
-    ) -> Result<ZeroTrieSearch<'_, T>, AllocError> {
-        let pairs = ZeroTrieStream::with_prefix::<K>(alloc, self.as_bytes(), prefix)?;
-        Ok(ZeroTrieSearch::new(alloc, pairs, automaton))
-    }
-
-    fn search_after<T: Automaton + Drop>(
-        &self,
-        alloc: Global,
-        prefix: &[u8],
-        key: &[u8],
-        automaton: T,
-    ) -> Result<ZeroTrieSearch<'_, T>, AllocError> {
-        let pairs = ZeroTrieStream::after::<K>(alloc, self.as_bytes(), prefix, key)?;
-        Ok(ZeroTrieSearch::new(alloc, pairs, automaton))
-    }
-}
-
-impl<S: TrieStore> Search for ZeroTrie<S> {
-    ghost kind = { λ t. flavor_kind t.flavor };
-
-    ghost bytes = { λ t. S.stored t.store };
-
-    fn parts(&self) -> (ZeroTrieBuilderOptions, &[u8]) {
-        let options = match self.flavor {
-            ZeroTrieFlavor::SimpleAscii => ZeroTrieBuilderOptions::of::<Simple>(),
-            ZeroTrieFlavor::PerfectHash => ZeroTrieBuilderOptions::of::<Hash>(),
-            ZeroTrieFlavor::ExtendedCapacity => ZeroTrieBuilderOptions::of::<Ext>(),
-        };
-        (options, self.as_bytes())
-    }
-
-    fn search<T: Automaton>(&self, alloc: Global, automaton: T) -> ZeroTrieSearch<'_, T> {
-        let pairs = self.stream(alloc);
-        ZeroTrieSearch::new(alloc, pairs, automaton)
-    }
-
-    fn search_prefix<T: Automaton + Drop>(
-        &self,
-        alloc: Global,
-        prefix: &[u8],
-        automaton: T,
-    ) -> Result<ZeroTrieSearch<'_, T>, AllocError> {
-        let bytes = self.as_bytes();
-        let pairs = match self.flavor {
-            ZeroTrieFlavor::SimpleAscii => {
-                ZeroTrieStream::with_prefix::<Simple>(alloc, bytes, prefix)?
-            }
-            ZeroTrieFlavor::PerfectHash => {
-                ZeroTrieStream::with_prefix::<Hash>(alloc, bytes, prefix)?
-            }
-            ZeroTrieFlavor::ExtendedCapacity => {
-                ZeroTrieStream::with_prefix::<Ext>(alloc, bytes, prefix)?
-            }
-        };
-        Ok(ZeroTrieSearch::new(alloc, pairs, automaton))
-    }
-
-    fn search_after<T: Automaton + Drop>(
-        &self,
-        alloc: Global,
-        prefix: &[u8],
-        key: &[u8],
-        automaton: T,
-    ) -> Result<ZeroTrieSearch<'_, T>, AllocError> {
-        let bytes = self.as_bytes();
-        let pairs = match self.flavor {
-            ZeroTrieFlavor::SimpleAscii => {
-                ZeroTrieStream::after::<Simple>(alloc, bytes, prefix, key)?
-            }
-            ZeroTrieFlavor::PerfectHash => {
-                ZeroTrieStream::after::<Hash>(alloc, bytes, prefix, key)?
-            }
-            ZeroTrieFlavor::ExtendedCapacity => {
-                ZeroTrieStream::after::<Ext>(alloc, bytes, prefix, key)?
-            }
-        };
-        Ok(ZeroTrieSearch::new(alloc, pairs, automaton))
-    }
-}
+impl<R: Trie> Search for R {}

@@ -22,7 +22,7 @@ pub record IsDiff (first second : Pairs) (diff : Entries Change) : Type 0 where
   pub ascends : KeysAscend diff
   pub changes : (key : List ℕ) → value_of key diff ≡ change (value_of key first) (value_of key second)
 
--- where a diff stands: the current key with its change, and what is left
+-- the state of a diff: the current key with its change, and what is left
 pub record Differing : Type 0 where
   pub current : List ℕ × Change
   pub left : Coming (List ℕ × Change)

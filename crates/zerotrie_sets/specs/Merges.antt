@@ -55,7 +55,7 @@ abbrev pub KeysAscend : {V : Type 0} → Entries V → Type 0
 KeysAscend [] = Unit {0}
 KeysAscend (e ∷ entries) = FirstKeyAbove e.0 entries × KeysAscend entries
 
--- where a merge stands: the current row, and what is left
+-- the state of a merge: the current row, and what is left
 pub record Merging : Type 0 where
   pub current : List ℕ × Both ℕ ℕ
   pub left : Coming (List ℕ × Both ℕ ℕ)

@@ -11,7 +11,7 @@ use Rattle.zerotrie_sets.specs.Merges.{Entries, joined, chosen, value_of, KeysAs
 abbrev pub Values : Type 0
 Values = List (Option ℕ)
 
--- so many inputs have nothing
+-- this many inputs have nothing
 abbrev pub nothing : ℕ → Values
 nothing zero = []
 nothing (suc n) = None ∷ nothing n
@@ -54,7 +54,7 @@ abbrev pub last_of : Values → Option ℕ
 last_of [] = None
 last_of (value ∷ values) = option_or (last_of values) value
 
--- where a merge of many stands: the current row, and what is left
+-- the state of a merge of many: the current row, and what is left
 pub record MergingAll : Type 0 where
   pub current : List ℕ × Values
   pub left : Coming (List ℕ × Values)

@@ -1,4 +1,4 @@
--- Streams of pairs and of rows: where they stand, and the result of a call of `advance`.
+-- Streams of pairs and of rows: their states, and the result of a call of `advance`.
 use Rattle.std.specs.Prelude.{◌≡◌, ℕ, ◌+◌, List, [], ◌∷◌, length, Bool, true, false, if◌then◌else◌, Option, Some, None, Result, Ok, Err}
 use Rattle.std.specs.List.{slice_get}
 use Rattle.std.specs.Option.{option_map_or}
@@ -9,7 +9,7 @@ use Rattle.std.specs.declared.alloc.AllocError.{AllocError}
 use Rattle.zerotrie_core.specs.declared.listing.ListError.{ListError}
 use Rattle.zerotrie_core.specs.declared.listing.ListError.TheVariants.{OutOfMemory}
 
--- where a stream stands: the current pair, and what is left
+-- the state of a stream: the current pair, and what is left
 pub record Stand : Type 0 where
   pub current : List ℕ × ℕ
   pub left : Left

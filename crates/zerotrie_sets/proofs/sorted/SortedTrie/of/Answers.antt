@@ -19,7 +19,7 @@ pub returns-clause-valid : goal.returns-clause-valid
 returns-clause-valid g c =
     let found = c.validated.result in
     let pairs = c.in_ok-pairs.pairs in
-    subst (λ kind. IsSome found ↔ IsWellFormed kind (g.T.Search.bytes c.args.trie.now)) c.in_ok-pairs.ensures.kind
+    subst (λ kind. IsSome found ↔ IsWellFormed kind (g.T.Trie.bytes c.args.trie.now)) c.in_ok-pairs.ensures.kind
     (subst (λ bytes. IsSome found ↔ IsWellFormed pairs.kind bytes) c.in_ok-pairs.ensures.bytes c.validated.ensures.valid)
 
 pub returns-clause-lists : goal.returns-clause-lists
