@@ -8,7 +8,8 @@ use Rattle.std.proofs.lemmas.List.Concat.{flat_map-cons}
 use Rattle.zerotrie_base.specs.Kind.{simple_ascii}
 use Rattle.zerotrie_base.specs.Maps.{Pairs, same_key, value_at}
 use Rattle.zerotrie_base.proofs.MapLemmas.Values.{value_at-append}
-use Rattle.zerotrie_index.specs.Layout.{hash_of, place_of, mark_of, AreRecords, IsAt, AreBuckets, IsIndex}
+use Rattle.zerotrie_index.specs.Hash.{hash_of}
+use Rattle.zerotrie_index.specs.Layout.{place_of, mark_of, AreRecords, IsAt, AreBuckets, IsIndex}
 use Rattle.zerotrie_index.proofs.RecordLemmas.{found_later}
 
 -- no pair has a key that is not as all keys are

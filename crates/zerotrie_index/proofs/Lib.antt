@@ -1,5 +1,6 @@
 mod AscendLemmas
 mod BucketLemmas
+mod HashLemmas
 mod LentLemmas
 mod PermutedLemmas
 mod RecordLemmas

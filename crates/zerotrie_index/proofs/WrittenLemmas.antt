@@ -15,7 +15,8 @@ use Rattle.std.specs.Int.{bit_at}
 use Rattle.std.proofs.lemmas.List.Concat.{flat_map-append, flat_map-cons}
 use Rattle.zerotrie_base.specs.Maps.{Pairs, Ascends, RepeatsKey}
 use Rattle.zerotrie_base.proofs.CallerLemmas.{spelling_is, ascends_apart}
-use Rattle.zerotrie_index.specs.Layout.{word, hash_of, place_of, mark_of, bucket_limit, AreRecords, IsAt, AreBuckets, IsIndex}
+use Rattle.zerotrie_index.specs.Hash.{hash_of}
+use Rattle.zerotrie_index.specs.Layout.{word, place_of, mark_of, bucket_limit, AreRecords, IsAt, AreBuckets, IsIndex}
 use Rattle.zerotrie_index.specs.Hashed.{hashed_pairs, IsHashed, Rises, IsRecord}
 use Rattle.zerotrie_index.specs.Built.{record_size, records_size, IsTooLong, crowd, IsCrowded, CauseWith, IndexCause, AreWritten, IsIndexOf, IsIndexBuild, IsSortedIndexBuild, IsIndexBuildOfAll}
 use Rattle.zerotrie_index.specs.declared.error.ZeroIndexBuildError.{ZeroIndexBuildError}

@@ -5,7 +5,8 @@ use Rattle.std.specs.List.Sorted.{IsPermutation}
 use Rattle.zerotrie_base.specs.Kind.{simple_ascii}
 use Rattle.zerotrie_base.specs.Maps.{Pairs, Ascends, RepeatsKey, value_at}
 use Rattle.zerotrie_base.specs.Numbers.{spelled}
-use Rattle.zerotrie_index.specs.Layout.{word, hash_of, place_of, bucket_limit, AreBuckets, IsIndex}
+use Rattle.zerotrie_index.specs.Hash.{golden, hash_of}
+use Rattle.zerotrie_index.specs.Layout.{word, place_of, bucket_limit, AreBuckets, IsIndex}
 use Rattle.zerotrie_index.specs.declared.error.ZeroIndexBuildError.{ZeroIndexBuildError}
 use Rattle.zerotrie_index.specs.declared.error.ZeroIndexBuildError.TheVariants.{Unsorted, DuplicateKey, Crowded, CapacityExceeded, OutOfMemory}
 
@@ -38,7 +39,7 @@ IsIndexOf given bytes = (pairs : Pairs) × IsIndex pairs bytes × IsPermutation 
 abbrev pub bucket_count : Pairs → ℕ
 bucket_count pairs = max (2 * length pairs) 1
 
--- the seeds that a build tries, one after another from the first on
+-- how many seeds a build tries: from the first on, each the one before and `golden`
 abbrev pub seeds_tried : ℕ
 seeds_tried = 8
 
@@ -60,7 +61,7 @@ CauseWith Crowd pairs OutOfMemory = Unit {0}
 
 -- what holds of the pairs if a build of their index fails, which tries seeds from the first one on
 abbrev pub IndexCause : ℕ → Pairs → ZeroIndexBuildError → Type 0
-IndexCause first pairs e = CauseWith ((k : ℕ) → k < seeds_tried → IsCrowded ((first + k) % 2 ^ 64) (bucket_count pairs) pairs) pairs e
+IndexCause first pairs e = CauseWith ((k : ℕ) → k < seeds_tried → IsCrowded ((first + k * golden) % 2 ^ 64) (bucket_count pairs) pairs) pairs e
 
 -- the result is an index of the pairs, or an error whose cause holds
 abbrev pub IsIndexBuild : {B : Type 0} → ℕ → (B → List ℕ) → Pairs → Result B ZeroIndexBuildError → Type 0

@@ -2,7 +2,8 @@
 use Rattle.std.specs.Prelude.{◌≡◌, ℕ, ◌^◌, ◌<◌, ◌≤◌, ◌++◌, List, [], ◌∷◌, length, map, All}
 use Rattle.zerotrie_base.specs.Maps.{Pairs}
 use Rattle.zerotrie_base.specs.Numbers.{Spells}
-use Rattle.zerotrie_index.specs.Layout.{word, hash_of}
+use Rattle.zerotrie_index.specs.Hash.{hash_of}
+use Rattle.zerotrie_index.specs.Layout.{word}
 use Rattle.zerotrie_index.specs.declared.builder.Hashed.{Hashed}
 
 -- the pairs alone

@@ -2,17 +2,13 @@
 use Rattle.std.specs.Prelude.{◌≡◌, ℕ, ◌+◌, ◌*◌, ◌/◌, ◌%◌, ◌^◌, ◌<◌, ◌≤◌, List, [], ◌∷◌, ◌++◌, length, suc, All}
 use Rattle.std.specs.List.{flat_map}
 use Rattle.std.specs.Int.{to_le_bytes, w64}
-use Rattle.std.specs.Hash.FoldHasher.{initial, write, finish}
 use Rattle.zerotrie_base.specs.Numbers.{BeginsWith}
 use Rattle.zerotrie_base.specs.Maps.{Pairs, RepeatsKey}
+use Rattle.zerotrie_index.specs.Hash.{hash_of}
 
 -- the eight bytes of a number, the lowest first
 unfoldable pub word : ℕ → List ℕ
 word n = to_le_bytes w64 n
-
--- the hash of a key: std's hasher is given a seed, and then the key
-unfoldable pub hash_of : ℕ → List ℕ → ℕ
-hash_of seed key = finish (write (write initial (word seed)) key)
 
 -- the number of a hash's bucket
 abbrev pub place_of : ℕ → ℕ → ℕ

@@ -1,3 +1,4 @@
+pub mod Hash
 pub mod Layout
 pub mod Hashed
 pub mod Built

@@ -12,7 +12,8 @@ ghost use Rattle.zerotrie_index.specs.Built.{records_size, bucket_count, IsTooLo
 ghost use Rattle.zerotrie_index.specs.declared.error.ZeroIndexBuildError.TheVariants.{DuplicateKey, Crowded};
 
 use crate::error::ZeroIndexBuildError;
-use crate::reader::{bucket_of, hash_with};
+use crate::hash::{GOLDEN, hash_of};
+use crate::reader::bucket_of;
 use std::alloc::{AllocError, Allocator, Global};
 use zerotrie_base::{TrieKey, write_varint_meta2};
 
@@ -70,7 +71,7 @@ fn hashed_of<K: TrieKey, A: Allocator>(
     for (key, value) in items {
         let key = key.key_bytes();
         hashed.push(Hashed {
-            hash: hash_with(seed, key),
+            hash: hash_of(seed, key),
             key,
             value: *value,
         })?;
@@ -264,6 +265,17 @@ fn build_under<K: TrieKey, A: Allocator + Copy>(
 
 /// Returns the bytes of an index of a slice in any order. Tries `SEEDS_TRIED` seeds from this one
 /// on.
+///
+/// ```
+/// let index = build(rt.alloc(), 0, &[("ad", 22), ("adef", 33)])?;
+/// let (head, rest) = index.as_slice().split_at(16);
+/// let (entries, pool) = rest.split_at(40);
+/// assert_eq!(rt; head, b"\0\0\0\0\0\0\0\0\x04\0\0\0\0\0\0\0");
+/// assert_eq!(rt; &entries[..16], b"\x40\0\0\0\0\0\0\0\0\x40\0\0\x0B\0\0\0");
+/// assert_eq!(rt; &entries[16..32], b"\0\0\0\0\x18\0\0\0\0\0\0\0\x18\0\0\0");
+/// assert_eq!(rt; &entries[32..], b"\0\0\0\0\x18\0\0\0");
+/// assert_eq!(rt; pool, b"\x02\x16\0\0\0\0\0\0\0ad\x04\x21\0\0\0\0\0\0\0adef");
+/// ```
 pub fn build<K: TrieKey, A: Allocator + Copy>(
     alloc: A,
     seed: u64,
@@ -275,7 +287,12 @@ pub fn build<K: TrieKey, A: Allocator + Copy>(
         return Err(ZeroIndexBuildError::CapacityExceeded);
     };
     for tried in 0..SEEDS_TRIED {
-        match build_under(alloc, seed.wrapping_add(tried), count.max(1), items) {
+        match build_under(
+            alloc,
+            seed.wrapping_add(tried.wrapping_mul(GOLDEN)),
+            count.max(1),
+            items,
+        ) {
             Err(ZeroIndexBuildError::Crowded) => {}
             done => return done,
         }

@@ -59,7 +59,7 @@ fn items_of<'a>(
 }
 
 /// Takes the pairs of an index one after another, in any order, and copies their keys. A listing of
-/// a trie can lend it each pair.
+/// a trie can give it each pair.
 ///
 /// ```
 /// let mut builder = ZeroIndexBuilder::new(rt.alloc());

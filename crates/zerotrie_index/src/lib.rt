@@ -3,6 +3,7 @@
 
 mod builder;
 mod error;
+mod hash;
 mod index;
 pub mod laws;
 mod lent;
@@ -12,6 +13,7 @@ mod well_formed;
 
 pub use builder::{BUCKET_LIMIT, SEEDS_TRIED, build, build_all, build_sorted};
 pub use error::{NotAnIndex, ZeroIndexBuildError};
+pub use hash::hash_of;
 pub use index::ZeroIndex;
 pub use lent::ZeroIndexBuilder;
 pub use reader::get;

@@ -5,21 +5,11 @@ ghost use Rattle.std.specs.List.{flat_map};
 ghost use Rattle.zerotrie_base.specs.Kind.{simple_ascii};
 ghost use Rattle.zerotrie_base.specs.Numbers.{BeginsWith};
 ghost use Rattle.zerotrie_base.specs.Maps.{Pairs, value_at};
-ghost use Rattle.zerotrie_index.specs.Layout.{word, hash_of, place_of, mark_of, AreRecords, IsIndex};
+ghost use Rattle.zerotrie_index.specs.Hash.{hash_of};
+ghost use Rattle.zerotrie_index.specs.Layout.{word, place_of, mark_of, AreRecords, IsIndex};
 
-use std::hash::{FoldHasher, Hasher};
+use crate::hash::hash_of;
 use zerotrie_base::read_varint_meta2;
-
-/// Returns the hash of a key under a seed.
-#[inline(always)]
-pub(crate) fn hash_with(seed: u64, key: &[u8]) -> u64
-    ensures { result ≡ hash_of seed key.now }
-{
-    let mut hasher = FoldHasher::default();
-    hasher.write(&seed.to_le_bytes());
-    hasher.write(key);
-    hasher.finish()
-}
 
 /// Returns the number of a hash's bucket.
 #[inline(always)]
@@ -162,7 +152,7 @@ pub fn get(bytes: &[u8], key: &[u8]) -> Option<usize>
         → result ≡ value_at simple_ascii pairs key.now }
 {
     let parts = parts_of(bytes)?;
-    let hash = hash_with(parts.seed, key);
+    let hash = hash_of(parts.seed, key);
     let number = bucket_of(parts.count, hash) as usize;
     let entry = entry_at(parts.table, number)?;
     if (entry >> (hash % 32)) % 2 == 0 {

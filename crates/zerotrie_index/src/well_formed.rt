@@ -6,7 +6,8 @@ ghost use Rattle.zerotrie_index.specs.Layout.{IsAt, IsIndex};
 ghost use Rattle.zerotrie_index.specs.Valid.{IsBucket, AreAll};
 
 use crate::builder::BUCKET_LIMIT;
-use crate::reader::{bucket_of, find_in, hash_with, parts_of, read_record, read_word};
+use crate::hash::hash_of;
+use crate::reader::{bucket_of, find_in, parts_of, read_record, read_word};
 
 /// Where a bucket is.
 #[derive(Clone, Copy)]
@@ -21,7 +22,7 @@ struct Place {
 fn is_at(place: Place, key: &[u8]) -> bool
     ensures { IsTrue result ↔ IsAt place.seed place.count place.number place.entry key.now }
 {
-    let hash = hash_with(place.seed, key);
+    let hash = hash_of(place.seed, key);
     bucket_of(place.count, hash) == place.number && (place.entry >> (hash % 32)) % 2 == 1
 }
 

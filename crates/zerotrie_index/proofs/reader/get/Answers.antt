@@ -9,28 +9,28 @@ returns-in_err-parts c pairs is = absurd (c.in_err-parts.ensures.first pairs is)
 pub returns-in_err-entry : goal.returns-in_err-entry
 returns-in_err-entry c pairs is =
     let parts = c.in_ok-parts.ensures.first pairs is in
-    let h = has pairs c.args.bytes.now is c.args.key.now _ _ _ _ parts.0 parts.1 c.hash_with-hash.ensures c.hash_with-hash.type_inv c.bucket_of-number.ensures in
+    let h = has pairs c.args.bytes.now is c.args.key.now _ _ _ _ parts.0 parts.1 c.hash_of-hash.ensures c.hash_of-hash.type_inv c.bucket_of-number.ensures in
     absurd (let e = c.in_err-entry.ensures is.entries parts.2 is.entries_below h.inside in cc)
 
 pub returns-then-entry-hash-eq0 : goal.returns-then-entry-hash-eq0
 returns-then-entry-hash-eq0 c pairs is =
     let parts = c.in_ok-parts.ensures.first pairs is in
-    let h = has pairs c.args.bytes.now is c.args.key.now _ _ _ _ parts.0 parts.1 c.hash_with-hash.ensures c.hash_with-hash.type_inv c.bucket_of-number.ensures in
+    let h = has pairs c.args.bytes.now is c.args.key.now _ _ _ _ parts.0 parts.1 c.hash_of-hash.ensures c.hash_of-hash.type_inv c.bucket_of-number.ensures in
     let e = c.in_ok-entry.ensures is.entries parts.2 is.entries_below h.inside in
     let entry : c.in_ok-entry.entry ≡ get_or is.entries c.bucket_of-number.result 0 = cc in
-    let none : mark_of c.in_ok-entry.entry c.hash_with-hash.result ≡ 0 = search rules in
-    sym (h.unmarked (ap (λ x. mark_of x c.hash_with-hash.result) (sym entry) ∙ none))
+    let none : mark_of c.in_ok-entry.entry c.hash_of-hash.result ≡ 0 = search rules in
+    sym (h.unmarked (ap (λ x. mark_of x c.hash_of-hash.result) (sym entry) ∙ none))
 
 pub returns-in_err-next : goal.returns-in_err-next
 returns-in_err-next c pairs is =
     let parts = c.in_ok-parts.ensures.first pairs is in
-    let h = has pairs c.args.bytes.now is c.args.key.now _ _ _ _ parts.0 parts.1 c.hash_with-hash.ensures c.hash_with-hash.type_inv c.bucket_of-number.ensures in
+    let h = has pairs c.args.bytes.now is c.args.key.now _ _ _ _ parts.0 parts.1 c.hash_of-hash.ensures c.hash_of-hash.type_inv c.bucket_of-number.ensures in
     absurd (let e = c.in_err-next.ensures is.entries parts.2 is.entries_below (let n = h.next_inside in omega arith) in cc)
 
 pub returns-in_err-records : goal.returns-in_err-records
 returns-in_err-records c pairs is =
     let parts = c.in_ok-parts.ensures.first pairs is in
-    let h = has pairs c.args.bytes.now is c.args.key.now _ _ _ _ parts.0 parts.1 c.hash_with-hash.ensures c.hash_with-hash.type_inv c.bucket_of-number.ensures in
+    let h = has pairs c.args.bytes.now is c.args.key.now _ _ _ _ parts.0 parts.1 c.hash_of-hash.ensures c.hash_of-hash.type_inv c.bucket_of-number.ensures in
     let e = c.in_ok-entry.ensures is.entries parts.2 is.entries_below h.inside in
     let entry : c.in_ok-entry.entry ≡ get_or is.entries c.bucket_of-number.result 0 = cc in
     let f = c.in_ok-next.ensures is.entries parts.2 is.entries_below (let n = h.next_inside in omega arith) in
@@ -43,7 +43,7 @@ returns-in_err-records c pairs is =
 pub returns : goal.returns
 returns c pairs is =
     let parts = c.in_ok-parts.ensures.first pairs is in
-    let h = has pairs c.args.bytes.now is c.args.key.now _ _ _ _ parts.0 parts.1 c.hash_with-hash.ensures c.hash_with-hash.type_inv c.bucket_of-number.ensures in
+    let h = has pairs c.args.bytes.now is c.args.key.now _ _ _ _ parts.0 parts.1 c.hash_of-hash.ensures c.hash_of-hash.type_inv c.bucket_of-number.ensures in
     let e = c.in_ok-entry.ensures is.entries parts.2 is.entries_below h.inside in
     let entry : c.in_ok-entry.entry ≡ get_or is.entries c.bucket_of-number.result 0 = cc in
     let f = c.in_ok-next.ensures is.entries parts.2 is.entries_below (let n = h.next_inside in omega arith) in
