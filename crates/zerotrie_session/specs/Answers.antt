@@ -1,4 +1,4 @@
--- Which output and status answer an input.
+-- Which output and status belong to an input.
 use Rattle.std.specs.Prelude.{◌≢◌, ℕ, ◌+◌, List, [], ◌∷◌, ◌++◌, max, Option, Some, None}
 use Rattle.zerotrie.specs.Kind.{Kind}
 use Rattle.zerotrie.specs.Maps.{Pairs, map_of, look}
@@ -9,7 +9,7 @@ use Rattle.zerotrie.specs.Routes.{any_order, Takes, IsRefusal}
 use Rattle.zerotrie.specs.declared.ZeroTrieBuildError.{ZeroTrieBuildError}
 use Rattle.std.specs.FinMap.{entries}
 use Rattle.zerotrie_session.specs.declared.command.Choice.{Choice}
-use Rattle.zerotrie_session.specs.declared.command.Choice.TheVariants.{Simple, Ignore, Hash, Ext, Auto}
+use Rattle.zerotrie_session.specs.declared.command.Choice.TheVariants.{Named, Auto}
 use Rattle.zerotrie_session.specs.Lines.{lines_of}
 use Rattle.zerotrie_session.specs.Commands.{Command, choose, add, build, query, list, walk, IsCommand, kind_of}
 use Rattle.zerotrie_session.specs.Replies.{ok_line, refused_line, number_line, list_lines, walk_line, bad_line}
@@ -24,7 +24,7 @@ pub record State : Type 0 where
   pub text : List ℕ
   pub built : Pairs
 
--- the pairs with the empty trie, as after the choice and after a build that was refused
+-- the pairs with the empty trie, as after the choice and after a build that failed
 abbrev pub without_trie : Choice → Pairs → State
 without_trie choice pairs = record { choice = choice; pairs = pairs; kind = kind_of choice []; text = []; built = [] }
 
@@ -34,10 +34,7 @@ with_trie choice pairs text = record { choice = choice; pairs = pairs; kind = ki
 
 -- the pairs of a text in the order in which they are printed, which is that of the text, or of the bytes of their keys
 abbrev pub in_order : Choice → Pairs → Pairs
-in_order Simple pairs = pairs
-in_order Ignore pairs = pairs
-in_order Hash pairs = pairs
-in_order Ext pairs = pairs
+in_order (Named kind) pairs = pairs
 in_order Auto pairs = entries (map_of pairs)
 
 -- Before the first choice only a choice can be made, and a walk only if the choice names a kind.
@@ -62,7 +59,7 @@ pub data Does : Option State → Command → List ℕ → ℕ → Option State �
   added : {s : State} {value : ℕ} {key : List ℕ} → Does (Some s) (add value key) [] 0 (Some (record s { pairs = s.pairs ++ (key, value) ∷ [] }))
   -- a build takes all pairs, and its trie the place of the one before
   ok : {s : State} {text : List ℕ} → Takes any_order s.pairs → IsBuilt (kind_of s.choice s.pairs) s.pairs text → Does (Some s) build (ok_line text) 0 (Some (with_trie s.choice s.pairs text))
-  -- after a build that was refused the trie is empty
+  -- after a build that failed the trie is empty
   refused : {s : State} {error : ZeroTrieBuildError} → IsRefusal any_order (kind_of s.choice s.pairs) s.pairs error → Does (Some s) build (refused_line error) 1 (Some (without_trie s.choice s.pairs))
   -- an answer is that of the map that the trie's text means, which is the map of the pairs it was built from
   asked : {s : State} {key : List ℕ} → Means s.kind s.text (map_of s.built) → Does (Some s) (query key) (number_line (look s.kind (map_of s.built) key)) 0 (Some s)
@@ -79,6 +76,6 @@ pub data AnswersLines : ℕ → Option State → List (List ℕ) → List ℕ �
   does : {n least status : ℕ} {held after : Option State} {line : List ℕ} {command : Command} {lines : List (List ℕ)} {printed output : List ℕ} → IsCommand line command → Does held command printed least after → AnswersLines (n + 1) after lines output status → AnswersLines n held (line ∷ lines) (printed ++ output) (max least status)
   bad : {n : ℕ} {held : Option State} {line : List ℕ} {lines : List (List ℕ)} → line ≢ [] → ((command : Command) → IsCommand line command → CanDo held command → ⊥) → AnswersLines n held (line ∷ lines) (bad_line n) 2
 
--- The output and the status answer the input.
+-- The output and the status belong to the input.
 abbrev pub Answers : List ℕ → List ℕ → ℕ → Type 0
 Answers input output status = AnswersLines 1 None (lines_of input) output status

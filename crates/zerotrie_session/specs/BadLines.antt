@@ -13,7 +13,7 @@ use Rattle.zerotrie_session.specs.declared.command.BadLine.TheVariants.{Carriage
 abbrev pub IsNoCommand : List ℕ → Type 0
 IsNoCommand line = (command : Command) → IsCommand line command → ⊥
 
--- a carriage return stands at the line's end
+-- the line ends in a carriage return
 abbrev pub EndsInReturn : List ℕ → Type 0
 EndsInReturn line = (front : List ℕ) × (line ≡ front ++ 13 ∷ [])
 
@@ -34,7 +34,7 @@ IsNoNumber digits NoCall = ⊥
 IsNoNumber digits NoKind = ⊥
 IsNoNumber digits WalkUnderAuto = ⊥
 
--- why a line that begins as a pair does is none: what stands before the first space is no number
+-- why a line that begins as a pair does is none: what is before the first space is no number
 abbrev pub IsNoPair : List ℕ → BadLine → Type 0
 IsNoPair line bad = HasBehind (codes "+ ") (λ text. IsNoNumber (before_first (λ b. b == 32) text) bad) line
 

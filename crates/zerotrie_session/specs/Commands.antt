@@ -1,28 +1,24 @@
 -- Which lines are commands.
 use Rattle.std.specs.Prelude.{◌≡◌, ℕ, ◌⊎◌, List, [], ◌∷◌, ◌++◌, codes}
-use Rattle.zerotrie.specs.Kind.{Kind, simple_ascii, ignore_case, perfect_hash, extended_capacity}
+use Rattle.zerotrie.specs.Kind.{Kind}
+use Rattle.zerotrie_base.specs.Kinds as kinds
+use Rattle.zerotrie_base.specs.Kinds.{kind_name}
 use Rattle.zerotrie.specs.Maps.{Pairs}
 use Rattle.zerotrie.specs.Auto.{auto_kind}
 use Rattle.zerotrie.specs.Machine.{Op}
 use Rattle.zerotrie_session.specs.Numbers.{IsNumber}
 use Rattle.zerotrie_session.specs.Calls.{AreOps, words_of}
 use Rattle.zerotrie_session.specs.declared.command.Choice.{Choice}
-use Rattle.zerotrie_session.specs.declared.command.Choice.TheVariants.{Simple, Ignore, Hash, Ext, Auto}
+use Rattle.zerotrie_session.specs.declared.command.Choice.TheVariants.{Named, Auto}
 
 -- the name of a choice
 abbrev pub name_of : Choice → List ℕ
-name_of Simple = codes "simple"
-name_of Ignore = codes "ignore"
-name_of Hash = codes "hash"
-name_of Ext = codes "ext"
+name_of (Named kind) = kind_name kind
 name_of Auto = codes "auto"
 
 -- the kind of the trie that a choice takes for the pairs
 abbrev pub kind_of : Choice → Pairs → Kind
-kind_of Simple pairs = simple_ascii
-kind_of Ignore pairs = ignore_case
-kind_of Hash pairs = perfect_hash
-kind_of Ext pairs = extended_capacity
+kind_of (Named kind) pairs = kinds.kind_of kind
 kind_of Auto pairs = auto_kind pairs
 
 pub data Command : Type 0 where
@@ -33,7 +29,7 @@ pub data Command : Type 0 where
   list : Command
   walk : (ops : List Op) → Command
 
--- The line is the words, a space and the key. The words alone stand for the empty key too.
+-- The line is the words, a space and the key. The words alone are the empty key too.
 abbrev pub HasKey : List ℕ → List ℕ → List ℕ → Type 0
 HasKey words key line = ((line ≡ words) × (key ≡ [])) ⊎ (line ≡ words ++ 32 ∷ key)
 

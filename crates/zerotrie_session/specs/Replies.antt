@@ -20,7 +20,7 @@ abbrev pub hex_digits : List ℕ → List ℕ
 hex_digits [] = []
 hex_digits (b ∷ bytes) = hex_digit (b / 16) ∷ hex_digit (b % 16) ∷ hex_digits bytes
 
--- bytes in hexadecimal; a dash stands for none
+-- bytes in hexadecimal, or a dash if there are none
 abbrev pub hex : List ℕ → List ℕ
 hex [] = codes "-"
 hex (b ∷ bytes) = hex_digits (b ∷ bytes)
@@ -60,7 +60,7 @@ abbrev pub list_lines : Pairs → List ℕ
 list_lines [] = []
 list_lines (e ∷ pairs) = pair_line e ++ list_lines pairs
 
--- an answer of a cursor; a dash stands for none
+-- an answer of a cursor, or a dash if there is none
 abbrev pub answer_word : Answer → List ℕ
 answer_word (stepped None) = codes "s-"
 answer_word (stepped (Some b)) = codes "s" ++ hex (b ∷ [])
@@ -69,7 +69,7 @@ answer_word (taken (Some value)) = codes "t" ++ decimal value
 answer_word (probed None) = codes "p-"
 answer_word (probed (Some e)) = codes "p" ++ hex (e.0 ∷ []) ++ codes "/" ++ decimal e.1
 
--- each answer with a space in front
+-- each answer after a space
 abbrev pub spaced_answers : List Answer → List ℕ
 spaced_answers [] = []
 spaced_answers (answer ∷ answers) = codes " " ++ answer_word answer ++ spaced_answers answers

@@ -12,7 +12,7 @@ ghost use Rattle.zerotrie_session.specs.answer.Sessions.{HasState, AfterLine, Af
 
 use crate::command::{BadLine, Choice, Request, parse};
 use crate::reply::{write_bad, write_number, write_ok, write_refused, write_walk};
-use crate::trie::Trie;
+use crate::trie::ChosenTrie;
 use std::alloc::{AllocError, Global};
 use zerotrie::CursorOp;
 
@@ -38,7 +38,7 @@ enum Outcome {
 struct Session<'a> {
     choice: Choice,
     pairs: Vec<(&'a [u8], usize)>,
-    trie: Trie,
+    trie: ChosenTrie,
 }
 
 impl<'a> Session<'a> {
@@ -48,7 +48,7 @@ impl<'a> Session<'a> {
         Session {
             choice,
             pairs: Vec::new(alloc),
-            trie: Trie::empty(alloc, choice),
+            trie: ChosenTrie::empty(alloc, choice),
         }
     }
 
@@ -65,8 +65,8 @@ impl<'a> Session<'a> {
         ensures { IfOk result (AfterRequest build self.old self.new
             (string_bytes output.old) (string_bytes output.new)) }
     {
-        self.trie = Trie::empty(alloc, self.choice);
-        match Trie::build(alloc, self.choice, self.pairs.as_slice()) {
+        self.trie = ChosenTrie::empty(alloc, self.choice);
+        match ChosenTrie::build(alloc, self.choice, self.pairs.as_slice()) {
             Ok(trie) => {
                 self.trie = trie;
                 write_ok(output, self.trie.as_bytes())?;

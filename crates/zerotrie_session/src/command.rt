@@ -12,20 +12,14 @@ ghost use Rattle.zerotrie_session.specs.answer.Parsing.{meaning};
 
 use std::alloc::{AllocError, Global};
 use thiserror::Error;
-use zerotrie::CursorOp;
+use zerotrie::{CursorOp, TrieKind};
 
-/// A kind of trie, as a `kind` line names it.
+/// A choice of a kind of trie, as a `kind` line names it.
 #[derive(Clone, Copy, PartialEq, Eq, Debug)]
 pub enum Choice {
-    /// `simple`: keys are ASCII.
-    Simple,
-    /// `ignore`: keys are ASCII and are looked up without the case of letters.
-    Ignore,
-    /// `hash`: keys have any bytes.
-    Hash,
-    /// `ext`: keys have any bytes, and a branch may have targets of any length.
-    Ext,
-    /// `auto`: like `simple` if all keys are ASCII and there are fewer than 512, else like `hash`.
+    /// `simple`, `ignore`, `hash` or `ext`.
+    Named(TrieKind),
+    /// `auto`: `simple` if all keys are ASCII and there are fewer than 512, else `hash`.
     Auto,
 }
 
@@ -107,12 +101,8 @@ fn parse_digit(digit: u8) -> Option<u8>
     ensures some { IfSome result (IsHexDigit digit) }
     ensures none { IfNone result ((n : ℕ) → IsHexDigit digit n → ⊥) }
 {
-    match digit {
-        b'0'..=b'9' => Some(digit - b'0'),
-        b'a'..=b'f' => Some(digit - b'a' + 10),
-        b'A'..=b'F' => Some(digit - b'A' + 10),
-        _ => None,
-    }
+    let value = (digit as char).to_digit(16)?;
+    Some(value as u8)
 }
 
 /// Parses two hexadecimal digits.
@@ -172,19 +162,19 @@ fn parse_ops(alloc: Global, text: &[u8]) -> Result<Option<Vec<CursorOp>>, AllocE
     Ok(Some(ops))
 }
 
-/// Returns the kind with this name.
+/// Returns the choice with this name.
 fn choice_named(name: &[u8]) -> Option<Choice>
     ensures some { IfSome result (λ choice. name.now ≡ name_of choice) }
     ensures none { IfNone result ((choice : Choice) → name.now ≡ name_of choice → ⊥) }
 {
     if name == b"simple".as_slice() {
-        Some(Choice::Simple)
+        Some(Choice::Named(TrieKind::Simple))
     } else if name == b"ignore".as_slice() {
-        Some(Choice::Ignore)
+        Some(Choice::Named(TrieKind::Ignore))
     } else if name == b"hash".as_slice() {
-        Some(Choice::Hash)
+        Some(Choice::Named(TrieKind::Hash))
     } else if name == b"ext".as_slice() {
-        Some(Choice::Ext)
+        Some(Choice::Named(TrieKind::Ext))
     } else if name == b"auto".as_slice() {
         Some(Choice::Auto)
     } else {

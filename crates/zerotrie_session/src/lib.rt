@@ -8,5 +8,6 @@ mod reply;
 mod running;
 mod trie;
 
+pub use command::BadLine;
 pub use noted::Noted;
-pub use running::{RunError, run};
+pub use running::{Ended, RunError, run, run_explained};

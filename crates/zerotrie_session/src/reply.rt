@@ -6,10 +6,11 @@ ghost use Rattle.zerotrie.specs.Walks.{answer_of, answers_of};
 ghost use Rattle.zerotrie.specs.Items.{keyed};
 ghost use Rattle.zerotrie.specs.Maps.{Pairs};
 ghost use Rattle.zerotrie.specs.Texts.{Lists};
+ghost use Rattle.zerotrie_base.specs.Kinds.{kind_of};
 
 use std::alloc::{AllocError, Global};
 use std::collections::BTreeMap;
-use zerotrie::{CursorAnswer, ZeroTrieBuildError, ZeroTrieStream, ZeroTrieWithOptions};
+use zerotrie::{CursorAnswer, Trie, TrieRef, ZeroTrieBuildError};
 
 /// Writes bytes in hexadecimal, or a dash if there are none.
 fn write_hex(output: &mut String, bytes: &[u8]) -> Result<(), AllocError>
@@ -128,16 +129,12 @@ pub fn write_bad(output: &mut String, line_number: usize) -> Result<(), AllocErr
     writeln!(output, "bad line {line_number}")
 }
 
-/// Writes the pairs of a trie of the kind, in the order of its nodes.
-pub fn write_pairs<K: ZeroTrieWithOptions>(
-    alloc: Global,
-    bytes: &[u8],
-    output: &mut String,
-) -> Result<(), AllocError>
-    ensures { OnOk result ((pairs : Pairs) → Lists K.kind bytes.now pairs
+/// Writes the pairs of a trie, in the order of its nodes.
+pub fn write_pairs(alloc: Global, trie: &TrieRef<'_>, output: &mut String) -> Result<(), AllocError>
+    ensures { OnOk result ((pairs : Pairs) → Lists (kind_of trie.now.kind) trie.now.bytes.now pairs
         → string_bytes output.new ≡ string_bytes output.old ++ list_lines pairs) }
 {
-    let mut pairs = ZeroTrieStream::new::<K>(alloc, bytes);
+    let mut pairs = trie.stream(alloc);
     while pairs.advance()? {
         write_pair(output, pairs.key(), pairs.value())?;
     }

@@ -1,11 +1,12 @@
 //! One run of the program, over a reader and a writer.
 
-ghost use Rattle.std.specs.Prelude.{◌≡◌, ◌≢◌, ◌↔◌, ℕ, List, false, true, Ok, IfOk, IfErr, IfSome, IsErrOf};
+ghost use Rattle.std.specs.Prelude.{◌≡◌, ◌≢◌, ◌↔◌, ℕ, List, false, true, IfOk, IfErr, IfSome, IsSome, IsErrOf};
 ghost use Rattle.std.specs.Io.KnownBytes.{Appends};
 ghost use Rattle.zerotrie_session.specs.Answers.{Answers};
 ghost use Rattle.zerotrie_session.specs.declared.running.RunError.TheVariants.{OutOfMemory};
 
 use crate::answer::answer_all;
+use crate::command::BadLine;
 use crate::noted::Noted;
 use std::alloc::{AllocError, Global};
 use std::io::{Read, Write};
@@ -15,13 +16,13 @@ use thiserror::Error;
 #[derive(Clone, PartialEq, Eq, Debug, Drop, Error)]
 pub enum RunError {
     /// The reader failed.
-    #[error("read failed")]
+    #[error("Read")]
     Read,
     /// The writer failed.
-    #[error("write failed")]
+    #[error("Write")]
     Write,
     /// An allocation failed, outside of a build.
-    #[error("out of memory")]
+    #[error("OutOfMemory")]
     OutOfMemory,
 }
 
@@ -69,6 +70,15 @@ fn read_all<R: Read>(alloc: Global, reader: &mut Noted<R>) -> Result<Vec<u8>, Ru
     }
 }
 
+/// How a run ended that wrote its output.
+#[derive(Clone, Copy, PartialEq, Eq, Debug)]
+pub struct Ended {
+    /// The status to end with.
+    pub status: u8,
+    /// The number of the bad line that ended the run, from 1 on, and why it is bad.
+    pub bad: Option<(usize, BadLine)>,
+}
+
 /// Reads all of the input, then writes the output. Returns the status to end with.
 ///
 /// ```text
@@ -86,16 +96,14 @@ fn read_all<R: Read>(alloc: Global, reader: &mut Noted<R>) -> Result<Vec<u8>, Ru
 /// - A listing has the order of the trie, or of the bytes of the keys if the kind is `auto`.
 /// - A walk is one or more calls of a cursor with one space between them. `auto` has no walks.
 /// - Any other line is bad, and so is every line but an empty one before the first `kind`. `bad
-///   line N` ends the run, and a message says why, such as `line 2: the value is not below 2^64`.
+///   line N` ends the run; `run_explained` returns why.
 /// - The status is 2 after a bad line, else 1 if a build failed, else 0.
 ///
-/// Before any error but `Write`, nothing was written. Errors of the writer for messages are
-/// ignored.
-pub fn run<R: Read, W: Write, M: Write>(
+/// Before any error but `Write`, nothing was written.
+pub fn run<R: Read, W: Write>(
     alloc: Global,
     reader: &mut Noted<R>,
     writer: &mut Noted<W>,
-    messages: &mut M,
 ) -> Result<u8, RunError>
     requires reader_is_fresh { reader.old.failed ≡ false }
     requires writer_is_fresh { writer.old.failed ≡ false }
@@ -105,16 +113,33 @@ pub fn run<R: Read, W: Write, M: Write>(
         (output : List ℕ) × Answers input output status
         × Appends (W.contents writer.old.inner) (W.contents writer.new.inner) output)) }
     ensures unwritten { IfErr result (λ e. e ≢ RunError.Write → writer.new ≡ writer.old) }
-    ensures quiet { result ≢ Ok 2 → messages.new ≡ messages.old }
+{
+    Ok(run_explained(alloc, reader, writer)?.status)
+}
+
+/// Does what `run` does, and returns also why a bad line ended the run.
+pub fn run_explained<R: Read, W: Write>(
+    alloc: Global,
+    reader: &mut Noted<R>,
+    writer: &mut Noted<W>,
+) -> Result<Ended, RunError>
+    requires reader_is_fresh { reader.old.failed ≡ false }
+    requires writer_is_fresh { writer.old.failed ≡ false }
+    ensures read { reader.new.failed ≡ true ↔ IsErrOf result RunError.Read }
+    ensures write { writer.new.failed ≡ true ↔ IsErrOf result RunError.Write }
+    ensures ok { IfOk result (λ ended. IfSome (R.remaining reader.old.inner) (λ input.
+        (output : List ℕ) × Answers input output ended.status
+        × Appends (W.contents writer.old.inner) (W.contents writer.new.inner) output)) }
+    ensures bad { IfOk result (λ ended. IsSome ended.bad ↔ (ended.status ≡ 2)) }
+    ensures unwritten { IfErr result (λ e. e ≢ RunError.Write → writer.new ≡ writer.old) }
 {
     let input = read_all(alloc, reader)?;
     let answered = answer_all(alloc, input.as_slice())?;
     if writer.write_all(answered.output.as_bytes()).is_err() || writer.flush().is_err() {
         return Err(RunError::Write);
     }
-    if let Some((number, bad)) = answered.bad {
-        // The output is written, so an error here changes nothing.
-        let _ = writeln!(messages, "line {number}: {bad}");
-    }
-    Ok(answered.status)
+    Ok(Ended {
+        status: answered.status,
+        bad: answered.bad,
+    })
 }

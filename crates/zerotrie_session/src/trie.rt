@@ -1,11 +1,13 @@
-//! Tries of the kinds that can be chosen.
+//! A trie, and the choice of its kind.
 
 ghost use Rattle.std.specs.Prelude.{◌≡◌, ◌≢◌, ◌↔◌, ◌++◌, [], IfOk, OnOk, IfSome, IsSome, string_bytes};
 ghost use Rattle.zerotrie.specs.Items.{pairs_of};
+ghost use Rattle.zerotrie.specs.Listed.{IsListed};
 ghost use Rattle.zerotrie.specs.Maps.{Map, Pairs, look};
 ghost use Rattle.zerotrie.specs.Texts.{Lists, Means};
 ghost use Rattle.zerotrie.specs.Routes.{any_order, IsBuild};
 ghost use Rattle.zerotrie.specs.Walks.{IsWalk};
+ghost use Rattle.zerotrie_base.specs.Kinds as kinds;
 ghost use Rattle.zerotrie_session.specs.Commands.{kind_of};
 ghost use Rattle.zerotrie_session.specs.Answers.{in_order};
 ghost use Rattle.zerotrie_session.specs.Replies.{list_lines};
@@ -15,36 +17,48 @@ ghost use Rattle.zerotrie_session.specs.declared.command.Choice.TheVariants.{Aut
 use crate::command::Choice;
 use crate::reply::{write_pairs, write_sorted};
 use std::alloc::{AllocError, Global};
+use std::collections::BTreeMap;
+use zerotrie::bytes::{bytes_from_unsorted_slice, map_of, walk};
 use zerotrie::{
-    AsciiTrie, CursorAnswer, CursorOp, Ext, Hash, HashedTrie, Ignore, Simple,
-    ZeroAsciiIgnoreCaseTrie, ZeroTrie, ZeroTrieBuildError, ZeroTrieExtendedCapacity,
-    ZeroTriePerfectHash, ZeroTrieSimpleAscii,
+    CursorAnswer, CursorOp, ListError, Trie, TrieKind, TrieRef, ZeroTrie, ZeroTrieBuildError,
 };
+use zerotrie_base::by_kind;
 
-/// A trie of any of the kinds.
-#[derive(Debug, Drop)]
-pub enum Trie {
-    Simple(ZeroTrieSimpleAscii<Vec<u8>>),
-    Ignore(ZeroAsciiIgnoreCaseTrie<Vec<u8>>),
-    Hash(ZeroTriePerfectHash<Vec<u8>>),
-    Ext(ZeroTrieExtendedCapacity<Vec<u8>>),
-    Auto(ZeroTrie<Vec<u8>>),
+/// Builds the bytes of the trie of the pairs.
+fn bytes_of(
+    alloc: Global,
+    kind: TrieKind,
+    pairs: &[(&[u8], usize)],
+) -> Result<Vec<u8>, ZeroTrieBuildError>
+    ensures { IsBuild any_order (kinds.kind_of kind) (λ bytes. bytes.items) (pairs_of pairs.now)
+        result }
+{
+    by_kind!(kind, bytes_from_unsorted_slice::<_>(alloc, pairs))
 }
 
-impl Trie {
+/// A trie, and the choice of its kind.
+#[derive(Debug, Drop)]
+pub struct ChosenTrie {
+    choice: Choice,
+    kind: TrieKind,
+    bytes: Vec<u8>,
+}
+
+impl ChosenTrie {
     /// Returns the trie without pairs.
     pub fn empty(alloc: Global, choice: Choice) -> Self
         ensures choice { trie_choice result ≡ choice }
         ensures kind { trie_kind result ≡ kind_of choice [] }
         ensures bytes { trie_bytes result ≡ [] }
     {
-        let store = Vec::new(alloc);
-        match choice {
-            Choice::Simple => Trie::Simple(ZeroTrieSimpleAscii::from_store(store)),
-            Choice::Ignore => Trie::Ignore(ZeroAsciiIgnoreCaseTrie::from_store(store)),
-            Choice::Hash => Trie::Hash(ZeroTriePerfectHash::from_store(store)),
-            Choice::Ext => Trie::Ext(ZeroTrieExtendedCapacity::from_store(store)),
-            Choice::Auto => Trie::Auto(ZeroTrie::of_kind::<Simple>(store)),
+        let kind = match choice {
+            Choice::Named(kind) => kind,
+            Choice::Auto => TrieKind::Simple,
+        };
+        ChosenTrie {
+            choice,
+            kind,
+            bytes: Vec::new(alloc),
         }
     }
 
@@ -59,13 +73,34 @@ impl Trie {
         ensures build { let added = pairs_of pairs.now in
             IsBuild any_order (kind_of choice added) trie_bytes added result }
     {
-        let pairs = pairs.iter().copied();
         match choice {
-            Choice::Simple => AsciiTrie::try_from_iter(alloc, pairs).map(Trie::Simple),
-            Choice::Ignore => AsciiTrie::try_from_iter(alloc, pairs).map(Trie::Ignore),
-            Choice::Hash => HashedTrie::try_from_iter(alloc, pairs).map(Trie::Hash),
-            Choice::Ext => HashedTrie::try_from_iter(alloc, pairs).map(Trie::Ext),
-            Choice::Auto => ZeroTrie::try_from_iter(alloc, pairs).map(Trie::Auto),
+            Choice::Named(kind) => {
+                let bytes = bytes_of(alloc, kind, pairs)?;
+                Ok(ChosenTrie {
+                    choice,
+                    kind,
+                    bytes,
+                })
+            }
+            Choice::Auto => {
+                let trie = ZeroTrie::try_from_iter(alloc, pairs.iter().copied())?;
+                Ok(ChosenTrie {
+                    choice,
+                    kind: trie.trie_kind(),
+                    bytes: trie.into_store(),
+                })
+            }
+        }
+    }
+
+    /// Returns the trie over the bytes that it holds.
+    fn as_trie(&self) -> TrieRef<'_>
+        ensures kind { kinds.kind_of result.kind ≡ trie_kind self.now }
+        ensures bytes { result.bytes.now ≡ trie_bytes self.now }
+    {
+        TrieRef {
+            kind: self.kind,
+            bytes: self.bytes.as_slice(),
         }
     }
 
@@ -73,13 +108,7 @@ impl Trie {
     pub fn as_bytes(&self) -> &[u8]
         ensures { result.now ≡ trie_bytes self.now }
     {
-        match self {
-            Trie::Simple(trie) => trie.as_bytes(),
-            Trie::Ignore(trie) => trie.as_bytes(),
-            Trie::Hash(trie) => trie.as_bytes(),
-            Trie::Ext(trie) => trie.as_bytes(),
-            Trie::Auto(trie) => trie.store.as_slice(),
-        }
+        self.bytes.as_slice()
     }
 
     /// Returns the number of the key.
@@ -87,13 +116,7 @@ impl Trie {
         ensures { let kind = trie_kind self.now in
             (m : Map) → Means kind (trie_bytes self.now) m → result ≡ look kind m key.now }
     {
-        match self {
-            Trie::Simple(trie) => trie.get(key),
-            Trie::Ignore(trie) => trie.get(key),
-            Trie::Hash(trie) => trie.get(key),
-            Trie::Ext(trie) => trie.get(key),
-            Trie::Auto(trie) => trie.get(key),
-        }
+        self.as_trie().get(key)
     }
 
     /// Returns the results of a walk, or `None` if the kind is `auto`.
@@ -106,14 +129,21 @@ impl Trie {
         ensures walk { IfOk result (λ r. IfSome r (λ answers.
             IsWalk (trie_kind self.now) (trie_bytes self.now) ops.now answers.items)) }
     {
-        let answers = match self {
-            Trie::Simple(trie) => trie.walk(alloc, ops)?,
-            Trie::Ignore(trie) => trie.walk(alloc, ops)?,
-            Trie::Hash(trie) => trie.walk(alloc, ops)?,
-            Trie::Ext(trie) => trie.walk(alloc, ops)?,
-            Trie::Auto(_) => return Ok(None),
-        };
-        Ok(Some(answers))
+        match self.choice {
+            Choice::Named(_) => {
+                let answers = by_kind!(self.kind, walk::<_>(alloc, self.as_bytes(), ops))?;
+                Ok(Some(answers))
+            }
+            Choice::Auto => Ok(None),
+        }
+    }
+
+    /// Returns the map of the pairs.
+    fn to_map(&self, alloc: Global) -> Result<BTreeMap<Vec<u8>, usize>, ListError>
+        ensures { (m : Map) → Means (trie_kind self.now) (trie_bytes self.now) m
+            → IsListed (λ key. key.items) m result }
+    {
+        by_kind!(self.kind, map_of::<_>(alloc, self.as_bytes()))
     }
 
     /// Writes the pairs of the trie, in the order of its nodes, or of the bytes of their keys if
@@ -124,13 +154,10 @@ impl Trie {
             → string_bytes output.new
             ≡ string_bytes output.old ++ list_lines (in_order (trie_choice self.now) pairs)) }
     {
-        match self {
-            Trie::Simple(trie) => write_pairs::<Simple>(alloc, trie.as_bytes(), output),
-            Trie::Ignore(trie) => write_pairs::<Ignore>(alloc, trie.as_bytes(), output),
-            Trie::Hash(trie) => write_pairs::<Hash>(alloc, trie.as_bytes(), output),
-            Trie::Ext(trie) => write_pairs::<Ext>(alloc, trie.as_bytes(), output),
-            Trie::Auto(trie) => {
-                let Ok(map) = trie.to_btreemap(alloc) else {
+        match self.choice {
+            Choice::Named(_) => write_pairs(alloc, &self.as_trie(), output),
+            Choice::Auto => {
+                let Ok(map) = self.to_map(alloc) else {
                     return Err(AllocError);
                 };
                 write_sorted(&map, output)

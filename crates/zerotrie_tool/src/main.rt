@@ -2,12 +2,12 @@
 #![tactic(auto)]
 
 use std::process::ExitCode;
-use zerotrie_session::{Noted, run};
+pub use zerotrie_session::{Noted, RunError, run};
 
 fn main(rt: HostRuntime) -> ExitCode {
     let mut reader = Noted::new(rt.stdin());
     let mut writer = Noted::new(rt.stdout());
-    match run(rt.alloc(), &mut reader, &mut writer, &mut rt.stderr()) {
+    match run(rt.alloc(), &mut reader, &mut writer) {
         Ok(status) => ExitCode::from(status),
         Err(error) => {
             let message = error.message();

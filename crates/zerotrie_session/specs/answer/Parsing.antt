@@ -7,7 +7,7 @@ use Rattle.zerotrie_session.specs.declared.command.Request.{Request}
 use Rattle.zerotrie_session.specs.declared.command.Request.TheVariants.{Kind, Add, Build, Query, List, Walk}
 use Rattle.zerotrie_session.specs.Commands.{Command, choose, add, build, query, list, walk}
 
--- the command that a request stands for
+-- the command of a request
 abbrev pub meaning : Request → Command
 meaning (Kind choice) = choose choice
 meaning (Add value key) = add value key.now

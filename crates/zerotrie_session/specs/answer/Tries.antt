@@ -1,32 +1,18 @@
--- What a trie of one of the kinds is.
+-- What a trie that was chosen is.
 use Rattle.std.specs.Prelude.{ℕ, List}
-use Rattle.zerotrie.specs.Kind.{Kind, simple_ascii, ignore_case, perfect_hash, extended_capacity}
-use Rattle.zerotrie.specs.Flavors.{flavor_kind}
+use Rattle.zerotrie.specs.Kind.{Kind}
+use Rattle.zerotrie_base.specs.Kinds.{kind_of}
 use Rattle.zerotrie_session.specs.declared.command.Choice.{Choice}
-use Rattle.zerotrie_session.specs.declared.command.Choice.TheVariants as choice
-use Rattle.zerotrie_session.specs.declared.trie.Trie.{Trie}
-use Rattle.zerotrie_session.specs.declared.trie.Trie.TheVariants.{Simple, Ignore, Hash, Ext, Auto}
+use Rattle.zerotrie_session.specs.declared.trie.ChosenTrie.{ChosenTrie}
 
 -- the kind that a trie is of
-abbrev pub trie_kind : Trie → Kind
-trie_kind (Simple trie) = simple_ascii
-trie_kind (Ignore trie) = ignore_case
-trie_kind (Hash trie) = perfect_hash
-trie_kind (Ext trie) = extended_capacity
-trie_kind (Auto trie) = flavor_kind trie.flavor
+abbrev pub trie_kind : ChosenTrie → Kind
+trie_kind trie = kind_of trie.kind
 
 -- the choice that a trie was made for
-abbrev pub trie_choice : Trie → Choice
-trie_choice (Simple trie) = choice.Simple
-trie_choice (Ignore trie) = choice.Ignore
-trie_choice (Hash trie) = choice.Hash
-trie_choice (Ext trie) = choice.Ext
-trie_choice (Auto trie) = choice.Auto
+abbrev pub trie_choice : ChosenTrie → Choice
+trie_choice trie = trie.choice
 
 -- the bytes of a trie
-abbrev pub trie_bytes : Trie → List ℕ
-trie_bytes (Simple trie) = trie.store.items
-trie_bytes (Ignore trie) = trie.store.items
-trie_bytes (Hash trie) = trie.store.items
-trie_bytes (Ext trie) = trie.store.items
-trie_bytes (Auto trie) = trie.store.items
+abbrev pub trie_bytes : ChosenTrie → List ℕ
+trie_bytes trie = trie.bytes.items
