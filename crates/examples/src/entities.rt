@@ -4,7 +4,7 @@
 //! no semicolon, so `&notit;` is `&not` and the text `it;`, but `&notin;` is one reference.
 
 use anyhow::Result;
-use zerotrie::{TrieStore, ZeroTrieSimpleAscii};
+use zerotrie::{Trie, TrieStore, ZeroTrieSimpleAscii};
 
 /// Names, each with its characters.
 static NAMES: [(&str, &str); 28] = [

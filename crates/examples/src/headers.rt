@@ -2,7 +2,7 @@
 //! each, or `none`.
 
 use anyhow::Result;
-use zerotrie::{Ignore, ZeroAsciiIgnoreCaseTrie, ZeroTrieBuildError, why_iter_refused};
+use zerotrie::{Ignore, Trie, ZeroAsciiIgnoreCaseTrie, ZeroTrieBuildError, why_iter_refused};
 
 /// The usual spellings. The value of a name is its index here.
 static NAMES: [&str; 30] = [

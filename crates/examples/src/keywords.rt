@@ -4,7 +4,7 @@
 //! The trie is an array on the stack. Neither its build nor a look-up allocates.
 
 use anyhow::Result;
-use zerotrie::ZeroTrieSimpleAscii;
+use zerotrie::{Trie, ZeroTrieSimpleAscii};
 
 /// The array has to be exactly as long as the trie. `encoded_len_str` returns that length, and so
 /// does the error of a build into an array that is too large.

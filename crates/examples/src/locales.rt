@@ -2,7 +2,7 @@
 //! falls back to: the longest that is the tag itself or the part of it before one of its hyphens.
 
 use anyhow::Result;
-use zerotrie::{TrieStore, ZeroTrieSimpleAscii};
+use zerotrie::{Trie, TrieStore, ZeroTrieSimpleAscii};
 
 /// The known locales. The empty one is the root, to which every tag falls back in the end.
 static LOCALES: [&str; 20] = [

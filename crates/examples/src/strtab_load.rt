@@ -4,7 +4,7 @@
 
 use anyhow::{Context, Result};
 use std::{env, fs};
-use zerotrie::ZeroTrie;
+use zerotrie::{Trie, ZeroTrie};
 
 pub fn main(rt: HostRuntime) -> Result<()> {
     let path = env::args(&rt)?.nth(1).context("give the file of a table")?;

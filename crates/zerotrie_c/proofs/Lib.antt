@@ -4,7 +4,7 @@ pub mod Written
 mod FrontLemmas
 mod EntryLemmas
 mod DenseLemmas
-pub mod Parts
+pub mod PartLemmas
 mod FlatLemmas
 mod FrontsLemmas
 mod BoundLemmas

@@ -17,7 +17,7 @@ given pairs = map {B = List ℕ × ℕ} (λ p. (p.key.now, p.value)) pairs
 abbrev pub given_flat : List ℕ → List ℕ → List ℕ → Pairs
 given_flat keys ends values = zip (keys_from 0 keys ends) values
 
--- The bytes stand at the front of the room, and the rest of it stays; or it has no room for them, and all of it
+-- The bytes are at the front of the room, and the rest of it stays; or it has no room for them, and all of it
 -- stays. Their length is told.
 abbrev pub IsHandedOut : List ℕ → ℕ → ℕ → List ℕ → List ℕ → Type 0
 IsHandedOut bytes status len old out = (len ≡ length bytes)

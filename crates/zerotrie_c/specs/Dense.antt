@@ -19,7 +19,7 @@ abbrev pub IsDenseAnswerTold : Parts → List ℕ → List ℕ → ℕ → ℕ �
 IsDenseAnswerTold t prefix suffix status old value =
     (answer : Option ℕ) × Answers t prefix suffix answer × AnswersByMaps t prefix suffix answer × IsEntryTold answer status old value
 
--- why a table of rows is not built: memory was refused, a cause of the library's build, or the rows are not in order
+-- why a table of rows is not built: an allocation failed, a cause of the library's build, or the rows are not in order
 abbrev pub IsDenseRefusal : ℕ → Rows → ZeroTrieBuildError → Type 0
 IsDenseRefusal delimiter rows e = (e ≡ OutOfMemory) ⊎ (DenseCause delimiter rows e ⊎ ((e ≡ Unsorted) × (IsInOrder rows → ⊥)))
 

@@ -23,7 +23,7 @@ fault_number WrongWidth = 9
 fault_number WrongOffsets = 10
 
 -- What C is told of the first fault of the bytes: the number of its rule, and its place; or that they have none, or
--- that memory was refused, and then nothing is written.
+-- that an allocation failed, and then nothing is written.
 abbrev pub IsFaultTold : Kind → List ℕ → ℕ → ℕ → ℕ → Type 0
 IsFaultTold kind bytes number old_at at =
     ((fault : Fault) × IsFirstFault kind bytes fault × (number ≡ fault_number fault.cause) × (at ≡ fault.place))

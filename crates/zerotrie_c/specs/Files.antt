@@ -23,7 +23,7 @@ IsFileFault file status =
     ⊎ ((take 8 file ≡ magic) × (status ≡ unknown_version) × (version_in file ≢ version))
     ⊎ ((take 8 file ≢ magic) × IsNotTagged file status)
 
--- What is told of a file: the number of its kind, and where in it the trie stands and how long it is. Or the file is
+-- What is told of a file: the number of its kind, and where in it the trie is and how long it is. Or the file is
 -- refused, and nothing is written.
 abbrev pub IsOpened : List ℕ → ℕ → ℕ → ℕ → ℕ → ℕ → ℕ → ℕ → Type 0
 IsOpened file status old_number number old_at at old_len len =

@@ -13,7 +13,7 @@ abbrev pub or_else : ℕ → Option ℕ → ℕ
 or_else missing None = missing
 or_else missing (Some n) = n
 
--- the value of each key, or the number that stands for none
+-- the value of each key, or the number for none
 abbrev pub values_or : ℕ → Kind → Map → List (List ℕ) → List ℕ
 values_or missing kind m keys = map (λ key. or_else missing (look kind m key)) keys
 

@@ -26,7 +26,7 @@ pub record IsFlat (pairs : Pairs) (keys ends values : List ℕ) : Type 0 where
   pub ends_are : ends ≡ ends_from 0 pairs
   pub values_are : values ≡ values_of pairs
 
--- the numbers stand at the front of the room, and the rest of it stays; or it has no room for them, and all of it stays
+-- the numbers are at the front of the room, and the rest of it stays; or it has no room for them, and all of it stays
 abbrev pub IsPut : List ℕ → Bool → List ℕ → List ℕ → Type 0
 IsPut numbers true old room = (length numbers ≤ length old) × (room ≡ numbers ++ drop (length numbers) old)
 IsPut numbers false old room = (length old < length numbers) × (room ≡ old)
@@ -42,18 +42,18 @@ IsGiven all_keys all_ends all_values status old_keys keys old_ends ends old_valu
     × IsPut all_keys k old_keys keys × IsPut all_ends e old_ends ends × IsPut all_values v old_values values
     × (status ≡ status_if (k && e && v))
 
--- What a listing of the pairs comes to: they are given, or memory was refused, and nothing is written.
+-- What a listing of the pairs comes to: they are given, or an allocation failed, and nothing is written.
 abbrev pub IsListed : Pairs → ℕ → List ℕ → List ℕ → List ℕ → List ℕ → List ℕ → List ℕ → ℕ → ℕ → ℕ → ℕ → Type 0
 IsListed pairs status old_keys keys old_ends ends old_values values old_key_bytes key_bytes old_count count =
     IsGiven (joined pairs) (ends_from 0 pairs) (values_of pairs) status old_keys keys old_ends ends old_values values key_bytes count
     ⊎ ((status ≡ status_of OutOfMemory) × (keys ≡ old_keys) × (ends ≡ old_ends) × (values ≡ old_values)
     × (key_bytes ≡ old_key_bytes) × (count ≡ old_count))
 
--- the pairs that a listing has left: those after the last key that it gave if it goes on, and else all
+-- the pairs that a listing has left: those after the last key that it gave if it continues, and else all
 abbrev pub left_of : Kind → Bool → List ℕ → Pairs → Pairs
 left_of kind goes_on last pairs = if goes_on then rest_after kind last pairs else pairs
 
--- The pairs stand at the front of the three rooms, and the rest of each room stays.
+-- The pairs are at the front of the three rooms, and the rest of each room stays.
 pub record IsWritten (pairs : Pairs) (old_keys keys old_ends ends old_values values : List ℕ) : Type 0 where
   pub keys_are : IsPut (joined pairs) true old_keys keys
   pub ends_are : IsPut (ends_from 0 pairs) true old_ends ends
@@ -66,7 +66,7 @@ HasNoRoom keys ends values written (p ∷ left) next_len = (next_len ≡ length 
     × ((keys < length (joined written) + length p.0) ⊎ (ends ≤ length written) ⊎ (values ≤ length written))
 
 -- What a part of a listing comes to: the first of the pairs are written, as many as are counted. It is done if none is
--- left, and the next key has no length; else the next one has no room, or memory was refused.
+-- left, and the next key has no length; else the next one has no room, or an allocation failed.
 abbrev pub IsListedSome : Pairs → ℕ → List ℕ → List ℕ → List ℕ → List ℕ → List ℕ → List ℕ → ℕ → ℕ → ℕ → Type 0
 IsListedSome pairs status old_keys keys old_ends ends old_values values count old_next_len next_len =
     (written : Pairs) × (left : Pairs) × (pairs ≡ written ++ left) × (count ≡ length written)

@@ -1,4 +1,4 @@
--- The numbers that stand for kinds.
+-- The numbers of kinds.
 use Rattle.std.specs.Prelude.{ℕ, ◌==◌, if◌then◌else◌, Option, Some, None}
 use Rattle.zerotrie_core.specs.Kind.{Kind, simple_ascii, ignore_case, perfect_hash, extended_capacity, tag}
 

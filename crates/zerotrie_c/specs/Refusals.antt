@@ -16,7 +16,7 @@ IsRefusalTold (Some r) status old_first first old_second second =
     (status ≡ status_of r.error) × (first ≡ r.first) × (second ≡ r.second)
 
 -- what C is told of the question which keys show why a build of the pairs in any order is refused: an answer that it
--- may have, or that memory was refused, and then nothing is written
+-- may have, or that an allocation failed, and then nothing is written
 abbrev pub IsWhyTold : Kind → Pairs → ℕ → ℕ → ℕ → ℕ → ℕ → Type 0
 IsWhyTold kind pairs status old_first first old_second second =
     ((why : Option Refusal) × IsWhyRefused any_order kind pairs why × IsRefusalTold why status old_first first old_second second)

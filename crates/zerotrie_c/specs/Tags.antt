@@ -14,7 +14,7 @@ abbrev pub IsNotTagged : List ℕ → ℕ → Type 0
 IsNotTagged [] status = status ≡ no_tag
 IsNotTagged (first ∷ bytes) status = (status ≡ invalid_tag) × (kind_of first ≡ None)
 
--- What is told of tagged bytes: the number of their kind, after which their trie stands, or why they are none; then
+-- What is told of tagged bytes: the number of their kind, after which their trie is, or why they are none; then
 -- nothing is written.
 abbrev pub IsUntagged : List ℕ → ℕ → ℕ → ℕ → Type 0
 IsUntagged bytes status old_number number =

@@ -1,21 +1,21 @@
 //! Builds.
 
 ghost use Rattle.std.specs.Prelude.{◌≡◌, IfOk, IfSome, IfNone};
-ghost use Rattle.zerotrie_core.specs.Kind.{tag};
+ghost use Rattle.zerotrie_core.specs.Kind.{Kind, tag};
+ghost use Rattle.zerotrie_core.specs.Kinds.{kind_of as kind_that_is};
 ghost use Rattle.zerotrie_core.specs.Items.{pairs_of};
-ghost use Rattle.zerotrie_core.specs.Routes.{ascending, any_order, IsBuild, IsLength};
+ghost use Rattle.zerotrie_core.specs.Maps.{Pairs};
+ghost use Rattle.zerotrie_core.specs.Routes.{Route, ascending, any_order, IsBuild, IsLength};
 ghost use Rattle.zerotrie_any.specs.Auto.{are_ascii, auto_kind};
 ghost use Rattle.zerotrie_c.specs.Numbers.{kind_of};
 ghost use Rattle.zerotrie_c.specs.Statuses.{unknown_kind};
 ghost use Rattle.zerotrie_c.specs.Builds.{given, IsHandedOut, IsBuildTold, IsLengthTold};
 
-use crate::numbers::{BUFFER_TOO_SMALL, DONE, UNKNOWN_KIND, kind_of, status_of};
+use crate::numbers::{BUFFER_TOO_SMALL, DONE, OUT_OF_MEMORY, UNKNOWN_KIND, kind_of, status_of};
 use std::alloc::{AllocError, Global};
 use zerotrie_any::{bytes_from_slice, bytes_from_unsorted_slice};
 use zerotrie_build::{ByteSliceWithIndices, encoded_len};
-use zerotrie_core::{
-    TrieKind, ZeroTrieBuildError, ZeroTrieBuilderOptions, ZeroTrieWithOptions, by_kind,
-};
+use zerotrie_core::{TrieKind, ZeroTrieBuildError, by_kind};
 
 /// A pair of a key and a value, with C's layout.
 #[repr(C)]
@@ -49,55 +49,41 @@ pub fn hand_out(bytes: &[u8], out: &mut [u8], len: &mut usize) -> u32
     DONE
 }
 
-/// Builds the trie of pairs whose keys ascend, of the kind `K`.
-fn bytes_sorted<K: ZeroTrieWithOptions>(
+/// Returns the bytes of the trie of items whose keys ascend.
+fn bytes_of_sorted(
     alloc: Global,
-    pairs: &[Pair<'_>],
+    kind: TrieKind,
+    items: &[(&[u8], usize)],
 ) -> Result<Vec<u8>, ZeroTrieBuildError>
-    ensures { IsBuild ascending K.kind (λ bytes. bytes.items) (given pairs.now) result }
+    ensures { IsBuild ascending (kind_that_is kind) (λ bytes. bytes.items) (pairs_of items.now)
+        result }
 {
-    let items = items_of(alloc, pairs)?;
-    bytes_from_slice::<K>(alloc, items.as_slice())
+    by_kind!(kind, bytes_from_slice::<_>(alloc, items))
 }
 
-/// Builds the trie of pairs in any order, of the kind `K`.
-fn bytes_unsorted<K: ZeroTrieWithOptions>(
+/// Returns the bytes of the trie of items in any order.
+pub fn bytes_of(
     alloc: Global,
-    pairs: &[Pair<'_>],
+    kind: TrieKind,
+    items: &[(&[u8], usize)],
 ) -> Result<Vec<u8>, ZeroTrieBuildError>
-    ensures { IsBuild any_order K.kind (λ bytes. bytes.items) (given pairs.now) result }
+    ensures { IsBuild any_order (kind_that_is kind) (λ bytes. bytes.items) (pairs_of items.now)
+        result }
 {
-    let items = items_of(alloc, pairs)?;
-    bytes_from_unsorted_slice::<K>(alloc, items.as_slice())
+    by_kind!(kind, bytes_from_unsorted_slice::<_>(alloc, items))
 }
 
-/// Builds the trie of pairs whose keys ascend, of the kind `K`, into `out`.
-fn build_sorted<K: ZeroTrieWithOptions>(
-    alloc: Global,
-    pairs: &[Pair<'_>],
+/// Copies the bytes of a build into `out` if there is room, or returns the status of its error.
+pub fn hand_out_trie(
+    built: Result<Vec<u8>, ZeroTrieBuildError>,
     out: &mut [u8],
     len: &mut usize,
 ) -> u32
-    ensures { IsBuildTold ascending K.kind (given pairs.now) result len.old len.new out.old
-        out.new }
+    ensures { (route : Route) (kind : Kind) (pairs : Pairs)
+        → IsBuild route kind (λ bytes. bytes.items) pairs built
+        → IsBuildTold route kind pairs result len.old len.new out.old out.new }
 {
-    match bytes_sorted::<K>(alloc, pairs) {
-        Ok(bytes) => hand_out(bytes.as_slice(), out, len),
-        Err(error) => status_of(error),
-    }
-}
-
-/// Builds the trie of pairs in any order, of the kind `K`, into `out`.
-fn build_unsorted<K: ZeroTrieWithOptions>(
-    alloc: Global,
-    pairs: &[Pair<'_>],
-    out: &mut [u8],
-    len: &mut usize,
-) -> u32
-    ensures { IsBuildTold any_order K.kind (given pairs.now) result len.old len.new out.old
-        out.new }
-{
-    match bytes_unsorted::<K>(alloc, pairs) {
+    match built {
         Ok(bytes) => hand_out(bytes.as_slice(), out, len),
         Err(error) => status_of(error),
     }
@@ -118,9 +104,12 @@ pub extern "C" fn zerotrie_build_sorted(
     ensures unknown { IfNone (kind_of kind) ((result ≡ unknown_kind) × (len.new ≡ len.old)
         × (out.new ≡ out.old)) }
 {
-    match kind_of(kind) {
-        Some(kind) => by_kind!(kind, build_sorted::<_>(alloc, pairs, out, len)),
-        None => UNKNOWN_KIND,
+    let Some(kind) = kind_of(kind) else {
+        return UNKNOWN_KIND;
+    };
+    match items_of(alloc, pairs) {
+        Ok(items) => hand_out_trie(bytes_of_sorted(alloc, kind, items.as_slice()), out, len),
+        Err(_) => OUT_OF_MEMORY,
     }
 }
 
@@ -139,35 +128,26 @@ pub extern "C" fn zerotrie_build(
     ensures unknown { IfNone (kind_of kind) ((result ≡ unknown_kind) × (len.new ≡ len.old)
         × (out.new ≡ out.old)) }
 {
-    match kind_of(kind) {
-        Some(kind) => by_kind!(kind, build_unsorted::<_>(alloc, pairs, out, len)),
-        None => UNKNOWN_KIND,
+    let Some(kind) = kind_of(kind) else {
+        return UNKNOWN_KIND;
+    };
+    match items_of(alloc, pairs) {
+        Ok(items) => hand_out_trie(bytes_of(alloc, kind, items.as_slice()), out, len),
+        Err(_) => OUT_OF_MEMORY,
     }
 }
 
-/// Returns the length of a build of pairs whose keys ascend, of the kind `K`.
-fn len_sorted<K: ZeroTrieWithOptions>(
+/// Returns the number of bytes of the trie of pairs whose keys ascend.
+fn len_of_sorted(
     alloc: Global,
+    kind: TrieKind,
     pairs: &[Pair<'_>],
 ) -> Result<usize, ZeroTrieBuildError>
-    ensures { IsLength ascending K.kind (given pairs.now) result }
+    ensures { IsLength ascending (kind_that_is kind) (given pairs.now) result }
 {
     let items = items_of(alloc, pairs)?;
     let items = ByteSliceWithIndices::from_byte_slice(items.as_slice());
-    encoded_len(alloc, items, ZeroTrieBuilderOptions::of::<K>())
-}
-
-/// Sets `len` to the length of a build of pairs whose keys ascend, of the kind `K`.
-fn tell_len<K: ZeroTrieWithOptions>(alloc: Global, pairs: &[Pair<'_>], len: &mut usize) -> u32
-    ensures { IsLengthTold ascending K.kind (given pairs.now) result len.old len.new }
-{
-    match len_sorted::<K>(alloc, pairs) {
-        Ok(found) => {
-            *len = found;
-            DONE
-        }
-        Err(error) => status_of(error),
-    }
+    encoded_len(alloc, items, kind.options())
 }
 
 /// Sets `len` to the number of bytes that `zerotrie_build_sorted` writes for these pairs. Nothing
@@ -183,9 +163,15 @@ pub extern "C" fn zerotrie_encoded_len(
         IsLengthTold ascending k (given pairs.now) result len.old len.new) }
     ensures unknown { IfNone (kind_of kind) ((result ≡ unknown_kind) × (len.new ≡ len.old)) }
 {
-    match kind_of(kind) {
-        Some(kind) => by_kind!(kind, tell_len::<_>(alloc, pairs, len)),
-        None => UNKNOWN_KIND,
+    let Some(kind) = kind_of(kind) else {
+        return UNKNOWN_KIND;
+    };
+    match len_of_sorted(alloc, kind, pairs) {
+        Ok(found) => {
+            *len = found;
+            DONE
+        }
+        Err(error) => status_of(error),
     }
 }
 

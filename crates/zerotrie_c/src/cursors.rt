@@ -1,7 +1,6 @@
 //! Cursors, which the caller keeps as numbers.
 
-ghost use Rattle.std.specs.Prelude.{◌≡◌, ◌↔◌, [], ℕ, false, IfSome, IfNone, IsTrue};
-ghost use Rattle.std.specs.Option.{option_map};
+ghost use Rattle.std.specs.Prelude.{◌≡◌, ◌↔◌, [], false, IfSome, IfNone, IsTrue};
 ghost use Rattle.zerotrie_core.specs.CursorPlaces.{cursor_at, is_in, zeros};
 ghost use Rattle.zerotrie_core.specs.Kind.{Kind};
 ghost use Rattle.zerotrie_core.specs.Maps.{Pairs};
@@ -11,52 +10,9 @@ ghost use Rattle.zerotrie_core.specs.Places.{ListsAt, IsStep, IsTake, IsProbe, F
 ghost use Rattle.zerotrie_c.specs.Numbers.{kind_of};
 ghost use Rattle.zerotrie_c.specs.Answers.{told, told_both};
 
+use crate::answers::{tell, tell_edge};
 use crate::numbers::kind_of;
-use zerotrie_core::{ByteProbeResult, CursorPlace, ZeroTrieWithOptions, by_kind};
-
-/// Steps in a trie of the kind with this number.
-fn step_as(kind: u32, bytes: &[u8], cursor: &mut CursorPlace, byte: u8) -> Option<u8>
-    ensures known { IfSome (kind_of kind) (λ k. IsStep k (ListsAt k (cursor_at bytes.now cursor.old))
-        byte result (ListsAt k (cursor_at bytes.now cursor.new))) }
-    ensures run { IfSome (kind_of kind) (λ k. IfSome result (λ edge.
-        FollowsRun k (cursor_at bytes.now cursor.old) edge (cursor_at bytes.now cursor.new))) }
-    ensures unknown { IfNone (kind_of kind) (IfSome result (λ _. ⊥)) }
-    ensures inside { IsTrue (is_in bytes.now cursor.new) }
-    ensures empty { IfNone result (cursor.new ≡ zeros) }
-{
-    match kind_of(kind) {
-        Some(kind) => by_kind!(kind, CursorPlace::step::<_>(cursor, bytes, byte)),
-        None => {
-            *cursor = CursorPlace::nowhere();
-            None
-        }
-    }
-}
-
-/// Probes a trie of the kind with this number.
-fn probe_as(
-    kind: u32,
-    bytes: &[u8],
-    cursor: &mut CursorPlace,
-    index: usize,
-) -> Option<ByteProbeResult>
-    ensures known { IfSome (kind_of kind) (λ k. IsProbe (ListsAt k (cursor_at bytes.now cursor.old))
-        index (option_map {U = ℕ × ℕ} (λ r. (r.byte, r.total_siblings)) result)
-        (ListsAt k (cursor_at bytes.now cursor.new))) }
-    ensures run { IfSome (kind_of kind) (λ k. IfSome result (λ r.
-        FollowsRun k (cursor_at bytes.now cursor.old) r.byte (cursor_at bytes.now cursor.new))) }
-    ensures unknown { IfNone (kind_of kind) (IfSome result (λ _. ⊥)) }
-    ensures inside { IsTrue (is_in bytes.now cursor.new) }
-    ensures empty { IfNone result (cursor.new ≡ zeros) }
-{
-    match kind_of(kind) {
-        Some(kind) => by_kind!(kind, CursorPlace::probe::<_>(cursor, bytes, index)),
-        None => {
-            *cursor = CursorPlace::nowhere();
-            None
-        }
-    }
-}
+use zerotrie_core::{CursorPlace, ZeroTrieWithOptions, by_kind};
 
 /// Returns the cursor at the beginning of a trie, of any kind.
 #[unsafe(no_mangle)]
@@ -86,7 +42,11 @@ pub extern "C" fn zerotrie_cursor_step(
     ensures empty { result ≡ false → cursor.new ≡ zeros }
     ensures kept { result ≡ false → edge.new ≡ edge.old }
 {
-    match step_as(kind, bytes, cursor, byte) {
+    let Some(kind) = kind_of(kind) else {
+        *cursor = CursorPlace::nowhere();
+        return false;
+    };
+    match by_kind!(kind, CursorPlace::step::<_>(cursor, bytes, byte)) {
         Some(found) => {
             *edge = found;
             true
@@ -109,13 +69,7 @@ pub extern "C" fn zerotrie_cursor_take_value(
     ensures inside { IsTrue result → IsTrue (is_in bytes.now cursor.new) }
     ensures none { result ≡ false → (cursor.new ≡ cursor.old) × (value.new ≡ value.old) }
 {
-    match cursor.take_value(bytes) {
-        Some(found) => {
-            *value = found;
-            true
-        }
-        None => false,
-    }
+    tell(cursor.take_value(bytes), value)
 }
 
 /// Follows the edge with this number. Returns whether there is one, and then sets `edge` to its
@@ -138,14 +92,12 @@ pub extern "C" fn zerotrie_cursor_probe(
     ensures empty { result ≡ false → cursor.new ≡ zeros }
     ensures kept { result ≡ false → (edge.new ≡ edge.old) × (siblings.new ≡ siblings.old) }
 {
-    match probe_as(kind, bytes, cursor, index) {
-        Some(found) => {
-            *edge = found.byte;
-            *siblings = found.total_siblings;
-            true
-        }
-        None => false,
-    }
+    let Some(kind) = kind_of(kind) else {
+        *cursor = CursorPlace::nowhere();
+        return false;
+    };
+    let found = by_kind!(kind, CursorPlace::probe::<_>(cursor, bytes, index));
+    tell_edge(found, edge, siblings)
 }
 
 /// Returns the cursor after a step by each byte of the prefix, in the kind `K`.

@@ -1,16 +1,13 @@
 //! The first fault of malformed bytes.
 
-ghost use Rattle.std.specs.Prelude.{◌≡◌, ◌↔◌, ◌≤◌, ◌⊎◌, None, length, IfOk, IfSome, IfNone};
-ghost use Rattle.zerotrie_core.specs.Faults.{IsFirstFault};
-ghost use Rattle.zerotrie_core.specs.Kinds.{kind_of as kind_that_is};
-ghost use Rattle.zerotrie_core.specs.WellFormed.{IsWellFormed};
+ghost use Rattle.std.specs.Prelude.{◌≡◌, ◌≤◌, ◌⊎◌, length, IfSome, IfNone};
 ghost use Rattle.zerotrie_c.specs.FaultNumbers.{fault_number, IsFaultTold};
 ghost use Rattle.zerotrie_c.specs.Numbers.{kind_of};
 ghost use Rattle.zerotrie_c.specs.Statuses.{unknown_kind};
 
-use crate::numbers::{DONE, OUT_OF_MEMORY, UNKNOWN_KIND, kind_of};
-use std::alloc::{AllocError, Global};
-use zerotrie_core::{Fault, FaultCause, TrieKind, by_kind, first_fault};
+use crate::numbers::{DONE, OUT_OF_MEMORY, UNKNOWN_KIND, trie_of};
+use std::alloc::Global;
+use zerotrie_core::{FaultCause, Trie};
 
 /// Returns the number of a rule of the format.
 fn number_of(cause: FaultCause) -> u32
@@ -30,17 +27,6 @@ fn number_of(cause: FaultCause) -> u32
     }
 }
 
-/// Returns the first fault of bytes as a trie of the kind.
-fn fault_of(alloc: Global, kind: TrieKind, bytes: &[u8]) -> Result<Option<Fault>, AllocError>
-    ensures none { IfOk result (λ fault.
-        (fault ≡ None) ↔ IsWellFormed (kind_that_is kind) bytes.now) }
-    ensures some { IfOk result (λ fault.
-        IfSome fault (IsFirstFault (kind_that_is kind) bytes.now)) }
-    ensures within { IfOk result (λ fault. IfSome fault (λ f. f.place ≤ length bytes.now)) }
-{
-    by_kind!(kind, first_fault::<_, Global>(alloc, bytes))
-}
-
 /// Returns the number of the rule of the format that fails first in the bytes, from 1 on, and sets
 /// `at` to the number of bytes before the place where it fails. Returns `DONE` if the bytes are a
 /// valid trie of the kind. `OUT_OF_MEMORY` and `UNKNOWN_KIND` are no numbers of rules.
@@ -55,10 +41,10 @@ pub extern "C" fn zerotrie_first_fault(
     ensures within { (at.new ≡ at.old) ⊎ (at.new ≤ length bytes.now) }
     ensures unknown { IfNone (kind_of kind) ((result ≡ unknown_kind) × (at.new ≡ at.old)) }
 {
-    let Some(kind) = kind_of(kind) else {
+    let Some(trie) = trie_of(kind, bytes) else {
         return UNKNOWN_KIND;
     };
-    match fault_of(alloc, kind, bytes) {
+    match trie.first_fault(alloc) {
         Ok(Some(fault)) => {
             *at = fault.place;
             number_of(fault.cause)

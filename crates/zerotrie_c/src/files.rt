@@ -1,6 +1,6 @@
 //! Sealed files, and what is in a file.
 
-ghost use Rattle.std.specs.Prelude.{◌≡◌, ◌↔◌, ◌≢◌, ℕ, List, take, IfSome, IfNone, IsTrue};
+ghost use Rattle.std.specs.Prelude.{◌≡◌, ◌≢◌, ℕ, List, take, IfSome, IfNone};
 ghost use Rattle.zerotrie_sealed.specs.Sealed.{magic, IsSealed};
 ghost use Rattle.zerotrie_c.specs.Numbers.{kind_of};
 ghost use Rattle.zerotrie_c.specs.Builds.{IsHandedOut};
@@ -9,16 +9,7 @@ ghost use Rattle.zerotrie_c.specs.Files.{IsOpened};
 
 use crate::numbers::{BUFFER_TOO_SMALL, DAMAGED, DONE, UNKNOWN_KIND, UNKNOWN_VERSION, kind_of};
 use crate::tags::{put_both, zerotrie_tagged_kind};
-use zerotrie_core::TrieKind;
-use zerotrie_sealed::{HEADER_LEN, SealError, header_of, open};
-
-/// Whether a file begins as each sealed one does.
-fn begins_sealed(file: &[u8]) -> bool
-    ensures { IsTrue result ↔ (take 8 file.now ≡ magic) }
-{
-    let header = header_of(TrieKind::Simple, &[]);
-    file.starts_with(&header[..8])
-}
+use zerotrie_sealed::{HEADER_LEN, SealError, begins_sealed, header_of, open};
 
 /// Finds the trie in a file that begins as no sealed one.
 fn open_tagged(file: &[u8], kind: &mut u32, at: &mut usize, trie_len: &mut usize) -> u32

@@ -2,17 +2,15 @@
 
 ghost use Rattle.std.specs.Prelude.{◌≡◌, IfOk, IfSome, IfNone};
 ghost use Rattle.zerotrie_core.specs.Items.{pairs_of};
-ghost use Rattle.zerotrie_core.specs.Routes.{any_order, IsBuild};
+ghost use Rattle.zerotrie_core.specs.Routes.{any_order};
 ghost use Rattle.zerotrie_c.specs.Builds.{given_flat, IsBuildTold};
 ghost use Rattle.zerotrie_c.specs.Numbers.{kind_of};
 ghost use Rattle.zerotrie_c.specs.Statuses.{unknown_kind};
 
-use crate::builds::hand_out;
+use crate::builds::{bytes_of, hand_out_trie};
 use crate::look_up::key_between;
-use crate::numbers::{UNKNOWN_KIND, kind_of, status_of};
+use crate::numbers::{OUT_OF_MEMORY, UNKNOWN_KIND, kind_of};
 use std::alloc::{AllocError, Global};
-use zerotrie_any::bytes_from_unsorted_slice;
-use zerotrie_core::{ZeroTrieBuildError, ZeroTrieWithOptions, by_kind};
 
 /// Returns the pairs as items. The keys are borrowed.
 pub fn items_between<'k>(
@@ -35,38 +33,6 @@ pub fn items_between<'k>(
     Ok(items)
 }
 
-/// Builds the trie of the pairs, of the kind `K`.
-fn bytes_of_flat<K: ZeroTrieWithOptions>(
-    alloc: Global,
-    keys: &[u8],
-    ends: &[usize],
-    values: &[usize],
-) -> Result<Vec<u8>, ZeroTrieBuildError>
-    ensures { IsBuild any_order K.kind (λ bytes. bytes.items)
-        (given_flat keys.now ends.now values.now) result }
-{
-    let items = items_between(alloc, keys, ends, values)?;
-    bytes_from_unsorted_slice::<K>(alloc, items.as_slice())
-}
-
-/// Builds the trie of the pairs, of the kind `K`, into `out`.
-fn build_flat<K: ZeroTrieWithOptions>(
-    alloc: Global,
-    keys: &[u8],
-    ends: &[usize],
-    values: &[usize],
-    out: &mut [u8],
-    len: &mut usize,
-) -> u32
-    ensures { IsBuildTold any_order K.kind (given_flat keys.now ends.now values.now) result
-        len.old len.new out.old out.new }
-{
-    match bytes_of_flat::<K>(alloc, keys, ends, values) {
-        Ok(bytes) => hand_out(bytes.as_slice(), out, len),
-        Err(error) => status_of(error),
-    }
-}
-
 /// Like `zerotrie_build`, of keys that are one after another, each up to its end.
 ///
 /// An end past all bytes counts as their end, and an end below the one before it makes an empty
@@ -87,8 +53,11 @@ pub extern "C" fn zerotrie_build_many(
     ensures unknown { IfNone (kind_of kind) ((result ≡ unknown_kind) × (len.new ≡ len.old)
         × (out.new ≡ out.old)) }
 {
-    match kind_of(kind) {
-        Some(kind) => by_kind!(kind, build_flat::<_>(alloc, keys, ends, values, out, len)),
-        None => UNKNOWN_KIND,
+    let Some(kind) = kind_of(kind) else {
+        return UNKNOWN_KIND;
+    };
+    match items_between(alloc, keys, ends, values) {
+        Ok(items) => hand_out_trie(bytes_of(alloc, kind, items.as_slice()), out, len),
+        Err(_) => OUT_OF_MEMORY,
     }
 }

@@ -1,17 +1,17 @@
 //! The keys that a text begins with.
 
-ghost use Rattle.std.specs.Prelude.{◌≡◌, ◌≤◌, ◌+◌, ℕ, List, All, None, length, set, false, IsTrue, IfSome, IfNone};
+ghost use Rattle.std.specs.Prelude.{◌≡◌, ◌≤◌, ◌+◌, ℕ, List, All, length, set, false, IsTrue, IfSome, IfNone};
 ghost use Rattle.zerotrie_core.specs.Borders.{IsLongestPrefixAt};
-ghost use Rattle.zerotrie_core.specs.Kinds.{kind_of as kind_that_is};
 ghost use Rattle.zerotrie_core.specs.Maps.{Map};
-ghost use Rattle.zerotrie_core.specs.Prefixes.{at_front, common_prefixes};
+ghost use Rattle.zerotrie_core.specs.Prefixes.{common_prefixes};
 ghost use Rattle.zerotrie_core.specs.Texts.{Means};
 ghost use Rattle.zerotrie_c.specs.Answers.{told_both};
 ghost use Rattle.zerotrie_c.specs.Fronts.{AreFrontsTold};
 ghost use Rattle.zerotrie_c.specs.Numbers.{kind_of};
 
-use crate::numbers::kind_of;
-use zerotrie_core::{CommonPrefixes, TrieKind, by_kind, longest_prefix_at};
+use crate::answers::tell_both;
+use crate::numbers::trie_of;
+use zerotrie_core::Trie;
 
 /// Writes a number at a place of the room, if the room has it.
 fn put_at(room: &mut [usize], place: usize, number: usize)
@@ -20,38 +20,6 @@ fn put_at(room: &mut [usize], place: usize, number: usize)
     if place < room.len() {
         room[place] = number;
     }
-}
-
-/// Returns the keys of a trie of the kind that the text begins with.
-fn fronts_of<'b, 't>(kind: TrieKind, bytes: &'b [u8], text: &'t [u8]) -> CommonPrefixes<'b, 't>
-    ensures { result ≡ at_front (kind_that_is kind) bytes.now text.now }
-{
-    by_kind!(kind, CommonPrefixes::new::<_>(bytes, text))
-}
-
-/// Writes the lengths and the values of the keys that the text begins with, as far as there is room,
-/// and returns the number of all of them.
-fn write_fronts(
-    kind: TrieKind,
-    bytes: &[u8],
-    text: &[u8],
-    lens: &mut [usize],
-    values: &mut [usize],
-) -> usize
-    ensures known { (m : Map) → Means (kind_that_is kind) bytes.now m
-        → AreFrontsTold (common_prefixes (kind_that_is kind) m text.now) result
-        lens.old lens.new values.old values.new }
-    ensures any { (fronts : List (ℕ × ℕ)) × All (λ f. f.0 ≤ length text.now) fronts
-        × (length fronts ≤ length text.now + 1)
-        × AreFrontsTold fronts result lens.old lens.new values.old values.new }
-{
-    let mut count = 0;
-    for (len, value) in fronts_of(kind, bytes, text) {
-        put_at(lens, count, len);
-        put_at(values, count, value);
-        count += 1;
-    }
-    count
 }
 
 /// Returns how many keys the text begins with. Writes their lengths to `lens` and their values to
@@ -75,24 +43,16 @@ pub extern "C" fn zerotrie_common_prefixes(
     ensures unknown { IfNone (kind_of kind) ((result ≡ 0) × (lens.new ≡ lens.old)
         × (values.new ≡ values.old)) }
 {
-    match kind_of(kind) {
-        Some(kind) => write_fronts(kind, bytes, text, lens, values),
-        None => 0,
+    let Some(trie) = trie_of(kind, bytes) else {
+        return 0;
+    };
+    let mut count = 0;
+    for (len, value) in trie.common_prefixes(text) {
+        put_at(lens, count, len);
+        put_at(values, count, value);
+        count += 1;
     }
-}
-
-/// Returns the longest key that a text begins with and that ends at a border of the text, in a trie
-/// of the kind with this number.
-fn longest_at_as(kind: u32, bytes: &[u8], text: &[u8], delimiters: &[u8]) -> Option<(usize, usize)>
-    ensures known { IfSome (kind_of kind) (λ k. (m : Map) → Means k bytes.now m
-        → IsLongestPrefixAt k m delimiters.now text.now result) }
-    ensures within { IfSome result (λ r. r.0 ≤ length text.now) }
-    ensures unknown { IfNone (kind_of kind) (result ≡ None) }
-{
-    match kind_of(kind) {
-        Some(kind) => by_kind!(kind, longest_prefix_at::<_>(bytes, text, delimiters)),
-        None => None,
-    }
+    count
 }
 
 /// Returns whether the text begins with a key after which it ends or continues with one of the
@@ -115,12 +75,8 @@ pub extern "C" fn zerotrie_longest_prefix_at(
     ensures kept { result ≡ false
         → (prefix_len.new ≡ prefix_len.old) × (value.new ≡ value.old) }
 {
-    match longest_at_as(kind, bytes, text, delimiters) {
-        Some((length, found)) => {
-            *prefix_len = length;
-            *value = found;
-            true
-        }
+    match trie_of(kind, bytes) {
+        Some(trie) => tell_both(trie.longest_prefix_at(text, delimiters), prefix_len, value),
         None => false,
     }
 }

@@ -1,6 +1,6 @@
 //! Indexes.
 
-ghost use Rattle.std.specs.Prelude.{◌≡◌, ◌↔◌, false, IsTrue};
+ghost use Rattle.std.specs.Prelude.{◌≡◌, ◌↔◌, ℕ, false, IsTrue};
 ghost use Rattle.zerotrie_core.specs.Kind.{simple_ascii};
 ghost use Rattle.zerotrie_core.specs.Maps.{Pairs, value_at};
 ghost use Rattle.zerotrie_index.specs.Layout.{IsIndex};
@@ -9,6 +9,7 @@ ghost use Rattle.zerotrie_c.specs.Answers.{told};
 ghost use Rattle.zerotrie_c.specs.Builds.{given, given_flat};
 ghost use Rattle.zerotrie_c.specs.Indexes.{index_status_of, IsIndexBuildTold};
 
+use crate::answers::tell;
 use crate::builds::{Pair, hand_out, items_of};
 use crate::flat::items_between;
 use crate::numbers::{CROWDED, OUT_OF_MEMORY, status_of};
@@ -25,16 +26,10 @@ pub extern "C" fn zerotrie_index_get(bytes: &[u8], key: &[u8], value: &mut usize
         → told result value.new ≡ value_at simple_ascii given key.now }
     ensures kept { result ≡ false → value.new ≡ value.old }
 {
-    match ZeroIndex::from_bytes(bytes).get(key) {
-        Some(found) => {
-            *value = found;
-            true
-        }
-        None => false,
-    }
+    tell(ZeroIndex::from_bytes(bytes).get(key), value)
 }
 
-/// Whether the bytes are a valid index: yes exactly if they are one of some pairs.
+/// Returns whether the bytes are a valid index: exactly if they are one of some pairs.
 #[unsafe(no_mangle)]
 pub extern "C" fn zerotrie_index_is_valid(bytes: &[u8]) -> bool
     ensures { IsTrue result ↔ ((pairs : Pairs) × IsIndex pairs bytes.now) }
@@ -55,27 +50,19 @@ fn index_status_of(error: ZeroIndexBuildError) -> u32
     }
 }
 
-/// Builds the index of pairs.
-fn index_of(alloc: Global, seed: u64, pairs: &[Pair<'_>]) -> Result<Vec<u8>, ZeroIndexBuildError>
-    ensures { IsIndexBuild seed (λ bytes. bytes.items) (given pairs.now) result }
+/// Copies the bytes of a build into `out` if there is room, or returns the status of its error.
+fn hand_out_index(
+    built: Result<Vec<u8>, ZeroIndexBuildError>,
+    out: &mut [u8],
+    len: &mut usize,
+) -> u32
+    ensures { (seed : ℕ) (pairs : Pairs) → IsIndexBuild seed (λ bytes. bytes.items) pairs built
+        → IsIndexBuildTold seed pairs result len.old len.new out.old out.new }
 {
-    let items = items_of(alloc, pairs)?;
-    build(alloc, seed, items.as_slice())
-}
-
-/// Builds the index of pairs whose keys are one after another.
-fn index_of_flat(
-    alloc: Global,
-    seed: u64,
-    keys: &[u8],
-    ends: &[usize],
-    values: &[usize],
-) -> Result<Vec<u8>, ZeroIndexBuildError>
-    ensures { IsIndexBuild seed (λ bytes. bytes.items)
-        (given_flat keys.now ends.now values.now) result }
-{
-    let items = items_between(alloc, keys, ends, values)?;
-    build(alloc, seed, items.as_slice())
+    match built {
+        Ok(bytes) => hand_out(bytes.as_slice(), out, len),
+        Err(error) => index_status_of(error),
+    }
 }
 
 /// Builds the index of pairs in any order into `out`, if there is room, and sets `len`. It tries
@@ -90,9 +77,9 @@ pub extern "C" fn zerotrie_index_build(
 ) -> u32
     ensures { IsIndexBuildTold seed (given pairs.now) result len.old len.new out.old out.new }
 {
-    match index_of(alloc, seed, pairs) {
-        Ok(bytes) => hand_out(bytes.as_slice(), out, len),
-        Err(error) => index_status_of(error),
+    match items_of(alloc, pairs) {
+        Ok(items) => hand_out_index(build(alloc, seed, items.as_slice()), out, len),
+        Err(_) => OUT_OF_MEMORY,
     }
 }
 
@@ -111,8 +98,8 @@ pub extern "C" fn zerotrie_index_build_many(
     ensures { IsIndexBuildTold seed (given_flat keys.now ends.now values.now) result
         len.old len.new out.old out.new }
 {
-    match index_of_flat(alloc, seed, keys, ends, values) {
-        Ok(bytes) => hand_out(bytes.as_slice(), out, len),
-        Err(error) => index_status_of(error),
+    match items_between(alloc, keys, ends, values) {
+        Ok(items) => hand_out_index(build(alloc, seed, items.as_slice()), out, len),
+        Err(_) => OUT_OF_MEMORY,
     }
 }

@@ -4,6 +4,7 @@
 //! declares the exports, and says what a caller must keep to: nothing checks it.
 #![tactic(auto)]
 
+mod answers;
 pub mod bounds;
 pub mod builds;
 pub mod cursors;
@@ -17,6 +18,7 @@ pub mod indexes;
 pub mod listings;
 pub mod look_up;
 pub mod numbers;
+pub mod parts;
 pub mod refusals;
 pub mod searches;
 pub mod sorted;

@@ -1,6 +1,6 @@
 //! Look-ups.
 
-ghost use Rattle.std.specs.Prelude.{◌≡◌, ◌≤◌, ℕ, false, None, IfSome, IfNone, IsTrue, length, take, drop};
+ghost use Rattle.std.specs.Prelude.{◌≡◌, ◌≤◌, false, IfSome, IfNone, IsTrue, length, take, drop};
 ghost use Rattle.zerotrie_core.specs.Maps.{Map, look};
 ghost use Rattle.zerotrie_core.specs.Texts.{Means};
 ghost use Rattle.zerotrie_core.specs.Prefixes.{IsLongestPrefix};
@@ -9,23 +9,12 @@ ghost use Rattle.zerotrie_c.specs.Answers.{told, told_both};
 ghost use Rattle.zerotrie_c.specs.Keys.{keys_from, or_else, values_or, written_over};
 ghost use Rattle.zerotrie_c.specs.Statuses.{done, unknown_kind};
 
-use crate::numbers::{DONE, UNKNOWN_KIND, kind_of};
-use zerotrie_core::{LookUps, ZeroTrieWithOptions, by_kind, get, longest_prefix};
+use crate::answers::{tell, tell_both};
+use crate::numbers::{DONE, UNKNOWN_KIND, kind_of, trie_of};
+use zerotrie_core::{LookUps, Trie, ZeroTrieWithOptions, by_kind, get};
 
 /// The number of keys from which a `LookUps` pays.
 const MANY: usize = 64;
-
-/// Returns the value of the key in a trie of the kind with this number.
-fn look_up(kind: u32, bytes: &[u8], key: &[u8]) -> Option<usize>
-    ensures known { IfSome (kind_of kind) (λ k.
-        (m : Map) → Means k bytes.now m → result ≡ look k m key.now) }
-    ensures unknown { IfNone (kind_of kind) (result ≡ None) }
-{
-    match kind_of(kind) {
-        Some(kind) => by_kind!(kind, get::<_>(bytes, key)),
-        None => None,
-    }
-}
 
 /// Returns whether the trie has the key, and then sets `value` to its value.
 ///
@@ -37,11 +26,8 @@ pub extern "C" fn zerotrie_get(kind: u32, bytes: &[u8], key: &[u8], value: &mut 
     ensures unknown { IfNone (kind_of kind) (result ≡ false) }
     ensures kept { result ≡ false → value.new ≡ value.old }
 {
-    match look_up(kind, bytes, key) {
-        Some(found) => {
-            *value = found;
-            true
-        }
+    match trie_of(kind, bytes) {
+        Some(trie) => tell(trie.get(key), value),
         None => false,
     }
 }
@@ -63,78 +49,26 @@ pub fn key_between(bytes: &[u8], from: usize, to: usize) -> &[u8]
 }
 
 /// Returns the value of the key, or `missing` if the trie does not have it.
-fn value_or<K: ZeroTrieWithOptions>(bytes: &[u8], key: &[u8], missing: usize) -> usize
-    ensures { (m : Map) → Means K.kind bytes.now m
-        → result ≡ or_else missing (look K.kind m key.now) }
-{
-    match get::<K>(bytes, key) {
-        Some(value) => value,
-        None => missing,
-    }
-}
-
-/// Looks up a few keys in a trie of the kind `K`.
-fn look_up_few<K: ZeroTrieWithOptions>(
+fn value_or<K: ZeroTrieWithOptions>(
     bytes: &[u8],
-    keys: &[u8],
-    ends: &[usize],
-    missing: usize,
-    values: &mut [usize],
-)
-    ensures found { (m : Map) → Means K.kind bytes.now m
-        → values.new ≡ written_over (values_or missing K.kind m (keys_from 0 keys.now ends.now))
-        values.old }
-    ensures any { drop (length ends.now) values.new ≡ drop (length ends.now) values.old }
-{
-    let mut from = 0;
-    let count = ends.len().min(values.len());
-    for number in 0..count {
-        let to = ends[number];
-        values[number] = value_or::<K>(bytes, key_between(keys, from, to), missing);
-        from = to;
-    }
-}
-
-/// Like `value_or`, for one of many keys.
-fn value_in_or<K: ZeroTrieWithOptions>(
-    trie: &mut LookUps<'_, K>,
+    many: &mut Option<LookUps<'_, K>>,
     key: &[u8],
     missing: usize,
 ) -> usize
-    ensures value { (m : Map) → Means K.kind trie.old m
+    requires { IfSome many.old (λ trie. trie ≡ bytes.now) }
+    ensures value { (m : Map) → Means K.kind bytes.now m
         → result ≡ or_else missing (look K.kind m key.now) }
-    ensures kept { trie.new ≡ trie.old }
+    ensures kept { IfSome many.new (λ trie. trie ≡ bytes.now) }
 {
-    match trie.get(key) {
-        Some(value) => value,
-        None => missing,
-    }
+    let found = match many {
+        Some(trie) => trie.get(key),
+        None => get::<K>(bytes, key),
+    };
+    found.unwrap_or(missing)
 }
 
-/// Looks up many keys in a trie of the kind `K`, each from the target of its first byte.
-fn look_up_many<K: ZeroTrieWithOptions>(
-    bytes: &[u8],
-    keys: &[u8],
-    ends: &[usize],
-    missing: usize,
-    values: &mut [usize],
-)
-    ensures found { (m : Map) → Means K.kind bytes.now m
-        → values.new ≡ written_over (values_or missing K.kind m (keys_from 0 keys.now ends.now))
-        values.old }
-    ensures any { drop (length ends.now) values.new ≡ drop (length ends.now) values.old }
-{
-    let mut trie = LookUps::<K>::new(bytes);
-    let mut from = 0;
-    let count = ends.len().min(values.len());
-    for number in 0..count {
-        let end = ends[number];
-        values[number] = value_in_or(&mut trie, key_between(keys, from, end), missing);
-        from = end;
-    }
-}
-
-/// Looks up keys in a trie of the kind `K`.
+/// Looks up keys in a trie of the kind `K`: if they are many, each from the target of its first
+/// byte.
 fn look_up_all<K: ZeroTrieWithOptions>(
     bytes: &[u8],
     keys: &[u8],
@@ -147,10 +81,17 @@ fn look_up_all<K: ZeroTrieWithOptions>(
         values.old }
     ensures any { drop (length ends.now) values.new ≡ drop (length ends.now) values.old }
 {
-    if ends.len() < MANY {
-        look_up_few::<K>(bytes, keys, ends, missing, values)
+    let mut many = if ends.len() < MANY {
+        None
     } else {
-        look_up_many::<K>(bytes, keys, ends, missing, values)
+        Some(LookUps::<K>::new(bytes))
+    };
+    let mut from = 0;
+    let count = ends.len().min(values.len());
+    for number in 0..count {
+        let to = ends[number];
+        values[number] = value_or(bytes, &mut many, key_between(keys, from, to), missing);
+        from = to;
     }
 }
 
@@ -182,19 +123,6 @@ pub extern "C" fn zerotrie_get_many(
     DONE
 }
 
-/// Returns the longest key that a text begins with, in a trie of the kind with this number.
-fn longest_as(kind: u32, bytes: &[u8], text: &[u8]) -> Option<(usize, usize)>
-    ensures known { IfSome (kind_of kind) (λ k. (m : Map) → Means k bytes.now m
-        → IsLongestPrefix k m text.now result) }
-    ensures within { IfSome result (λ r. r.0 ≤ length text.now) }
-    ensures unknown { IfNone (kind_of kind) (result ≡ None) }
-{
-    match kind_of(kind) {
-        Some(kind) => by_kind!(kind, longest_prefix::<_>(bytes, text)),
-        None => None,
-    }
-}
-
 /// Returns whether the text begins with a key, and then sets `len` and `value` to the length and
 /// the value of the longest one.
 #[unsafe(no_mangle)]
@@ -211,12 +139,8 @@ pub extern "C" fn zerotrie_longest_prefix(
     ensures unknown { IfNone (kind_of kind) (result ≡ false) }
     ensures kept { result ≡ false → (len.new ≡ len.old) × (value.new ≡ value.old) }
 {
-    match longest_as(kind, bytes, text) {
-        Some((length, found)) => {
-            *len = length;
-            *value = found;
-            true
-        }
+    match trie_of(kind, bytes) {
+        Some(trie) => tell_both(trie.longest_prefix(text), len, value),
         None => false,
     }
 }

@@ -1,12 +1,12 @@
-//! The numbers of kinds and of statuses.
+//! The numbers of kinds and of statuses, and what is found by a number.
 
-ghost use Rattle.std.specs.Prelude.{◌≡◌, is_some};
+ghost use Rattle.std.specs.Prelude.{◌≡◌, IfSome, is_some};
 ghost use Rattle.std.specs.Option.{option_map};
 ghost use Rattle.zerotrie_core.specs.Kinds.{kind_of as kind_that_is};
 ghost use Rattle.zerotrie_c.specs.Numbers.{kind_of};
 ghost use Rattle.zerotrie_c.specs.Statuses.{status_of};
 
-use zerotrie_core::{TrieKind, ZeroTrieBuildError};
+use zerotrie_core::{TrieKind, TrieRef, ZeroTrieBuildError};
 
 /// Returns the kind with this number, or `None` if no kind has it.
 pub fn kind_of(number: u32) -> Option<TrieKind>
@@ -15,7 +15,16 @@ pub fn kind_of(number: u32) -> Option<TrieKind>
     TrieKind::of_tag(u8::try_from(number).ok()?)
 }
 
-/// Whether a kind has this number.
+/// Returns the trie of these bytes, of the kind with this number, or `None` if no kind has it.
+pub fn trie_of(kind: u32, bytes: &[u8]) -> Option<TrieRef<'_>>
+    ensures kind { kind_of kind ≡ option_map (λ t. kind_that_is t.kind) result }
+    ensures bytes { IfSome result (λ t. t.bytes.now ≡ bytes.now) }
+{
+    let kind = kind_of(kind)?;
+    Some(TrieRef { kind, bytes })
+}
+
+/// Returns whether a kind has this number.
 pub fn is_kind(kind: u32) -> bool
     ensures { result ≡ is_some (kind_of kind) }
 {

@@ -2,6 +2,7 @@
 
 ghost use Rattle.std.specs.Prelude.{◌≡◌, IfOk, IfSome, IfNone};
 ghost use Rattle.zerotrie_build.specs.Refused.{IsWhyRefused};
+ghost use Rattle.zerotrie_core.specs.Items.{pairs_of};
 ghost use Rattle.zerotrie_core.specs.Kinds.{kind_of as kind_that_is};
 ghost use Rattle.zerotrie_core.specs.Routes.{any_order};
 ghost use Rattle.zerotrie_c.specs.Builds.{given};
@@ -13,28 +14,17 @@ use crate::builds::{Pair, items_of};
 use crate::numbers::{DONE, OUT_OF_MEMORY, UNKNOWN_KIND, kind_of, status_of};
 use std::alloc::{AllocError, Global};
 use zerotrie_build::{Refusal, why_iter_refused};
-use zerotrie_core::{TrieKind, ZeroTrieWithOptions, by_kind};
+use zerotrie_core::{TrieKind, by_kind};
 
-/// Returns which keys show why a build of the pairs is refused, in the kind `K`.
-fn why_as<K: ZeroTrieWithOptions>(
-    alloc: Global,
-    pairs: &[Pair<'_>],
-) -> Result<Option<Refusal>, AllocError>
-    ensures { IfOk result (IsWhyRefused any_order K.kind (given pairs.now)) }
-{
-    let items = items_of(alloc, pairs)?;
-    why_iter_refused::<K, &[u8]>(alloc, items.as_slice())
-}
-
-/// Returns which keys show why a build of the pairs is refused.
+/// Returns which of the items show why a build of them is refused.
 fn why_refused(
     alloc: Global,
     kind: TrieKind,
-    pairs: &[Pair<'_>],
+    items: &[(&[u8], usize)],
 ) -> Result<Option<Refusal>, AllocError>
-    ensures { IfOk result (IsWhyRefused any_order (kind_that_is kind) (given pairs.now)) }
+    ensures { IfOk result (IsWhyRefused any_order (kind_that_is kind) (pairs_of items.now)) }
 {
-    by_kind!(kind, why_as::<_>(alloc, pairs))
+    by_kind!(kind, why_iter_refused::<_, &[u8]>(alloc, items))
 }
 
 /// Sets the numbers of the keys that show the error, if there is one, and returns its status.
@@ -70,7 +60,10 @@ pub extern "C" fn zerotrie_why_refused(
     let Some(kind) = kind_of(kind) else {
         return UNKNOWN_KIND;
     };
-    match why_refused(alloc, kind, pairs) {
+    let Ok(items) = items_of(alloc, pairs) else {
+        return OUT_OF_MEMORY;
+    };
+    match why_refused(alloc, kind, items.as_slice()) {
         Ok(answer) => tell(answer, first, second),
         Err(_) => OUT_OF_MEMORY,
     }

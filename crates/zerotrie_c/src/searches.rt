@@ -13,13 +13,13 @@ ghost use Rattle.zerotrie_c.specs.Statuses.{unknown_kind};
 ghost use Rattle.zerotrie_c.specs.Listed.{left_of, IsListedSome};
 ghost use Rattle.zerotrie_c.specs.Searched.{bound_with, finds_whole, or_beginnings, sought_keys, IsSearchFault, IsSearchedSome};
 
-use crate::listings::{left_of, write_some};
 use crate::numbers::{
-    MALFORMED_SEARCH, OUT_OF_MEMORY, SEARCH_TOO_LONG, UNKNOWN_KIND, UNKNOWN_SEARCH, kind_of,
+    MALFORMED_SEARCH, OUT_OF_MEMORY, SEARCH_TOO_LONG, UNKNOWN_KIND, UNKNOWN_SEARCH, trie_of,
 };
-use std::alloc::{AllocError, Global};
+use crate::parts::{left_of, write_some};
+use std::alloc::Global;
 use std::ops::Bound;
-use zerotrie_core::{ZeroTrieStream, ZeroTrieWithOptions, by_kind};
+use zerotrie_core::ZeroTrieStream;
 use zerotrie_search::{
     Automaton, BeginsWith, Glob, GlobError, KeyRange, Levenshtein, LevenshteinChars, Subsequence,
     ZeroTrieSearch,
@@ -184,87 +184,6 @@ fn write_sought(
     }
 }
 
-/// Writes the next pairs of a trie of the kind `K` that are sought.
-fn write_left<K: ZeroTrieWithOptions>(
-    alloc: Global,
-    bytes: &[u8],
-    prefix: &[u8],
-    sought: Sought<'_>,
-    beginnings: bool,
-    goes_on: bool,
-    last: &[u8],
-    keys: &mut [u8],
-    ends: &mut [usize],
-    values: &mut [usize],
-    count: &mut usize,
-    next_len: &mut usize,
-) -> u32
-    ensures listed { (pairs : Pairs) → Lists K.kind bytes.now pairs
-        → IsListedSome (accepted (or_beginnings beginnings (sought_keys sought.entry))
-        (left_of K.kind goes_on last.now (beginning K.kind prefix.now pairs))) result
-        keys.old keys.new ends.old ends.new values.old values.new count.new
-        next_len.old next_len.new }
-    ensures any { (pairs : Pairs) × (length pairs ≤ length bytes.now)
-        × IsListedSome (accepted (or_beginnings beginnings (sought_keys sought.entry)) pairs) result
-        keys.old keys.new ends.old ends.new values.old values.new count.new
-        next_len.old next_len.new }
-{
-    match left_of::<K>(alloc, bytes, prefix, goes_on, last) {
-        Ok(pairs) => {
-            write_sought(
-                alloc, pairs, sought, beginnings, keys, ends, values, count, next_len,
-            )
-        }
-        Err(_) => {
-            *count = 0;
-            OUT_OF_MEMORY
-        }
-    }
-}
-
-/// Writes the next pairs of a trie of the kind `K` that a search finds.
-fn search_some<K: ZeroTrieWithOptions>(
-    alloc: Global,
-    bytes: &[u8],
-    prefix: &[u8],
-    search: &Search<'_>,
-    goes_on: bool,
-    last: &[u8],
-    keys: &mut [u8],
-    ends: &mut [usize],
-    values: &mut [usize],
-    count: &mut usize,
-    next_len: &mut usize,
-) -> u32
-    ensures listed { (pairs : Pairs) → Lists K.kind bytes.now pairs
-        → IsSearchedSome search.now
-        (left_of K.kind goes_on last.now (beginning K.kind prefix.now pairs)) result
-        keys.old keys.new ends.old ends.new values.old values.new count.old count.new
-        next_len.old next_len.new }
-    ensures any { (pairs : Pairs) × (length pairs ≤ length bytes.now)
-        × IsSearchedSome search.now pairs result
-        keys.old keys.new ends.old ends.new values.old values.new count.old count.new
-        next_len.old next_len.new }
-{
-    match sought_of(search) {
-        Ok(sought) => write_left::<K>(
-            alloc,
-            bytes,
-            prefix,
-            sought,
-            search.beginnings,
-            goes_on,
-            last,
-            keys,
-            ends,
-            values,
-            count,
-            next_len,
-        ),
-        Err(status) => status,
-    }
-}
-
 /// Like `zerotrie_list_some`, of those pairs whose keys a search finds: a range, a pattern, bytes in
 /// their order, or a word with few edits, and with `beginnings` also the keys that begin with one
 /// that it finds.
@@ -298,13 +217,28 @@ pub extern "C" fn zerotrie_search_some(
         × (ends.new ≡ ends.old) × (values.new ≡ values.old) × (count.new ≡ count.old)
         × (next_len.new ≡ next_len.old)) }
 {
-    match kind_of(kind) {
-        Some(kind) => by_kind!(
-            kind,
-            search_some::<_>(
-                alloc, bytes, prefix, search, goes_on, last, keys, ends, values, count, next_len
-            )
+    let Some(trie) = trie_of(kind, bytes) else {
+        return UNKNOWN_KIND;
+    };
+    let sought = match sought_of(search) {
+        Ok(sought) => sought,
+        Err(status) => return status,
+    };
+    match left_of(alloc, &trie, prefix, goes_on, last) {
+        Ok(pairs) => write_sought(
+            alloc,
+            pairs,
+            sought,
+            search.beginnings,
+            keys,
+            ends,
+            values,
+            count,
+            next_len,
         ),
-        None => UNKNOWN_KIND,
+        Err(_) => {
+            *count = 0;
+            OUT_OF_MEMORY
+        }
     }
 }

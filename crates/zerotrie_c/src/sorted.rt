@@ -13,15 +13,14 @@ ghost use Rattle.zerotrie_c.specs.Statuses.{unknown_kind, unknown_search};
 ghost use Rattle.zerotrie_c.specs.Listed.{IsListedSome};
 ghost use Rattle.zerotrie_c.specs.Sorted.{bounds_with};
 
-use crate::listings::put_at;
 use crate::numbers::{
-    BUFFER_TOO_SMALL, DONE, OUT_OF_MEMORY, UNKNOWN_KIND, UNKNOWN_SEARCH, kind_of,
+    BUFFER_TOO_SMALL, DONE, OUT_OF_MEMORY, UNKNOWN_KIND, UNKNOWN_SEARCH, trie_of,
 };
+use crate::parts::put_at;
 use crate::searches::bound_with;
 use std::alloc::Global;
 use std::ops::Bound;
-use zerotrie_core::{ZeroTrieWithOptions, by_kind};
-use zerotrie_search::ZeroTrieSorted;
+use zerotrie_search::{Search, ZeroTrieSorted};
 
 /// Returns the lower and the upper bound with these numbers at two keys, or `None` if a number is
 /// that of no bound.
@@ -81,35 +80,6 @@ fn write_sorted(
     }
 }
 
-/// Writes the pairs of a trie of the kind `K` whose keys are between two bounds.
-fn sorted_some<K: ZeroTrieWithOptions>(
-    alloc: Global,
-    bytes: &[u8],
-    from: Bound<&[u8]>,
-    to: Bound<&[u8]>,
-    keys: &mut [u8],
-    ends: &mut [usize],
-    values: &mut [usize],
-    count: &mut usize,
-    next_len: &mut usize,
-) -> u32
-    ensures listed { (m : Map) → Means K.kind bytes.now m
-        → IsListedSome (within (bound_map (λ b. b.now) from.entry) (bound_map (λ b. b.now) to.entry) m)
-        result keys.old keys.new ends.old ends.new values.old values.new count.new
-        next_len.old next_len.new }
-    ensures any { (pairs : Pairs) × (length pairs ≤ length bytes.now) × IsListedSome pairs result
-        keys.old keys.new ends.old ends.new values.old values.new count.new
-        next_len.old next_len.new }
-{
-    match ZeroTrieSorted::new::<K>(alloc, bytes, from, to) {
-        Ok(pairs) => write_sorted(pairs, keys, ends, values, count, next_len),
-        Err(_) => {
-            *count = 0;
-            OUT_OF_MEMORY
-        }
-    }
-}
-
 /// Writes the pairs whose keys are between two bounds, in the order of bytes in every kind, as many
 /// as the rooms have places for: the keys one after another, where each ends, and the values. To
 /// continue after the last key that a call wrote, give that key as an excluded lower bound.
@@ -152,14 +122,17 @@ pub extern "C" fn zerotrie_sorted_some(
         × (ends.new ≡ ends.old) × (values.new ≡ values.old) × (count.new ≡ count.old)
         × (next_len.new ≡ next_len.old)) }
 {
-    let Some(kind) = kind_of(kind) else {
+    let Some(trie) = trie_of(kind, bytes) else {
         return UNKNOWN_KIND;
     };
     let Some((from, to)) = bounds_with(from_bound, from, to_bound, to) else {
         return UNKNOWN_SEARCH;
     };
-    by_kind!(
-        kind,
-        sorted_some::<_>(alloc, bytes, from, to, keys, ends, values, count, next_len)
-    )
+    match trie.stream_sorted(alloc, from, to) {
+        Ok(pairs) => write_sorted(pairs, keys, ends, values, count, next_len),
+        Err(_) => {
+            *count = 0;
+            OUT_OF_MEMORY
+        }
+    }
 }

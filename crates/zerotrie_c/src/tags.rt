@@ -8,18 +8,18 @@ ghost use Rattle.zerotrie_c.specs.Builds.{IsHandedOut};
 ghost use Rattle.zerotrie_c.specs.Statuses.{unknown_kind};
 ghost use Rattle.zerotrie_c.specs.Tags.{IsUntagged};
 
-use crate::numbers::{BUFFER_TOO_SMALL, DONE, INVALID_TAG, NO_TAG, UNKNOWN_KIND, is_kind, kind_of};
-use zerotrie_core::{by_kind, is_well_formed};
+use crate::numbers::{BUFFER_TOO_SMALL, DONE, INVALID_TAG, NO_TAG, UNKNOWN_KIND, is_kind, trie_of};
+use zerotrie_core::Trie;
 
-/// Whether the bytes are a valid trie of the kind: yes exactly if they mean a map. No for a number
-/// that no kind has.
+/// Returns whether the bytes are a valid trie of the kind: exactly if they mean a map. Not for a
+/// number that no kind has.
 #[unsafe(no_mangle)]
 pub extern "C" fn zerotrie_is_well_formed(kind: u32, bytes: &[u8]) -> bool
     ensures known { IfSome (kind_of kind) (λ k. IsTrue result ↔ IsWellFormed k bytes.now) }
     ensures unknown { IfNone (kind_of kind) (result ≡ false) }
 {
-    match kind_of(kind) {
-        Some(kind) => by_kind!(kind, is_well_formed::<_>(bytes)),
+    match trie_of(kind, bytes) {
+        Some(trie) => trie.is_well_formed(),
         None => false,
     }
 }

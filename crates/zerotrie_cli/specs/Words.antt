@@ -1,18 +1,19 @@
 -- The words of a command line, and what they ask for.
-use Rattle.std.specs.Prelude.{◌≡◌, ◌≢◌, ◌⊎◌, ℕ, List, [], ◌∷◌, Option, Some, None, Bool, true, false, Vec, codes, map, unwrap_or, eqb, if◌then◌else◌}
-use Rattle.std.specs.List.{ends_with}
+use Rattle.std.specs.Prelude.{◌≡◌, ◌≢◌, ◌⊎◌, ℕ, ◌-◌, List, [], ◌∷◌, Option, Some, None, Bool, true, false, Vec, codes, drop, length, map, unwrap_or}
+use Rattle.std.specs.Char.{to_ascii_lowercase}
 use Rattle.std.specs.Global.{Global}
 use Rattle.std.specs.Borrow.{Bor}
 use Rattle.std.specs.declared.ops.Bound.{Bound}
 use Rattle.std.specs.declared.ops.Bound.TheVariants.{Included, Excluded, Unbounded}
 use Rattle.std.specs.Option.{option_map}
 use Rattle.std.specs.Str.{chars}
+use Rattle.std.specs.Str.Parse.{IsNumeral, digits_value, without_leading_plus}
 use Rattle.clap.specs.Matches.{found_of, first_value, matched_of, one_text, raw_values}
 use Rattle.clap.specs.declared.parser.matches.ArgMatches.{ArgMatches}
 use Rattle.zerotrie_cli.specs.declared.arguments.Topic.{Topic}
 use Rattle.zerotrie_cli.specs.declared.arguments.Topic.TheVariants as topic
-use Rattle.zerotrie_cli.specs.declared.build.Input.{Input}
-use Rattle.zerotrie_cli.specs.declared.build.Input.TheVariants as input
+use Rattle.zerotrie_cli.specs.declared.input.Input.{Input}
+use Rattle.zerotrie_cli.specs.declared.input.Input.TheVariants as input
 use Rattle.zerotrie_core.specs.Kinds.{kind_name}
 use Rattle.zerotrie_core.specs.declared.TrieKind.{TrieKind}
 use Rattle.zerotrie_lines.specs.declared.reading.Format.TheVariants.{Tsv, TsvRaw, Csv, Lines}
@@ -22,17 +23,17 @@ use Rattle.zerotrie_queries.specs.code.Names.{is_name}
 use Rattle.zerotrie_queries.specs.code.Texts.{usual_name}
 use Rattle.zerotrie_queries.specs.declared.code.Language.{Language}
 use Rattle.zerotrie_queries.specs.declared.code.Language.TheVariants as lang
-use Rattle.zerotrie_queries.specs.declared.lookups.Asked.{Asked}
-use Rattle.zerotrie_queries.specs.declared.lookups.Asked.TheVariants as asked
-use Rattle.zerotrie_queries.specs.declared.lookups.Spelling.{Spelling}
-use Rattle.zerotrie_queries.specs.declared.lookups.Spelling.TheVariants as spelling
-use Rattle.zerotrie_queries.specs.declared.lookups.Query.{Query}
+use Rattle.zerotrie_queries.specs.declared.question.Asked.{Asked}
+use Rattle.zerotrie_queries.specs.declared.question.Asked.TheVariants as asked
+use Rattle.zerotrie_queries.specs.declared.question.Spelling.{Spelling}
+use Rattle.zerotrie_queries.specs.declared.question.Spelling.TheVariants as spelling
+use Rattle.zerotrie_queries.specs.declared.question.Query.{Query}
 use Rattle.zerotrie_queries.specs.declared.reports.ReportForm.{ReportForm}
 use Rattle.zerotrie_queries.specs.declared.reports.ReportForm.TheVariants as report
-use Rattle.zerotrie_queries.specs.declared.source.Choice.{Choice}
-use Rattle.zerotrie_queries.specs.declared.source.Choice.TheVariants as choice
-use Rattle.zerotrie_queries.specs.declared.source.Order.{Order}
-use Rattle.zerotrie_queries.specs.declared.source.Order.TheVariants as order
+use Rattle.zerotrie_queries.specs.declared.question.Choice.{Choice}
+use Rattle.zerotrie_queries.specs.declared.question.Choice.TheVariants as choice
+use Rattle.zerotrie_queries.specs.declared.question.Order.{Order}
+use Rattle.zerotrie_queries.specs.declared.question.Order.TheVariants as order
 use Rattle.zerotrie_search.specs.Words.{letters_of}
 use Rattle.zerotrie_search.specs.declared.range.KeyRange.{KeyRange}
 use Rattle.zerotrie_queries.specs.declared.views.View.{View}
@@ -40,13 +41,13 @@ use Rattle.zerotrie_queries.specs.declared.print.Form.{Form}
 use Rattle.zerotrie_queries.specs.declared.print.Form.TheVariants as form
 use Rattle.zerotrie_queries.specs.declared.print.Style.TheVariants as style
 use Rattle.zerotrie_queries.specs.declared.views.View.TheVariants as view
-use Rattle.zerotrie_making.specs.declared.making.Plan.{Plan}
+use Rattle.zerotrie_making.specs.declared.plan.Plan.{Plan}
 use Rattle.zerotrie_making.specs.declared.duplicates.Duplicates.{Duplicates}
 use Rattle.zerotrie_making.specs.declared.duplicates.Duplicates.TheVariants as again
-use Rattle.zerotrie_making.specs.declared.making.FileForm.{FileForm}
-use Rattle.zerotrie_making.specs.declared.making.FileForm.TheVariants as made
-use Rattle.zerotrie_making.specs.declared.making.Source.{Source}
-use Rattle.zerotrie_making.specs.declared.making.Source.TheVariants.{Text, Json}
+use Rattle.zerotrie_making.specs.declared.plan.FileForm.{FileForm}
+use Rattle.zerotrie_making.specs.declared.plan.FileForm.TheVariants as made
+use Rattle.zerotrie_making.specs.declared.plan.Source.{Source}
+use Rattle.zerotrie_making.specs.declared.plan.Source.TheVariants.{Text, Json}
 use Rattle.zerotrie_run.specs.declared.command.Check.{Check}
 use Rattle.zerotrie_run.specs.declared.command.Check.TheVariants as check
 use Rattle.zerotrie_run.specs.declared.command.Keys.{Keys}
@@ -78,23 +79,38 @@ format_word input.Csv = codes "csv"
 format_word input.Lines = codes "lines"
 format_word input.Json = codes "json"
 
+-- a path ends so, in either case of ASCII letters: its last bytes, as many as the ending has
+abbrev pub EndsIn : List ℕ → List ℕ → Type 0
+EndsIn path ending = map to_ascii_lowercase (drop (length path - length ending) path) ≡ map to_ascii_lowercase ending
+
 -- the format of a file by the ending of its path
-abbrev pub by_ending : List ℕ → Input
-by_ending path =
-    if ends_with eqb path (codes ".csv") then input.Csv
-    else if ends_with eqb path (codes ".json") then input.Json
-    else if ends_with eqb path (codes ".txt") then input.Lines
-    else input.Tsv
+abbrev pub IsOfPath : List ℕ → Input → Type 0
+IsOfPath path input.Csv = EndsIn path (codes ".csv")
+IsOfPath path input.Json = EndsIn path (codes ".json")
+IsOfPath path input.Lines = EndsIn path (codes ".txt")
+IsOfPath path input.Tsv = (EndsIn path (codes ".csv") → ⊥) × (EndsIn path (codes ".json") → ⊥) × (EndsIn path (codes ".txt") → ⊥)
 
 -- the format of an input: the one that is named, or by the ending of its path
 abbrev pub IsFormat : Option (List ℕ) → Option (List ℕ) → Input → Type 0
 IsFormat (Some word) path format = word ≡ format_word format
-IsFormat None path format = format ≡ by_ending (unwrap_or path [])
+IsFormat None path format = IsOfPath (unwrap_or path []) format
 
 -- what ends a line, by its word
 abbrev pub end_word : LineEnd → List ℕ
 end_word CrLf = codes "crlf"
 end_word Lf = codes "lf"
+
+-- what ends a line: a carriage return may be before the line feed, unless a word says otherwise
+abbrev pub IsEnd : Option (List ℕ) → LineEnd → Type 0
+IsEnd None end = end ≡ CrLf
+IsEnd (Some word) end = word ≡ end_word end
+
+-- a format may have a word for the end of its lines: JSON has no lines
+abbrev pub MayNameEnd : Input → Option (List ℕ) → Type 0
+MayNameEnd input.Tsv word = Unit {0}
+MayNameEnd input.Csv word = Unit {0}
+MayNameEnd input.Lines word = Unit {0}
+MayNameEnd input.Json word = word ≡ None
 
 -- an input of a format is such pairs, by whether it is raw: only `tsv` is
 abbrev pub IsSourceOf : Input → Bool → LineEnd → Source → Type 0
@@ -109,7 +125,8 @@ pub record IsInput (matches : ArgMatches) (source : Source) : Type 0 where
   pub format : Input
   pub named : IsFormat (word_of matches (codes "format")) (word_of matches (codes "IN")) format
   pub end : LineEnd
-  pub ended : word_of matches (codes "eol") ≡ Some (end_word end)
+  pub ended : IsEnd (word_of matches (codes "eol")) end
+  pub lines : MayNameEnd format (word_of matches (codes "eol"))
   pub raw : Bool
   pub flag : IsFlag (flag_of matches (codes "raw")) raw
   pub of : IsSourceOf format raw end source
@@ -152,26 +169,33 @@ form_word (form.Lines style.JsonLines) = Some (codes "jsonl")
 form_word form.Json = Some (codes "json")
 form_word form.Count = None
 
--- the form of a list: a number if it is only to be counted, and else by its word
+-- the form of a list: a number if it is only to be counted, and then there is no word; else by its word, or lines with a tab
 abbrev pub IsFormOf : Bool → Option (List ℕ) → Form → Type 0
-IsFormOf true word f = f ≡ form.Count
-IsFormOf false word f = (word ≡ form_word f) × (f ≢ form.Count)
+IsFormOf true word f = (word ≡ None) × (f ≡ form.Count)
+IsFormOf false None f = f ≡ form.Lines style.Tsv
+IsFormOf false (Some word) f = Some word ≡ form_word f
 
 abbrev pub IsListForm : Option (List ℕ) → Option (List ℕ) → Form → Type 0
 IsListForm count word f = (flag : Bool) × IsFlag count flag × IsFormOf flag word f
 
--- the order of a list: that of the bytes by the flag
-abbrev pub order_by : Bool → Order
-order_by true = order.ByBytes
-order_by false = order.Stored
+-- the order of a list: that of the bytes by a flag, but not if it is only to be counted
+abbrev pub order_by : Bool → Bool → Order
+order_by true count = order.Stored
+order_by false true = order.ByBytes
+order_by false false = order.Stored
 
-abbrev pub IsOrder : Option (List ℕ) → Order → Type 0
-IsOrder word o = (flag : Bool) × IsFlag word flag × (o ≡ order_by flag)
+abbrev pub IsOrder : Option (List ℕ) → Option (List ℕ) → Order → Type 0
+IsOrder count sorted o = (c : Bool) × (s : Bool) × IsFlag count c × IsFlag sorted s × (o ≡ order_by c s)
 
--- a limit, which is none without a word; that it is the number of the word, tests show
+-- the decimal number of a word, which may begin with a plus
+abbrev pub IsNumberOf : List ℕ → ℕ → Type 0
+IsNumberOf word n = IsNumeral 10 (without_leading_plus word) × (n ≡ digits_value 10 (without_leading_plus word))
+
+-- a limit: none without a word, else its number
 abbrev pub IsLimit : Option (List ℕ) → Option ℕ → Type 0
 IsLimit None limit = limit ≡ None
-IsLimit (Some word) limit = limit ≢ None
+IsLimit (Some word) None = ⊥
+IsLimit (Some word) (Some limit) = IsNumberOf word limit
 
 -- the byte at which a key may end: the one byte of the word
 abbrev pub IsBorder : Option (List ℕ) → Option ℕ → Type 0
@@ -212,10 +236,15 @@ report_by false = report.Lines
 abbrev pub IsReportForm : Option (List ℕ) → ReportForm → Type 0
 IsReportForm word form = (flag : Bool) × IsFlag word flag × (form ≡ report_by flag)
 
--- how nodes are shown, by the word
-abbrev pub view_word : View → List ℕ
-view_word view.Dump = codes "dump"
-view_word (view.Dot most) = codes "dot"
+-- how many nodes are drawn: the number of the word, or a hundred
+abbrev pub IsDrawn : Option (List ℕ) → ℕ → Type 0
+IsDrawn None most = most ≡ 100
+IsDrawn (Some word) most = IsNumberOf word most
+
+-- how nodes are shown, by the word, and by that of the limit, which only a drawing has
+abbrev pub IsView : Option (List ℕ) → Option (List ℕ) → View → Type 0
+IsView word limit view.Dump = (word ≡ Some (codes "dump")) × (limit ≡ None)
+IsView word limit (view.Dot most) = (word ≡ Some (codes "dot")) × IsDrawn limit most
 
 -- how a language is
 abbrev pub language_word : Language → List ℕ
@@ -223,6 +252,7 @@ language_word lang.Rust = codes "rust"
 language_word lang.C = codes "c"
 language_word lang.CAlone = codes "c"
 language_word lang.Rattle = codes "rattle"
+language_word lang.JavaScript = codes "js"
 
 -- whether its code needs no library
 abbrev pub is_alone : Language → Bool
@@ -230,6 +260,7 @@ is_alone lang.CAlone = true
 is_alone lang.C = false
 is_alone lang.Rust = false
 is_alone lang.Rattle = false
+is_alone lang.JavaScript = false
 
 -- the kind that a word names: none without a word, or if it is `auto`
 abbrev pub IsKind : Option (List ℕ) → Option TrieKind → Type 0
@@ -253,15 +284,15 @@ IsTarget word Stream = IsPlace word Stream ⊎ (word ≡ Some (codes "/dev/stdou
 
 -- How a file is to be made, by the words of a build.
 pub record IsPlan (matches : ArgMatches) (plan : Plan) : Type 0 where
-  pub source : IsInput matches plan.source
-  pub duplicates : word_of matches (codes "duplicates") ≡ Some (duplicates_word plan.duplicates)
-  pub kind : IsKind (word_of matches (codes "kind")) plan.kind
-  pub sorted : IsFlag (flag_of matches (codes "sorted")) plan.sorted
-  pub lower_case : IsFlag (flag_of matches (codes "lower-case")) plan.lower_case
-  pub form : IsForm (flag_of matches (codes "tagged")) (flag_of matches (codes "bare")) (flag_of matches (codes "index")) plan.form
-  pub together : AreTogether plan.form plan.kind
+  pub source : IsInput matches plan.read.source
+  pub duplicates : word_of matches (codes "duplicates") ≡ Some (duplicates_word plan.read.duplicates)
+  pub kind : IsKind (word_of matches (codes "kind")) plan.file.kind
+  pub sorted : IsFlag (flag_of matches (codes "sorted")) plan.file.sorted
+  pub lower_case : IsFlag (flag_of matches (codes "lower-case")) plan.read.lower_case
+  pub form : IsForm (flag_of matches (codes "tagged")) (flag_of matches (codes "bare")) (flag_of matches (codes "index")) plan.file.form
+  pub together : AreTogether plan.file.form plan.file.kind
 
--- whether steps are told: if messages go to a terminal, and else by the flag
+-- whether steps are reported: if messages go to a terminal, and else by the flag
 abbrev pub IsProgress : Bool → Option (List ℕ) → Bool → Type 0
 IsProgress true word progress = progress ≡ true
 IsProgress false word progress = IsFlag word progress
@@ -285,10 +316,15 @@ given_words matches topic.Code = None
 abbrev pub texts_of : Option (Vec (Bor (List ℕ)) Global) → Option (List (List ℕ))
 texts_of words = option_map (λ w. map (λ text. text.now) w.items) words
 
+-- no word is a hyphen
+abbrev pub HasNoHyphen : List (List ℕ) → Type 0
+HasNoHyphen [] = Unit {0}
+HasNoHyphen (word ∷ words) = (word ≢ codes "-") × HasNoHyphen words
+
 -- the keys that are asked for: these words, or the lines of standard input if the only one is a hyphen
 abbrev pub AreKeysOf : Option (List (List ℕ)) → Keys → Type 0
 AreKeysOf None of = ⊥
-AreKeysOf (Some texts) (keys.Words words) = (map (λ w. w.now) words.now ≡ texts) × (texts ≢ codes "-" ∷ [])
+AreKeysOf (Some texts) (keys.Words words) = (map (λ w. w.now) words.now ≡ texts) × HasNoHyphen texts
 AreKeysOf (Some texts) keys.Lines = texts ≡ codes "-" ∷ []
 
 -- a test as usual, or none but of the seal by the flag
@@ -320,7 +356,7 @@ pub record IsFile (matches : ArgMatches) (about : Topic) (file : TrieFile) : Typ
 pub record IsListing (matches : ArgMatches) (form : Form) (prefix : List ℕ) (o : Order) (limit : Option ℕ) : Type 0 where
   pub format : IsListForm (flag_of matches (codes "count")) (word_of matches (codes "format")) form
   pub front : prefix ≡ unwrap_or (word_of matches (codes "prefix")) []
-  pub ordered : IsOrder (flag_of matches (codes "sorted")) o
+  pub ordered : IsOrder (flag_of matches (codes "count")) (flag_of matches (codes "sorted")) o
   pub most : IsLimit (word_of matches (codes "limit")) limit
 
 -- the pattern, or the word, that is looked for; that the edits are those of the number, tests show
@@ -356,22 +392,27 @@ IsRange matches r = IsFrom (word_of matches (codes "from")) r.from × IsBelow (w
 abbrev pub HasNoRange : ArgMatches → Type 0
 HasNoRange matches = (word_of matches (codes "from") ≡ None) × (word_of matches (codes "below") ≡ None)
 
--- what is looked for, by the word of its option; the others are not there
+-- no number of edits is there
+abbrev pub HasNoEdits : ArgMatches → Type 0
+HasNoEdits matches = word_of matches (codes "edits") ≡ None
+
+-- what is looked for, by the word of its option; the others are not there, nor are edits but of a fuzzy search
 abbrev pub IsSought : ArgMatches → Choice → Type 0
 IsSought matches (choice.Prefix p) = ⊥
 IsSought matches (choice.Glob g) = (word_of matches (codes "glob") ≡ Some g.pattern.now) × (word_of matches (codes "fuzzy") ≡ None) × (word_of matches (codes "subsequence") ≡ None)
-    × HasNoRange matches
+    × HasNoRange matches × HasNoEdits matches
 IsSought matches (choice.Fuzzy l) = (word : List ℕ) × (word_of matches (codes "fuzzy") ≡ Some word) × (letters_of l.word ≡ chars word)
     × (word_of matches (codes "glob") ≡ None) × (word_of matches (codes "subsequence") ≡ None) × HasNoRange matches
 IsSought matches (choice.Subsequence s) = (word_of matches (codes "subsequence") ≡ Some s.0.now) × (word_of matches (codes "glob") ≡ None) × (word_of matches (codes "fuzzy") ≡ None)
-    × HasNoRange matches
+    × HasNoRange matches × HasNoEdits matches
 IsSought matches (choice.Range r) = IsRange matches r × (word_of matches (codes "glob") ≡ None) × (word_of matches (codes "fuzzy") ≡ None) × (word_of matches (codes "subsequence") ≡ None)
+    × HasNoEdits matches
 
 -- The pairs that are listed, by the words of a search.
 pub record IsSearch (matches : ArgMatches) (form : Form) (c : Choice) (o : Order) (limit : Option ℕ) : Type 0 where
   pub format : IsListForm (flag_of matches (codes "count")) (word_of matches (codes "format")) form
   pub sought : IsSought matches c
-  pub ordered : IsOrder (flag_of matches (codes "sorted")) o
+  pub ordered : IsOrder (flag_of matches (codes "count")) (flag_of matches (codes "sorted")) o
   pub most : IsLimit (word_of matches (codes "limit")) limit
 
 -- The code that is written, by the words of its command.
@@ -391,7 +432,7 @@ IsQuestion matches topic.List texts q = (f : Form) × (prefix : Bor (List ℕ)) 
 IsQuestion matches topic.Search texts q = (f : Form) × (c : Choice) × (o : Order) × (limit : Option ℕ) × IsSearch matches f c o limit × (q ≡ question.List f c o limit)
 IsQuestion matches topic.Verify texts q = q ≡ question.Verify
 IsQuestion matches topic.Stats texts q = (f : ReportForm) × IsReportForm (flag_of matches (codes "json")) f × (q ≡ question.Report f)
-IsQuestion matches topic.Inspect texts q = (v : View) × (word_of matches (codes "VIEW") ≡ Some (view_word v)) × (q ≡ question.View v)
+IsQuestion matches topic.Inspect texts q = (v : View) × IsView (word_of matches (codes "VIEW")) (word_of matches (codes "limit")) v × (q ≡ question.View v)
 IsQuestion matches topic.Code texts q = (language : Language) × (name : Bor (List ℕ)) × IsCode matches language name.now × (q ≡ question.Code language name)
 
 -- the command that asks it of the file

@@ -4,6 +4,7 @@ ghost use Rattle.std.specs.Prelude.{IfOk, codes};
 ghost use Rattle.zerotrie_cli.specs.Words.{IsKind, IsPlace, IsSource, word_of};
 
 use crate::table::{STATUSES, commands};
+use clap::builder::ValueParser;
 use clap::{Arg, ArgAction, ArgMatches, Command};
 use std::alloc::{AllocError, Global};
 use zerotrie_core::TrieKind;
@@ -32,6 +33,8 @@ pub enum Form {
     Flag(Option<char>),
     /// Its name and a word after it, which help calls so.
     Text(&'static str, Option<char>, Otherwise),
+    /// Its name and a number up to this one after it, which help calls so.
+    Number(&'static str, Option<char>, u64),
     /// Its name and any word after it, which help calls so; also one that begins with a hyphen.
     AnyText(&'static str, Option<char>),
     /// Its name and one of these words after it, which help calls so.
@@ -81,7 +84,7 @@ pub struct Subcommand {
     pub arguments: &'static [Argument],
 }
 
-/// An option with what holds if it is left out.
+/// Returns an option with what holds if it is left out.
 fn or_otherwise<'a>(option: Arg<'a>, otherwise: &Otherwise) -> Arg<'a> {
     match otherwise {
         Otherwise::Refused => option.required(true),
@@ -90,7 +93,7 @@ fn or_otherwise<'a>(option: Arg<'a>, otherwise: &Otherwise) -> Arg<'a> {
     }
 }
 
-/// An option with its name and its letter, if it has one.
+/// Returns an option with its name and its letter, if it has one.
 fn named<'a>(option: Arg<'a>, name: &'static str, letter: Option<char>) -> Arg<'a> {
     let option = option.long(name);
     match letter {
@@ -99,7 +102,7 @@ fn named<'a>(option: Arg<'a>, name: &'static str, letter: Option<char>) -> Arg<'
     }
 }
 
-/// An option with a word after its name, which help calls so.
+/// Returns an option with a word after its name, which help calls so.
 fn with_word<'a>(
     option: Arg<'a>,
     name: &'static str,
@@ -112,6 +115,7 @@ fn with_word<'a>(
 }
 
 impl Argument {
+    /// Returns the argument as clap takes it.
     fn to_clap<'a>(&self, alloc: Global) -> Arg<'a> {
         let arg = Arg::new(alloc, self.name).help(self.help);
         match &self.form {
@@ -125,6 +129,11 @@ impl Argument {
             Form::Text(value, letter, otherwise) => {
                 or_otherwise(with_word(arg, self.name, *letter, value), otherwise)
             }
+            Form::Number(value, letter, most) => {
+                with_word(arg, self.name, *letter, value).value_parser(ValueParser::unsigned(
+                    0, *most,
+                ))
+            }
             Form::AnyText(value, letter) => {
                 with_word(arg, self.name, *letter, value).allow_hyphen_values(true)
             }
@@ -137,6 +146,7 @@ impl Argument {
 }
 
 impl Subcommand {
+    /// Returns the command as clap takes it.
     fn to_clap<'a>(&self, alloc: Global) -> Result<Command<'a>, AllocError> {
         let mut command = Command::new(alloc, self.name)
             .about(self.about)
@@ -148,7 +158,7 @@ impl Subcommand {
     }
 }
 
-/// What the command line may be.
+/// Returns what the command line may be.
 pub fn command<'a>(alloc: Global) -> Result<Command<'a>, AllocError> {
     let mut program = Command::new(alloc, "zerotrie")
         .bin_name("zerotrie")?
@@ -165,12 +175,13 @@ pub fn command<'a>(alloc: Global) -> Result<Command<'a>, AllocError> {
     Ok(program)
 }
 
-/// Returns what the command of this name does. `None` if there is none.
-pub fn task_of(name: &str) -> Option<Task> {
+/// Returns what the command that the words name does, and its own words. `None` if they name none,
+/// which clap refuses.
+pub fn task_in<'m, 'a>(matches: &'m ArgMatches<'a>) -> Option<(Task, &'m ArgMatches<'a>)> {
     for rows in &commands() {
         for row in *rows {
-            if row.name == name {
-                return Some(row.task);
+            if let Some(words) = matches.subcommand_matches(row.name) {
+                return Some((row.task, words));
             }
         }
     }

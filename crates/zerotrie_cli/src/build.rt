@@ -1,96 +1,100 @@
 //! The build that the command line asks for.
 
-ghost use Rattle.std.specs.Prelude.{◌≡◌, Some, IfOk, codes};
-ghost use Rattle.zerotrie_cli.specs.Words.{AreTogether, IsFlag, IsForm, IsFormat, IsInput, IsKind, IsPlan, IsProgress, IsSource, IsTarget, by_ending, duplicates_word, end_word, flag_of, format_word, word_of};
+ghost use Rattle.std.specs.Prelude.{◌≡◌, Some, IfOk, IfSome, IfNone, codes};
+ghost use Rattle.zerotrie_cli.specs.Words.{AreTogether, IsEnd, IsFlag, IsForm, IsFormat, IsInput, IsKind, IsPlan, IsProgress, IsSource, IsTarget, MayNameEnd, duplicates_word, end_word, flag_of, word_of};
+ghost use Rattle.zerotrie_lines.specs.declared.reading.LineEnd.{LineEnd};
+ghost use Rattle.zerotrie_making.specs.declared.duplicates.Duplicates.{Duplicates};
 
 use crate::arguments::{kind_in, place_in, source_in};
+use crate::input::Input;
 use clap::ArgMatches;
 use zerotrie_core::TrieKind;
 use zerotrie_lines::{Format, LineEnd};
-use zerotrie_making::{Duplicates, FileForm, Plan, Source};
+use zerotrie_making::{Duplicates, FileForm, FilePlan, Plan, ReadPlan, Source};
 use zerotrie_run::{Build, Place};
 
-/// A format of input, and how keys are written in it.
-#[derive(Clone, Copy, PartialEq, Eq, Debug)]
-pub enum Input {
-    Tsv,
-    Csv,
-    Lines,
-    Json,
-}
-
-/// The format of a file by the ending of its path.
-fn by_ending(path: &str) -> Input
-    ensures { result ≡ by_ending path.now }
-{
-    if path.ends_with(".csv") {
-        Input::Csv
-    } else if path.ends_with(".json") {
-        Input::Json
-    } else if path.ends_with(".txt") {
-        Input::Lines
-    } else {
-        Input::Tsv
-    }
-}
-
-/// The format of the input: the one that is named, or by the ending of its path.
+/// Returns the format of the input: the one that is named, or by the ending of its path.
 fn format_in(matches: &ArgMatches<'_>) -> Result<Input, &'static str>
     ensures { IfOk result (IsFormat (word_of matches.now (codes "format"))
         (word_of matches.now (codes "IN"))) }
 {
     match matches.get_str("format") {
-        Some("tsv") => Ok(Input::Tsv),
-        Some("csv") => Ok(Input::Csv),
-        Some("lines") => Ok(Input::Lines),
-        Some("json") => Ok(Input::Json),
-        Some(_) => Err("--format asks for a format"),
-        None => Ok(by_ending(matches.get_str("IN").unwrap_or(""))),
+        Some(name) => Input::named(name).ok_or("--format asks for a format"),
+        None => Ok(Input::of_path(matches.get_str("IN").unwrap_or(""))),
     }
 }
 
-/// What ends a line of the input.
-fn end_in(matches: &ArgMatches<'_>) -> Result<LineEnd, &'static str>
-    ensures { IfOk result (λ end. word_of matches.now (codes "eol") ≡ Some (end_word end)) }
+/// Returns the line end with this name, or `None` if no line end has it.
+fn end_named(name: &str) -> Option<LineEnd>
+    ensures some { IfSome result (λ end. name.now ≡ end_word end) }
+    ensures none { IfNone result ((end : LineEnd) → name.now ≡ end_word end → ⊥) }
 {
-    match matches.get_str("eol") {
-        Some("crlf") => Ok(LineEnd::CrLf),
-        Some("lf") => Ok(LineEnd::Lf),
-        _ => Err("--eol asks for crlf or lf"),
+    match name {
+        "crlf" => Some(LineEnd::CrLf),
+        "lf" => Some(LineEnd::Lf),
+        _ => None,
     }
 }
 
-/// How the input is pairs. Only `tsv` is raw.
+/// Returns what ends a line of an input of this format. JSON has no lines.
+fn end_in(matches: &ArgMatches<'_>, input: Input) -> Result<LineEnd, &'static str>
+    ensures end { IfOk result (IsEnd (word_of matches.now (codes "eol"))) }
+    ensures lines { IfOk result (λ _. MayNameEnd input (word_of matches.now (codes "eol"))) }
+{
+    match (matches.get_str("eol"), input) {
+        (None, _) => Ok(LineEnd::CrLf),
+        (Some(_), Input::Json) => Err("--eol is for lines and records: leave it out for json"),
+        (Some(name), Input::Tsv | Input::Csv | Input::Lines) => {
+            end_named(name).ok_or("--eol asks for crlf or lf")
+        }
+    }
+}
+
+/// Returns how the input is pairs. Only `tsv` is raw.
 fn input_in(matches: &ArgMatches<'_>) -> Result<Source, &'static str>
     ensures { IfOk result (IsInput matches.now) }
 {
     let input = format_in(matches)?;
-    let end = end_in(matches)?;
+    let end = end_in(matches, input)?;
     let raw = matches.get_flag("raw");
-    match input {
-        Input::Tsv if raw => Ok(Source::Text(Format::TsvRaw, end)),
-        Input::Tsv => Ok(Source::Text(Format::Tsv, end)),
-        _ if raw => Err("--raw is for tsv"),
-        Input::Csv => Ok(Source::Text(Format::Csv, end)),
-        Input::Lines => Ok(Source::Text(Format::Lines, end)),
-        Input::Json => Ok(Source::Json),
+    match (input, raw) {
+        (Input::Tsv, true) => Ok(Source::Text(Format::TsvRaw, end)),
+        (Input::Tsv, false) => Ok(Source::Text(Format::Tsv, end)),
+        (Input::Csv, false) => Ok(Source::Text(Format::Csv, end)),
+        (Input::Lines, false) => Ok(Source::Text(Format::Lines, end)),
+        (Input::Json, false) => Ok(Source::Json),
+        (Input::Csv | Input::Lines | Input::Json, true) => Err("--raw is for tsv"),
     }
 }
 
-/// What becomes of a key that comes again.
+/// Returns the choice with this name, or `None` if no choice has it.
+fn duplicates_named(name: &str) -> Option<Duplicates>
+    ensures some { IfSome result (λ choice. name.now ≡ duplicates_word choice) }
+    ensures none { IfNone result ((choice : Duplicates)
+        → name.now ≡ duplicates_word choice → ⊥) }
+{
+    match name {
+        "refuse" => Some(Duplicates::Refuse),
+        "first" => Some(Duplicates::First),
+        "last" => Some(Duplicates::Last),
+        _ => None,
+    }
+}
+
+/// Returns what becomes of a key that comes again.
 fn duplicates_in(matches: &ArgMatches<'_>) -> Result<Duplicates, &'static str>
     ensures { IfOk result (λ choice.
         word_of matches.now (codes "duplicates") ≡ Some (duplicates_word choice)) }
 {
     match matches.get_str("duplicates") {
-        Some("refuse") => Ok(Duplicates::Refuse),
-        Some("first") => Ok(Duplicates::First),
-        Some("last") => Ok(Duplicates::Last),
-        _ => Err("--duplicates asks for refuse, first or last"),
+        Some(name) => {
+            duplicates_named(name).ok_or("--duplicates asks for refuse, first or last")
+        }
+        None => Err("--duplicates asks for refuse, first or last"),
     }
 }
 
-/// What the file has: a trie with what is beside its bytes, or an index.
+/// Returns what the file has: a trie with what is beside its bytes, or an index.
 fn form_in(matches: &ArgMatches<'_>) -> Result<FileForm, &'static str>
     ensures { IfOk result (IsForm (flag_of matches.now (codes "tagged"))
         (flag_of matches.now (codes "bare")) (flag_of matches.now (codes "index"))) }
@@ -109,7 +113,7 @@ fn form_in(matches: &ArgMatches<'_>) -> Result<FileForm, &'static str>
     }
 }
 
-/// What the file has, and the kind of its trie, if one is named.
+/// Returns what the file has, and the kind of its trie, if one is named.
 pub fn content_in(matches: &ArgMatches<'_>) -> Result<(Option<TrieKind>, FileForm), &'static str>
     ensures kind { IfOk result (λ of. IsKind (word_of matches.now (codes "kind")) of.0) }
     ensures form { IfOk result (λ of. IsForm (flag_of matches.now (codes "tagged"))
@@ -120,26 +124,33 @@ pub fn content_in(matches: &ArgMatches<'_>) -> Result<(Option<TrieKind>, FileFor
     let form = form_in(matches)?;
     match (form, kind) {
         (FileForm::Index, Some(_)) => Err("an index has no kind: leave out --kind or --index"),
-        (_, _) => Ok((kind, form)),
+        (FileForm::Index, None) | (FileForm::Sealed | FileForm::Tagged | FileForm::Bare, _) => {
+            Ok((kind, form))
+        }
     }
 }
 
-/// How the file is to be made.
+/// Returns how the file is to be made.
 fn plan_in(matches: &ArgMatches<'_>) -> Result<Plan, &'static str>
     ensures { IfOk result (IsPlan matches.now) }
 {
     let (kind, form) = content_in(matches)?;
     Ok(Plan {
-        source: input_in(matches)?,
-        kind,
-        duplicates: duplicates_in(matches)?,
-        sorted: matches.get_flag("sorted"),
-        lower_case: matches.get_flag("lower-case"),
-        form,
+        read: ReadPlan {
+            source: input_in(matches)?,
+            lower_case: matches.get_flag("lower-case"),
+            duplicates: duplicates_in(matches)?,
+        },
+        file: FilePlan {
+            kind,
+            sorted: matches.get_flag("sorted"),
+            form,
+        },
     })
 }
 
-/// Where the file goes. A path of standard output is that stream: what it leads to is not replaced.
+/// Returns where the file goes. A path of standard output is that stream: what it leads to is not
+/// replaced.
 pub fn target_in<'a>(matches: &ArgMatches<'a>) -> Place<'a>
     ensures { IsTarget (word_of matches.now (codes "output")) result }
 {

@@ -3,10 +3,16 @@
 
 mod arguments;
 mod build;
+mod code;
 mod combine;
 mod commands;
 mod diff;
+mod help;
+mod input;
+mod keys;
+mod listing;
 mod question;
+mod search;
 mod table;
 
 use std::process::ExitCode;

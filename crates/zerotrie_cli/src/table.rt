@@ -1,13 +1,12 @@
 //! The commands, as rows.
 
 use crate::arguments::{Argument, Form, Otherwise, Subcommand, Task, Topic};
+use crate::input::INPUTS;
 use zerotrie_sets::{Keep, Operation};
 
 const KINDS: &[&str] = &["simple", "ignore", "hash", "ext"];
 
 const KINDS_OR_AUTO: &[&str] = &["auto", "simple", "ignore", "hash", "ext"];
-
-const INPUTS: &[&str] = &["tsv", "csv", "lines", "json"];
 
 const OUTPUTS: &[&str] = &["tsv", "csv", "keys", "values", "json", "jsonl"];
 
@@ -15,12 +14,12 @@ const ENDS: &[&str] = &["crlf", "lf"];
 
 const CHOICES: &[&str] = &["refuse", "first", "last"];
 
-const LANGUAGES: &[&str] = &["rust", "c", "rattle"];
+const LANGUAGES: &[&str] = &["rust", "c", "rattle", "js"];
 
 const VIEWS: &[&str] = &["dump", "dot"];
 
-/// How many nodes are drawn if `--limit` is left out.
-const DRAWN: &str = "100";
+/// The greatest number that an option takes.
+const GREATEST: u64 = u64::MAX;
 
 /// The file of a trie.
 const FILE: Argument = Argument {
@@ -112,8 +111,11 @@ const BOTH: &[Argument] = &[
 ];
 
 /// What a status says, in the help of the program.
-pub const STATUSES: &str =
-    "Status: 0 if all is done or found; 1 if a key is not there, a text\nbegins with none, pairs differ, or a build is refused; 2 if the command\nline is wrong, FILE is no trie, or IN is no pairs; 3 if a file can't be read\nor written, or memory runs out; 4 if whoever reads the output has\nclosed it.";
+pub const STATUSES: &str = "Status: 0 if all is done or found; 1 if a key is not there, a text\n\
+    begins with none, pairs differ, or a build is refused; 2 if the command\n\
+    line is wrong, FILE is no trie, or IN is no pairs; 3 if a file can't be read\n\
+    or written, or memory runs out; 4 if whoever reads the output has\n\
+    closed it.";
 
 /// The commands that build a trie and look up in it.
 const LOOK_UPS: &[Subcommand] = &[
@@ -122,7 +124,8 @@ const LOOK_UPS: &[Subcommand] = &[
         task: Task::Build,
         about: "Make a trie or an index from a file of pairs",
         help: "Example: zerotrie build names.tsv -o names.trie\n\
-            In every format of text a byte order mark in front is left out,\nand a carriage return before a line feed.\n\
+            In every format of text a byte order mark in front is left out,\n\
+            and a carriage return before a line feed.\n\
             Status: 1 if the build is refused, 2 if IN is no pairs.",
         arguments: &[
             Argument {
@@ -144,8 +147,8 @@ const LOOK_UPS: &[Subcommand] = &[
             },
             Argument {
                 name: "eol",
-                form: Form::OneOf("E", None, ENDS, Otherwise::Is("crlf")),
-                help: "What ends a line: lf keeps carriage returns",
+                form: Form::OneOf("E", None, ENDS, Otherwise::Nothing),
+                help: "What ends a line, else crlf: lf keeps carriage returns",
             },
             Argument {
                 name: "duplicates",
@@ -243,12 +246,12 @@ const LISTINGS: &[Subcommand] = &[
             },
             Argument {
                 name: "format",
-                form: Form::OneOf("F", Some('f'), OUTPUTS, Otherwise::Is("tsv")),
-                help: "The format of the output",
+                form: Form::OneOf("F", Some('f'), OUTPUTS, Otherwise::Nothing),
+                help: "The format of the output, else tsv",
             },
             Argument {
                 name: "limit",
-                form: Form::Text("N", Some('n'), Otherwise::Nothing),
+                form: Form::Number("N", Some('n'), GREATEST),
                 help: "At most this many pairs",
             },
             Argument {
@@ -282,8 +285,8 @@ const LISTINGS: &[Subcommand] = &[
             },
             Argument {
                 name: "edits",
-                form: Form::Text("E", Some('e'), Otherwise::Is("1")),
-                help: "How many characters --fuzzy may insert, delete or change",
+                form: Form::Number("E", Some('e'), 254),
+                help: "How many characters --fuzzy may insert, delete or change, else 1",
             },
             Argument {
                 name: "subsequence",
@@ -302,12 +305,12 @@ const LISTINGS: &[Subcommand] = &[
             },
             Argument {
                 name: "format",
-                form: Form::OneOf("F", Some('f'), OUTPUTS, Otherwise::Is("tsv")),
-                help: "The format of the output",
+                form: Form::OneOf("F", Some('f'), OUTPUTS, Otherwise::Nothing),
+                help: "The format of the output, else tsv",
             },
             Argument {
                 name: "limit",
-                form: Form::Text("N", Some('n'), Otherwise::Nothing),
+                form: Form::Number("N", Some('n'), GREATEST),
                 help: "At most this many pairs",
             },
             Argument {
@@ -325,7 +328,8 @@ const LISTINGS: &[Subcommand] = &[
         task: Task::Diff,
         about: "Print the pairs that were added, removed and changed",
         help: "Example: zerotrie diff old.trie new.trie\n\
-            Prints +, key and value of an added pair; -, key and value of a removed\none; and ~, key, old and new value. Tabs are between.\n\
+            Prints +, key and value of an added pair; -, key and value of a removed\n\
+            one; and ~, key, old and new value. Tabs are between.\n\
             Status: 0 if the pairs are the same, 1 if not, 2 if a file is no trie.",
         arguments: &[
             Argument {
@@ -386,8 +390,8 @@ const REPORTS: &[Subcommand] = &[
             FILE,
             Argument {
                 name: "limit",
-                form: Form::Text("N", Some('n'), Otherwise::Is(DRAWN)),
-                help: "At most this many nodes of a drawing",
+                form: Form::Number("N", Some('n'), GREATEST),
+                help: "At most this many nodes of a drawing, else 100",
             },
             BARE,
             NO_CHECK,

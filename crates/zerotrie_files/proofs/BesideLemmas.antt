@@ -2,7 +2,7 @@
 use Rattle.std.proofs.Common.{◌≡◌, ◌≢◌, ◌⊎◌, ◌∙◌, ℕ, true, false, List, [], Option, Some, None, Ok, Err, inl, inr, sym, refl, append-nil}
 use Rattle.std.proofs.lemmas.List.Elements.{All-nil}
 use Rattle.std.specs.declared.io.Error.{Error}
-use Rattle.zerotrie_files.specs.Disks.{Files, Story, Known, Passes, Same, Stays, IsWhole, Replaces}
+use Rattle.zerotrie_files.specs.Disks.{Files, Story, Known, Passes, Same, Stays, IsWhole, Restores, Replaces}
 use Rattle.zerotrie_files.specs.Stores.{IsBeside, Kept, IsWholeAlone, ReplacesBeside}
 use Rattle.zerotrie_files.proofs.DiskLemmas.{known_then, known_by, passes_then, passes_by, is_path_or_not}
 
@@ -37,15 +37,15 @@ whole_alone path beside bytes a b f near same free w = record {
 }
 
 -- a file that holds what it held is kept
-kept_alone : (path bytes : List ℕ) (a f : Files) → f path ≡ a path → IsWholeAlone path bytes a f → Kept path a f
-kept_alone path bytes a f same w = (same, λ other. elim (is_path_or_not path other) [ inl e ↦ inl (rw e same) | inr off ↦ w.others other off ])
+kept_alone : (path bytes : List ℕ) (a d : Story) → d.now path ≡ a.now path → Restores a d → IsWholeAlone path bytes a.now d.now → Kept path a d
+kept_alone path bytes a d same restores w = (same, restores, λ other. elim (is_path_or_not path other) [ inl e ↦ inl (rw e same) | inr off ↦ w.others other off ])
 
 -- no path is tried, or all that are tried are taken
 pub none_free : (path bytes : List ℕ) (e : Error) (x y : Option Story) → Known x y Stays → Known x y (ReplacesBeside {T = Unit {0}} path bytes (Err e))
 none_free path bytes e x y = known_by Stays (ReplacesBeside {T = Unit {0}} path bytes (Err e)) x y
     (λ a b stays. (
       passes_by (IsWholeAlone path bytes a.now) (Same a.now) a b (λ f s. same_alone path bytes a.now f s) stays,
-      kept_alone path bytes a.now b.now (stays.ends path) (same_alone path bytes a.now b.now stays.ends),
+      kept_alone path bytes a b (stays.ends path) (λ kept. stays.ends) (same_alone path bytes a.now b.now stays.ends),
     ))
 
 passes_alone : (path beside bytes : List ℕ) (a b d : Story) → IsBeside path beside → Stays a b → b.now beside ≡ None → Passes (IsWhole path beside bytes b.now) b d
@@ -70,8 +70,10 @@ none_or_some (Some x) = inr (λ e. cc)
 fails_free : (path beside bytes : List ℕ) (e : Error) (a b d : Story) → IsBeside path beside → Stays a b → b.now beside ≡ None → Replaces path beside bytes (Err e) b d
     → ReplacesBeside {T = Unit {0}} path bytes (Err e) a d
 fails_free path beside bytes e a b d near stays free failed =
-    let p = passes_alone path beside bytes a b d near stays free failed.0 in
-    (p, kept_alone path bytes a.now d.now (failed.1.0 ∙ stays.ends path) p.ends)
+    let p = passes_alone path beside bytes a b d near stays free failed.0 in (
+      p,
+      kept_alone path bytes a d (failed.1.0 ∙ stays.ends path) (λ kept. same_then a.now b.now d.now stays.ends (failed.1.1 kept)) p.ends,
+    )
 
 -- one that fails, after others that are taken
 pub one_fails : (path beside bytes : List ℕ) (e : Error) (x y z : Option Story) → IsBeside path beside → Known x y Stays → Known y z (Replaces path beside bytes (Err e))
@@ -79,5 +81,5 @@ pub one_fails : (path beside bytes : List ℕ) (e : Error) (x y z : Option Story
 one_fails path beside bytes e x y z near = known_then Stays (Replaces path beside bytes (Err e)) (ReplacesBeside {T = Unit {0}} path bytes (Err e)) x y z
     (λ a b d stays failed. elim (none_or_some (b.now beside)) [
       | inl free ↦ fails_free path beside bytes e a b d near stays free failed
-      | inr taken ↦ none_free path bytes e (Some a) (Some d) (stays_then a b d stays (failed.1.1 taken))
+      | inr taken ↦ none_free path bytes e (Some a) (Some d) (stays_then a b d stays (failed.1.2 taken))
     ])

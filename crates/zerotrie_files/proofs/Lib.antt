@@ -1,3 +1,4 @@
 mod BesideLemmas
 mod DiskLemmas
+mod NameLemmas
 pub mod WroteLemmas

@@ -1,5 +1,5 @@
 -- A disk from moment to moment, and what the calls that replace a file do to it.
-use Rattle.std.specs.Prelude.{◌≡◌, ◌≢◌, ◌⊎◌, ℕ, Bool, List, ◌++◌, All, Option, Some, None, Result, MatchBool, MatchResult, OnOk}
+use Rattle.std.specs.Prelude.{◌≡◌, ◌≢◌, ◌⊎◌, ℕ, Bool, true, false, List, ◌++◌, All, Option, Some, None, Result, MatchBool, MatchResult, OnOk}
 use Rattle.std.specs.declared.io.Error.{Error}
 use Rattle.zerotrie_files.specs.Faults.{IsOutOfMemory}
 use Rattle.zerotrie_files.specs.declared.found.Found.{Found}
@@ -9,10 +9,11 @@ use Rattle.zerotrie_files.specs.declared.found.Found.TheVariants.{Nothing, File,
 abbrev pub Files : Type 0
 Files = List ℕ → Option (List ℕ)
 
--- What the files of a disk hold, and what they held at each moment up to now.
+-- What the files of a disk hold, what they held at each moment up to now, and whether a removal failed.
 pub record Story : Type 0 where
   pub now : Files
   pub moments : List Files
+  pub unremoved : Bool
 
 -- the fact holds of a disk, or of its files, before a call and after it, if anything is known of it
 abbrev pub Known : {A : Type 0} → Option A → Option A → (A → A → Type 0) → Type 0
@@ -20,7 +21,7 @@ Known None new Fact = Unit {0}
 Known (Some old) None Fact = ⊥
 Known (Some old) (Some new) Fact = Fact old new
 
--- Time goes on for the disk, and at each moment up to the last the fact holds of its files.
+-- Time passes for the disk, and at each moment up to the last the fact holds of its files.
 pub record Passes (Fact : Files → Type 0) (old new : Story) : Type 0 where
   pub between : List Files
   pub is : new.moments ≡ old.moments ++ between
@@ -53,22 +54,29 @@ Spares path old new = old.now path ≢ None → Stays old new
 abbrev pub IsTaken : List ℕ → Story → Story → Type 0
 IsTaken path old new = (old.now path ≢ None) × Stays old new
 
--- a new file is written: other files stay at each moment; if the path was free, there was no file at it, and now one holds the
--- bytes; else there is one, and no file changes, nor does one change if there is one and it fails
-abbrev pub WritesNew : {E : Type 0} → List ℕ → List ℕ → Result Bool E → Story → Story → Type 0
-WritesNew path bytes result old new = Passes (SameBeside path old.now) old new
-    × MatchResult result
-    (λ free. MatchBool free ((old.now path ≡ None) × (new.now path ≡ Some bytes)) (IsTaken path old new))
-    (λ _. Spares path old new)
+-- an empty file is made: other files stay at each moment; if the path was free, there was no file at it; else there is one, and no
+-- file changes, nor does one change if it fails
+abbrev pub Makes : {E : Type 0} → List ℕ → Result Bool E → Story → Story → Type 0
+Makes path result old new = Passes (SameBeside path old.now) old new
+    × MatchResult result (λ free. MatchBool free (old.now path ≡ None) (IsTaken path old new)) (λ _. Stays old new)
+
+-- a file is filled: other files stay at each moment, and if all went well it holds the bytes
+abbrev pub Fills : {T E : Type 0} → List ℕ → List ℕ → Result T E → Story → Story → Type 0
+Fills path bytes result old new = Passes (SameBeside path old.now) old new × OnOk result (new.now path ≡ Some bytes)
 
 -- a file is given another path, with no moment between before and after
 abbrev pub Renames : {T E : Type 0} → List ℕ → List ℕ → Result T E → Story → Story → Type 0
 Renames from to result old new = Passes (λ files. Same old.now files ⊎ Moved from to old.now files) old new
     × MatchResult result (λ _. Moved from to old.now new.now) (λ _. Same old.now new.now)
 
--- a file is removed: other files stay at each moment, and if all went well there is none at the path
+-- a file is removed: other files stay at each moment; if all went well there is none at the path, else a removal failed
 abbrev pub Removes : {T E : Type 0} → List ℕ → Result T E → Story → Story → Type 0
-Removes path result old new = Passes (SameBeside path old.now) old new × OnOk result (new.now path ≡ None)
+Removes path result old new = Passes (SameBeside path old.now) old new
+    × MatchResult result (λ _. new.now path ≡ None) (λ _. new.unremoved ≡ true)
+
+-- all files are as they were, unless a removal failed
+abbrev pub Restores : Story → Story → Type 0
+Restores old new = new.unremoved ≡ false → Same old.now new.now
 
 -- The file of the path holds what it held or all of the bytes, and the files of other paths are as they were, but for
 -- the path beside it.
@@ -80,14 +88,20 @@ pub record IsWhole (path beside bytes : List ℕ) (old new : Files) : Type 0 whe
 abbrev pub Holds : List ℕ → List ℕ → Files → Files → Type 0
 Holds path bytes old new = (new path ≡ Some bytes) × SameBeside path old new
 
+-- a new file is filled and takes the path: it is whole at each moment; if all went well, the file of the path holds the bytes, and there
+-- is none beside it; else it holds what it held
+abbrev pub TakesPath : {T E : Type 0} → List ℕ → List ℕ → List ℕ → Result T E → Story → Story → Type 0
+TakesPath path beside bytes result old new = Passes (IsWhole path beside bytes old.now) old new
+    × MatchResult result (λ _. (new.now path ≡ Some bytes) × (new.now beside ≡ None)) (λ _. new.now path ≡ old.now path)
+
 -- a file is replaced: it is whole at each moment; if the path beside it was free, the file holds the bytes, and all others what
--- they held; else there is a file beside it, and no file changes; if it fails, the file holds what it held, and if there is a
--- file beside it, no file changes
+-- they held; else there is a file beside it, and no file changes; if it fails, all files hold what they held, unless a removal
+-- failed, and the file of the path does so even then; and if there is a file beside it, no file changes
 abbrev pub Replaces : {E : Type 0} → List ℕ → List ℕ → List ℕ → Result Bool E → Story → Story → Type 0
 Replaces path beside bytes result old new = Passes (IsWhole path beside bytes old.now) old new
     × MatchResult result
     (λ free. MatchBool free ((old.now beside ≡ None) × Holds path bytes old.now new.now) (IsTaken beside old new))
-    (λ _. (new.now path ≡ old.now path) × Spares beside old new)
+    (λ _. (new.now path ≡ old.now path) × Restores old new × Spares beside old new)
 
 -- what a path leads to, by what its file holds: to nothing if there is none
 abbrev pub IsFound : Option (List ℕ) → Found → Type 0

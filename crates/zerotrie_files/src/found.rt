@@ -11,7 +11,7 @@ pub struct Mode {
 }
 
 impl Mode {
-    /// What stays of the mode of a file.
+    /// Returns what stays of the mode of a file.
     pub fn kept(mode: u32) -> Self
         ensures { result.bits ≡ mode % 512 }
     {
@@ -20,7 +20,7 @@ impl Mode {
         }
     }
 
-    /// The bits.
+    /// Returns the bits.
     pub fn bits(self) -> u32
         ensures { result ≡ self.bits }
     {

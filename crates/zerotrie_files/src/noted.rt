@@ -1,6 +1,7 @@
 //! Readers and writers that remember whether a call failed.
 
-ghost use Rattle.std.specs.Prelude.{◌≡◌, ◌↔◌, ◌⊎◌, ◌≤◌, ◌+◌, ◌^◌, [], length, true, false, IfOk, IfErr, IfSome, IsTrue, OnOk, OnErr, MatchResult};
+ghost use Rattle.std.specs.Prelude.{◌≡◌, ◌≢◌, ◌↔◌, ◌⊎◌, ◌≤◌, ◌+◌, ◌^◌, [], length, true, false, IfOk, IfErr, IfSome, IsTrue, OnOk, OnErr, MatchResult};
+ghost use Rattle.std.specs.IoError.{error_kind};
 ghost use Rattle.std.specs.Io.KnownBytes.{Appends, Keeps};
 ghost use Rattle.std.specs.Io.Buffered.{writer_contents, writer_buffer};
 ghost use Rattle.zerotrie_files.specs.Faults.{IsClosed, IsNoted, IsOutOfMemory};
@@ -37,7 +38,7 @@ impl<T> Model for Noted<T> {
 }
 
 impl<T> Noted<T> {
-    /// With no fault so far.
+    /// Returns a reader or writer with no fault so far.
     pub fn new(inner: T) -> Self
         ensures inner { result.inner ≡ inner }
         ensures failed { result.failed ≡ false }
@@ -50,21 +51,21 @@ impl<T> Noted<T> {
         }
     }
 
-    /// Whether some call failed.
+    /// Returns whether some call failed.
     pub fn failed(&self) -> bool
         ensures { result ≡ self.now.failed }
     {
         self.failed
     }
 
-    /// Whether some write failed as whoever reads has closed the pipe.
+    /// Returns whether some write failed as whoever reads has closed the pipe.
     pub fn closed(&self) -> bool
         ensures { result ≡ self.now.closed }
     {
         self.closed
     }
 
-    /// The reader or writer itself.
+    /// Returns the reader or writer itself.
     pub fn get_ref(&self) -> &T
         ensures { result.now ≡ self.now.inner }
     {
@@ -82,6 +83,7 @@ impl<R: Read> Noted<R> {
         ensures stays { IfErr result (λ e. IsOutOfMemory e
             ⊎ Keeps (R.remaining self.old.inner) (R.remaining self.new.inner)) }
         ensures few { IfOk result (λ _. length held.new.items ≤ length held.old.items + 2 ^ 14) }
+        ensures again { IfErr result (λ e. error_kind e ≢ ErrorKind.Interrupted) }
         ensures noted { IsNoted result self.old.failed self.new.failed }
     {
         let mut room = [0; ROOM];
@@ -102,6 +104,7 @@ impl<R: Read> Noted<R> {
     pub fn read_all(&mut self, alloc: Global) -> io::Result<Vec<u8>>
         ensures all { IfOk result (λ bytes.
             IfSome (R.remaining self.old.inner) (λ known. bytes.items ≡ known)) }
+        ensures again { IfErr result (λ e. error_kind e ≢ ErrorKind.Interrupted) }
         ensures noted { IsNoted result self.old.failed self.new.failed }
     {
         let mut bytes = Vec::new(alloc);
@@ -121,6 +124,7 @@ impl<W: Write> Noted<W> {
             (Appends (W.contents self.old.inner) (W.contents self.new.inner) bytes.now) }
         ensures part { OnErr result
             (AppendsPart (W.contents self.old.inner) (W.contents self.new.inner) bytes.now) }
+        ensures again { IfErr result (λ e. error_kind e ≢ ErrorKind.Interrupted) }
         ensures noted { MatchResult result (λ _. self.new.failed ≡ self.old.failed)
             (λ _. self.new.failed ≡ true) }
         ensures closed { IsTrue self.new.closed ↔ IsTrue self.old.closed ⊎ IsClosed result }
@@ -133,7 +137,7 @@ impl<W: Write> Noted<W> {
 }
 
 impl<W: Write + Drop> Noted<BufWriter<W>> {
-    /// Hands all that the buffer holds to the writer.
+    /// Writes all that the buffer holds to the writer.
     pub fn hand_on(&mut self) -> io::Result<()>
         ensures bytes { Keeps (writer_contents W.contents self.old.inner)
             (writer_contents W.contents self.new.inner) }

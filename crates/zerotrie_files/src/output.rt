@@ -1,6 +1,6 @@
 //! The file that bytes go to.
 
-ghost use Rattle.std.specs.Prelude.{◌≡◌};
+ghost use Rattle.std.specs.Prelude.{◌≡◌, ◌≢◌, None, IfSome, OnOk};
 ghost use Rattle.zerotrie_files.specs.Disks.{Known};
 ghost use Rattle.zerotrie_files.specs.Stores.{ReplacesBeside, names_open_file};
 
@@ -12,7 +12,6 @@ use std::io;
 use std::io::ErrorKind;
 
 /// Returns whether a path names an open file of a process, which is written to and not replaced.
-
 fn is_open_file(path: &str) -> bool
     ensures { result ≡ names_open_file path.now }
 {
@@ -21,10 +20,12 @@ fn is_open_file(path: &str) -> bool
 
 /// Writes the bytes to the file of a path, which it replaces or makes.
 ///
-/// The file is replaced atomically: the bytes go to a new file at `PATH.N.tmp`, where N is a number
-/// below 100, which is synced and renamed. After a fault the file of the path is unchanged. A
-/// symbolic link stays, and the file that it leads to is replaced; PATH is then the path of that
-/// file. The file keeps who may read, write and run it, and no set-id bit.
+/// The file is replaced atomically: the bytes go to a new file in its folder, which is synced and
+/// renamed, as `replace_beside` does. After a fault all files are as they were.
+///
+/// A symbolic link stays, and the file that it leads to is replaced. The file keeps who may read,
+/// write and run it, and no set-id bit. A file that was not there may be read and written by whom
+/// the umask allows, and run by nobody.
 ///
 /// A device or a pipe is written in place, and so is a file that is open at `/dev/fd/N`, at its
 /// end. After a fault these may have a beginning of the bytes.
@@ -36,8 +37,10 @@ pub fn write_output<D: Disk>(
     path: &str,
     bytes: &[u8],
 ) -> io::Result<()>
-    ensures { Known (D.story disk.old) (D.story disk.new)
+    ensures replaced { Known (D.story disk.old) (D.story disk.new)
         (ReplacesBeside path.now bytes.now result) }
+    ensures writable { OnOk result (IfSome (D.story disk.old) (λ known.
+        known.now path.now ≢ None → D.is_writable disk.old path.now)) }
 {
     if is_open_file(path) {
         return disk.append(path, bytes);

@@ -1,9 +1,9 @@
 //! Atomic replacement of a file.
 
-ghost use Rattle.std.specs.Prelude.{◌≡◌, ◌≢◌, IfOk};
+ghost use Rattle.std.specs.Prelude.{◌≡◌, ◌≢◌, ◌++◌, IfOk, codes};
 ghost use Rattle.std.specs.String.{string_bytes};
-ghost use Rattle.zerotrie_files.specs.Disks.{Known, Replaces};
-ghost use Rattle.zerotrie_files.specs.Stores.{numbered_path, ReplacesBeside};
+ghost use Rattle.zerotrie_files.specs.Disks.{Known, Replaces, TakesPath};
+ghost use Rattle.zerotrie_files.specs.Stores.{own_name, IsOwnPath, ReplacesBeside};
 
 use crate::disk::Disk;
 use crate::found::Mode;
@@ -12,15 +12,33 @@ use std::io;
 use std::io::ErrorKind;
 
 /// How many paths beside a file are tried.
-const MOST_TRIES: usize = 100;
+const MOST_TRIES: u32 = 100;
+
+/// Fills the new file at `beside` and renames it to the path.
+#[tactic(auto, using(crate::proofs::DiskLemmas::filled_alone))]
+fn take_path<D: Disk>(
+    disk: &mut D,
+    path: &str,
+    beside: &str,
+    mode: Option<Mode>,
+    bytes: &[u8],
+) -> io::Result<()>
+    requires { beside.now ≢ path.now }
+    ensures { Known (D.story disk.old) (D.story disk.new)
+        (TakesPath path.now beside.now bytes.now result) }
+{
+    disk.fill(beside, mode, bytes)?;
+    disk.rename(beside, path)
+}
 
 /// Replaces the file of a path by these bytes, or makes it: writes them to a new file at `beside`
 /// with this mode and renames it. Returns `false` if `beside` has a file already, and then no file
 /// changes.
 ///
-/// At each moment the file holds its old bytes or all of the new ones. After an error it is
-/// unchanged, and the new file is removed, if that can be done.
-#[tactic(auto, using(crate::proofs::DiskLemmas::then_whole, crate::proofs::DiskLemmas::then_left))]
+/// At each moment the file holds its old bytes or all of the new ones, and all other files what
+/// they held. After an error the new file is removed, and then all files are as they were. If the
+/// removal fails, too, the new file alone is left.
+#[tactic(auto, using(crate::proofs::DiskLemmas::then_taken, crate::proofs::DiskLemmas::then_removed, crate::proofs::DiskLemmas::unmade))]
 pub fn replace<D: Disk>(
     disk: &mut D,
     path: &str,
@@ -32,10 +50,10 @@ pub fn replace<D: Disk>(
     ensures { Known (D.story disk.old) (D.story disk.new)
         (Replaces path.now beside.now bytes.now result) }
 {
-    if !disk.write_new(beside, mode, bytes)? {
+    if !disk.make(beside)? {
         return Ok(false);
     }
-    match disk.rename(beside, path) {
+    match take_path(disk, path, beside, mode, bytes) {
         Ok(()) => Ok(true),
         Err(error) => {
             let _ = disk.remove(beside);
@@ -44,55 +62,48 @@ pub fn replace<D: Disk>(
     }
 }
 
-/// Returns the path of a new file beside the file of a path: `PATH.N.tmp`, where N is the number.
-fn path_beside(alloc: Global, path: &str, number: usize) -> Result<String, AllocError>
-    ensures exact { IfOk result (λ beside. string_bytes beside ≡ numbered_path path.now number) }
+/// Returns the name of a new file: `.NAME.zerotrie-PROCESS-NUMBER`.
+fn own_name(alloc: Global, name: &str, process: u32, number: u32) -> Result<String, AllocError>
+    ensures { IfOk result (λ own. string_bytes own ≡ own_name name.now process number) }
+{
+    let mut own = format!(in alloc; ".{name}")?;
+    own.push_str(".zerotrie-")?;
+    write!(own, "{process}-{number}")?;
+    Ok(own)
+}
+
+/// Returns the path of a file in a folder.
+fn path_in(alloc: Global, folder: &str, name: &str) -> Result<String, AllocError>
+    ensures { IfOk result (λ path. string_bytes path ≡ folder.now ++ codes "/" ++ name.now) }
+{
+    format!(in alloc; "{folder}/{name}")
+}
+
+/// Returns the path of a new file beside the file of a path: in the same folder, by the name of the
+/// file.
+fn path_beside(alloc: Global, path: &str, process: u32, number: u32) -> Result<String, AllocError>
+    ensures exact { IfOk result (λ beside.
+        IsOwnPath path.now process number (string_bytes beside)) }
     ensures another { IfOk result (λ beside. string_bytes beside ≢ path.now) }
 {
-    let mut beside = format!(in alloc; "{path}.{number}")?;
-    beside.push_str(".tmp")?;
-    Ok(beside)
-}
-
-/// Removes the files at `PATH.N.tmp` that interrupted replacements left, and that no process holds.
-fn remove_all_left<D: Disk>(alloc: Global, disk: &mut D, path: &str)
-    ensures { D.story disk.new ≡ D.story disk.old }
-{
-    for number in 0..MOST_TRIES {
-        if let Ok(beside) = path_beside(alloc, path, number) {
-            disk.remove_left(beside.as_str());
+    match path.rsplit_once('/') {
+        None => own_name(alloc, path, process, number),
+        Some((folder, name)) => {
+            let own = own_name(alloc, name, process, number)?;
+            path_in(alloc, folder, own.as_str())
         }
     }
-}
-
-/// Replaces the file of a path by these bytes, or makes it, by way of the first of the hundred
-/// paths beside it that is free. If none is, it fails with `AlreadyExists`.
-fn replace_by_first<D: Disk>(
-    alloc: Global,
-    disk: &mut D,
-    path: &str,
-    mode: Option<Mode>,
-    bytes: &[u8],
-) -> io::Result<()>
-    ensures { Known (D.story disk.old) (D.story disk.new)
-        (ReplacesBeside path.now bytes.now result) }
-{
-    for number in 0..MOST_TRIES {
-        let beside = path_beside(alloc, path, number)?;
-        if replace(disk, path, beside.as_str(), mode, bytes)? {
-            return Ok(());
-        }
-    }
-    Err(io::Error::from(ErrorKind::AlreadyExists))
 }
 
 /// Replaces the file of a path by these bytes, or makes it: writes them to a new file at
-/// `PATH.N.tmp`, where N is a number below 100, with this mode and renames it. It removes the files
-/// at these paths first that interrupted replacements left, and that no process holds.
+/// `.NAME.zerotrie-PROCESS-NUMBER` in the same folder with this mode and renames it. NAME is the
+/// name of the file, and NUMBER is drawn anew as long as such a file is there already, a hundred
+/// times at most: then it fails with `AlreadyExists`.
 ///
-/// At each moment the file holds its old bytes or all of the new ones, and no other file that was
-/// there changes. After an error it is unchanged, and the new file is removed, if that can be done.
-/// If all of these hundred paths have files that are held, it fails with `AlreadyExists`.
+/// At each moment the file holds its old bytes or all of the new ones, and all other files that
+/// were there what they held. After an error the new file is removed, and then all files are as
+/// they were. If the removal fails, too, the new file alone is left. If the process is ended in
+/// between, it may be left as well, and nobody needs it.
 pub fn replace_beside<D: Disk>(
     alloc: Global,
     disk: &mut D,
@@ -103,6 +114,11 @@ pub fn replace_beside<D: Disk>(
     ensures { Known (D.story disk.old) (D.story disk.new)
         (ReplacesBeside path.now bytes.now result) }
 {
-    remove_all_left(alloc, disk, path);
-    replace_by_first(alloc, disk, path, mode, bytes)
+    for tried in 0..MOST_TRIES {
+        let beside = path_beside(alloc, path, disk.process(), disk.draw(tried))?;
+        if replace(disk, path, beside.as_str(), mode, bytes)? {
+            return Ok(());
+        }
+    }
+    Err(io::Error::from(ErrorKind::AlreadyExists))
 }

@@ -28,11 +28,16 @@ impl<D> Model for Store<D> {
 
     ghost Value = { Files D };
 
-    ghost view = { λ s. record { disk = s.disk; unread = s.unread; unwritten = s.unwritten; closed = s.closed } };
+    ghost view = { λ s. record {
+      disk = s.disk;
+      unread = s.unread;
+      unwritten = s.unwritten;
+      closed = s.closed;
+    } };
 }
 
 impl<D: Disk> Store<D> {
-    /// The files of a disk. Nothing failed so far.
+    /// Returns the files of a disk, of which no call failed so far.
     pub fn new(disk: D) -> Self
         ensures disk { result.disk ≡ disk }
         ensures unread { result.unread ≡ false }
@@ -47,28 +52,29 @@ impl<D: Disk> Store<D> {
         }
     }
 
-    /// The disk.
+    /// Returns the disk.
     pub fn disk(&self) -> &D
         ensures { result.now ≡ self.now.disk }
     {
         &self.disk
     }
 
-    /// Whether a read failed, for another reason than memory.
+    /// Returns whether a read failed, for another reason than memory.
     pub fn unread(&self) -> bool
         ensures { result ≡ self.now.unread }
     {
         self.unread
     }
 
-    /// Whether a replacement failed, for another reason than memory.
+    /// Returns whether a replacement failed, for another reason than memory.
     pub fn unwritten(&self) -> bool
         ensures { result ≡ self.now.unwritten }
     {
         self.unwritten
     }
 
-    /// Whether a replacement failed as whoever reads has closed the pipe that the path names.
+    /// Returns whether a replacement failed as whoever reads has closed the pipe that the path
+    /// names.
     pub fn closed(&self) -> bool
         ensures { result ≡ self.now.closed }
     {
@@ -116,6 +122,8 @@ impl<D: Disk> Store<D> {
     pub fn replace(&mut self, alloc: Global, path: &str, bytes: &[u8]) -> io::Result<()>
         ensures replaced { Known (D.story self.old.disk) (D.story self.new.disk)
             (ReplacesBeside path.now bytes.now result) }
+        ensures writable { OnOk result (IfSome (D.story self.old.disk) (λ known.
+            known.now path.now ≢ None → D.is_writable self.old.disk path.now)) }
         ensures unread { self.new.unread ≡ self.old.unread }
         ensures unwritten { IsTrue self.new.unwritten ↔ IsTrue self.old.unwritten ⊎ IsFault result }
         ensures noted { IsNoted result self.old.unwritten self.new.unwritten }

@@ -4,32 +4,35 @@ ghost use Rattle.std.specs.Prelude.{None};
 
 use crate::disk::Disk;
 use crate::found::{Found, Mode};
-use std::fs::{File, Metadata, OpenOptions, Permissions, TryLockError};
+use std::fs::{File, Metadata, OpenOptions, Permissions};
 use std::io::{ErrorKind, Read, Write};
-use std::os::unix::fs::{MetadataExt, PermissionsExt};
+use std::os::unix::fs::PermissionsExt;
+use std::process::Process;
+use std::random::RandomSource;
 use std::rt::Files;
-use std::{fs, io};
+use std::{fs, io, process};
 
 /// The files of the system.
 #[derive(Drop)]
 pub struct SystemDisk<'a, R> {
     system: &'a R,
-    /// The last new file. It is locked as long as it is open, so that no other process takes it for
-    /// one that was left behind.
+    process: Process,
+    /// The file that was made last, until it is filled.
     new_file: Option<File>,
 }
 
 impl<'a, R> SystemDisk<'a, R> {
-    /// The files of the system.
-    pub fn new(system: &'a R) -> Self {
+    /// Returns the files of the system, for this process.
+    pub fn new(system: &'a R, process: Process) -> Self {
         SystemDisk {
             system,
+            process,
             new_file: None,
         }
     }
 }
 
-/// What the system found.
+/// Returns what the system found.
 fn found(metadata: &Metadata) -> Found {
     if metadata.is_dir() {
         Found::Folder
@@ -38,21 +41,6 @@ fn found(metadata: &Metadata) -> Found {
     } else {
         Found::Stream
     }
-}
-
-/// Locks a new file. Returns whether it is still there and no other process has locked it. Where
-/// files can't be locked, none is removed by another process.
-fn lock_new(file: &File) -> io::Result<bool> {
-    match file.try_lock() {
-        Ok(()) => Ok(file.metadata()?.nlink() > 0),
-        Err(TryLockError::WouldBlock) => Ok(false),
-        Err(TryLockError::Error(_)) => Ok(true),
-    }
-}
-
-/// Whether two descriptions are of one file.
-fn are_one_file(one: &Metadata, other: &Metadata) -> bool {
-    one.dev() == other.dev() && one.ino() == other.ino()
 }
 
 /// Writes the bytes to a new file, and syncs it.
@@ -64,28 +52,12 @@ fn fill(file: &mut File, mode: Option<Mode>, bytes: &[u8]) -> io::Result<()> {
     file.sync_all()
 }
 
-impl<'a, R: Files<File = File>> SystemDisk<'a, R> {
-    /// Removes the file of a path if no process holds it.
-    fn remove_unheld(&self, path: &str) -> io::Result<()> {
-        let found = fs::symlink_metadata(self.system, path)?;
-        if !found.is_file() {
-            return Ok(());
-        }
-        let file = OpenOptions::new().write(true).open(self.system, path)?;
-        file.try_lock()?;
-        // the path may have another file by now, which is held
-        let now = fs::symlink_metadata(self.system, path)?;
-        if are_one_file(&file.metadata()?, &now) {
-            fs::remove_file(self.system, path)?;
-        }
-        Ok(())
-    }
-}
-
-impl<'a, R: Files<File = File> + AllocGlobal> Disk for SystemDisk<'a, R> {
+impl<'a, R: Files<File = File> + AllocGlobal + RandomSource> Disk for SystemDisk<'a, R> {
     ghost story = { λ _. None };
 
     ghost is_stream = { λ _ _. Unit {0} };
+
+    ghost is_writable = { λ _ _. Unit {0} };
 
     fn read(&self, path: &str) -> io::Result<Vec<u8>> {
         let mut bytes = Vec::new(self.system.alloc());
@@ -115,24 +87,34 @@ impl<'a, R: Files<File = File> + AllocGlobal> Disk for SystemDisk<'a, R> {
         Ok(fs::canonicalize(self.system, path)?.into_string())
     }
 
-    fn write_new(&mut self, path: &str, mode: Option<Mode>, bytes: &[u8]) -> io::Result<bool> {
-        let mut file = match File::create_new(self.system, path) {
-            Ok(file) => file,
-            Err(error) if error.kind() == ErrorKind::AlreadyExists => return Ok(false),
-            Err(error) => return Err(error),
-        };
-        if !lock_new(&file)? {
-            return Ok(false);
+    fn process(&self) -> u32 {
+        process::id(self.process)
+    }
+
+    fn draw(&self, tried: u32) -> u32 {
+        let mut bytes = [0; 4];
+        match self.system.fill_bytes(&mut bytes) {
+            Ok(()) => u32::from_le_bytes(bytes),
+            // the number of the process is in the name, too, and no file is opened that is there
+            Err(_) => tried,
         }
-        match fill(&mut file, mode, bytes) {
-            Ok(()) => {
+    }
+
+    fn make(&mut self, path: &str) -> io::Result<bool> {
+        match File::create_new(self.system, path) {
+            Ok(file) => {
                 self.new_file = Some(file);
                 Ok(true)
             }
-            Err(error) => {
-                let _ = self.remove(path);
-                Err(error)
-            }
+            Err(error) if error.kind() == ErrorKind::AlreadyExists => Ok(false),
+            Err(error) => Err(error),
+        }
+    }
+
+    fn fill(&mut self, _path: &str, mode: Option<Mode>, bytes: &[u8]) -> io::Result<()> {
+        match self.new_file.take() {
+            Some(mut file) => fill(&mut file, mode, bytes),
+            None => Err(io::Error::from(ErrorKind::NotFound)),
         }
     }
 
@@ -142,10 +124,6 @@ impl<'a, R: Files<File = File> + AllocGlobal> Disk for SystemDisk<'a, R> {
 
     fn remove(&mut self, path: &str) -> io::Result<()> {
         fs::remove_file(self.system, path)
-    }
-
-    fn remove_left(&mut self, path: &str) {
-        let _ = self.remove_unheld(path);
     }
 
     fn append(&mut self, path: &str, bytes: &[u8]) -> io::Result<()> {

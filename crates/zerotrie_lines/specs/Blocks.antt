@@ -6,6 +6,6 @@ use Rattle.zerotrie_lines.specs.Lines.{lines_of}
 abbrev pub AreWhole : List ℕ → Type 0
 AreWhole bytes = (rest : List ℕ) → lines_of (bytes ++ rest) ≡ lines_of bytes ++ lines_of rest
 
--- a line feed stands at a place
+-- a line feed is at a place
 abbrev pub HasFeed : List ℕ → ℕ → Type 0
 HasFeed bytes k = (k < length bytes) × (slice_index bytes k ≡ 10)

@@ -36,7 +36,7 @@ is_digits field = list_all is_ascii_digit field
 abbrev pub is_of_float : ℕ → Bool
 is_of_float b = is_ascii_digit b || (b == 46 || (b == 101 || (b == 69 || (b == 43 || b == 45))))
 
--- it begins with a digit, and goes on as a fraction or an exponent
+-- it begins with a digit, and continues as a fraction or an exponent
 abbrev pub is_fraction : List ℕ → Bool
 is_fraction [] = false
 is_fraction (b ∷ field) = is_ascii_digit b && list_all is_of_float field

@@ -56,7 +56,7 @@ pub enum BadLine {
 }
 
 impl ValueFault {
-    /// What a message says of it.
+    /// Returns what a message says of it.
     pub fn text(self) -> &'static str {
         match self {
             ValueFault::Empty => "the value is missing",
@@ -73,7 +73,7 @@ impl ValueFault {
 }
 
 impl BadLine {
-    /// What a message says of it.
+    /// Returns what a message says of it.
     pub fn text(&self) -> &'static str {
         match self {
             BadLine::Empty => "an empty line",
@@ -110,7 +110,7 @@ impl From<AllocError> for ReadError {
     }
 }
 
-/// The error of the line with this number.
+/// Returns the error of the line with this number.
 pub(crate) fn at_line(number: usize, bad: BadLine) -> ReadError
     ensures { result ≡ Line number bad }
 {

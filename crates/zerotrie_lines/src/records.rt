@@ -52,7 +52,7 @@ fn read_record(
     Ok(None)
 }
 
-/// What ends a record.
+/// Returns what ends a record.
 fn terminator_of(end: LineEnd) -> Terminator
     ensures { result ≡ (config_of end).terminator }
 {

@@ -28,7 +28,7 @@ impl Model for Table {
 }
 
 impl Table {
-    /// No pairs.
+    /// Returns a table of no pairs.
     pub fn new(alloc: Global) -> Self
         ensures { result ≡ [] }
     {
@@ -52,7 +52,7 @@ impl Table {
         Ok(())
     }
 
-    /// How many pairs there are.
+    /// Returns how many pairs there are.
     pub fn len(&self) -> usize
         ensures { result ≡ length self.now }
     {

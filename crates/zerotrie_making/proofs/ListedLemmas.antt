@@ -19,10 +19,10 @@ use Rattle.zerotrie_making.specs.Sources.{IsPairs}
 use Rattle.zerotrie_making.specs.Kept.{kept}
 use Rattle.zerotrie_making.specs.Made.{IsBuiltAs, IsFileOf}
 use Rattle.zerotrie_making.specs.Laws.{ListedIsMadeAgain}
-use Rattle.zerotrie_making.specs.declared.making.FileForm.{FileForm}
-use Rattle.zerotrie_making.specs.declared.making.FileForm.TheVariants as form
-use Rattle.zerotrie_making.specs.declared.making.Plan.{Plan}
-use Rattle.zerotrie_making.specs.declared.making.Source.TheVariants.{Text}
+use Rattle.zerotrie_making.specs.declared.plan.FileForm.{FileForm}
+use Rattle.zerotrie_making.specs.declared.plan.FileForm.TheVariants as form
+use Rattle.zerotrie_making.specs.declared.plan.Plan.{Plan}
+use Rattle.zerotrie_making.specs.declared.plan.Source.TheVariants.{Text}
 
 abbrev Small : List ℕ × ℕ → Type 0
 Small e = e.1 < 2 ^ 64
@@ -51,10 +51,10 @@ trie_built form.Index kind sorted pairs bytes of built = absurd (of refl)
 
 -- the file of pairs that a trie lists
 of_listed : (kind : TrieKind) (bytes file : List ℕ) (m : Map) (plan : Plan) (means : Means (kind_of kind) bytes m)
-    → plan.form ≢ form.Index → plan.kind ≡ Some kind → IsFileOf plan means.pairs file → (again : List ℕ) × IsFormOf plan.form (kind_of kind) again file × Means (kind_of kind) again m
+    → plan.file.form ≢ form.Index → plan.file.kind ≡ Some kind → IsFileOf plan.file means.pairs file → (again : List ℕ) × IsFormOf plan.file.form (kind_of kind) again file × Means (kind_of kind) again m
 of_listed kind bytes file m plan means trie named made =
     let f = rw named at made.is in
-    let b = trie_built plan.form (kind_of kind) plan.sorted means.pairs made.bytes trie (rw named at made.build) in
+    let b = trie_built plan.file.form (kind_of kind) plan.file.sorted means.pairs made.bytes trie (rw named at made.build) in
     (made.bytes, f, subst (Means (kind_of kind) made.bytes) (sym means.is) b.1.means)
 
 -- with the empty prefix all pairs are listed
@@ -72,5 +72,5 @@ made_again back one kind bytes file m plan means end tsv trie named cased all ma
     let lines : pair_lines style.Tsv (beginning (kind_of kind) [] means.pairs) ≡ tsv_lines means.pairs = ap (pair_lines style.Tsv) (all_begin (kind_of kind) means.pairs) ∙ same_lines means.pairs in
     let read : IsPairs (Text Tsv end) (tsv_lines means.pairs) made.0 = subst (λ t. IsPairs (Text Tsv end) t made.0) lines (subst (λ s. IsPairs s (pair_lines style.Tsv (beginning (kind_of kind) [] means.pairs)) made.0) tsv made.1) in
     let same = one Tsv end (tsv_lines means.pairs) means.pairs made.0 (back end means.pairs (values_below means.lists)) read in
-    let plain : kept plan.duplicates (lowered plan.lower_case made.0) ≡ made.0 = rw (cased, all) refl in
-    of_listed kind bytes file m plan means trie named (subst (λ pairs. IsFileOf plan pairs file) (plain ∙ same) made.2)
+    let plain : kept plan.read.duplicates (lowered plan.read.lower_case made.0) ≡ made.0 = rw (cased, all) refl in
+    of_listed kind bytes file m plan means trie named (subst (λ pairs. IsFileOf plan.file pairs file) (plain ∙ same) made.2)

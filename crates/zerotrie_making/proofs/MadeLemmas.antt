@@ -1,5 +1,6 @@
 -- What a build of the pairs answers is what one of the input does.
-use Rattle.std.proofs.Common.{◌≡◌, ℕ, List, Bool, false, subst, sym, refl}
+use Rattle.std.proofs.Common.{◌≡◌, ℕ, List, Bool, true, false, subst, refl}
+use Rattle.std.specs.Prelude.{not}
 use Rattle.zerotrie_core.specs.Maps.{Pairs}
 use Rattle.zerotrie_lines.specs.Tables.{lowered}
 use Rattle.zerotrie_lines.specs.Reads.{Reads}
@@ -9,18 +10,18 @@ use Rattle.zerotrie_making.specs.Sources.{IsPairs, NoPairs}
 use Rattle.zerotrie_making.specs.Made.{OfInput, Explains, ExplainsKept}
 use Rattle.zerotrie_core.specs.declared.ZeroTrieBuildError.{ZeroTrieBuildError}
 use Rattle.zerotrie_index.specs.declared.error.ZeroIndexBuildError.{ZeroIndexBuildError}
-use Rattle.zerotrie_making.specs.declared.making.Plan.{Plan}
-use Rattle.zerotrie_making.specs.declared.making.Source.{Source}
-use Rattle.zerotrie_making.specs.declared.making.Source.TheVariants.{Text, Json}
-use Rattle.zerotrie_making.specs.declared.refused.Shown.{Shown}
-use Rattle.zerotrie_making.specs.declared.refused.MakeError.{MakeError}
-use Rattle.zerotrie_making.specs.declared.refused.MakeError.TheVariants.{Line, NotJson, NotPairs, NotPair, Keys, Refused, IndexRefused, OutOfMemory}
+use Rattle.zerotrie_making.specs.declared.plan.Plan.{Plan}
+use Rattle.zerotrie_making.specs.declared.plan.Source.{Source}
+use Rattle.zerotrie_making.specs.declared.plan.Source.TheVariants.{Text, Json}
+use Rattle.zerotrie_making.specs.declared.error.Shown.{Shown}
+use Rattle.zerotrie_making.specs.declared.error.MakeError.{MakeError}
+use Rattle.zerotrie_making.specs.declared.error.MakeError.TheVariants.{Line, NotJson, NotPairs, NotPair, Keys, Refused, IndexRefused, OutOfMemory}
 
-pub of_table : (plan : Plan) (input : List ℕ) (table : Pairs) (Fact : Pairs → Type 0) → (pairs : Pairs) × IsPairs plan.source input pairs × (table ≡ lowered plan.lower_case pairs)
+pub of_table : (plan : Plan) (input : List ℕ) (table : Pairs) (Fact : Pairs → Type 0) → (pairs : Pairs) × IsPairs plan.read.source input pairs × (table ≡ lowered plan.read.lower_case pairs)
     → Fact table → OfInput plan input Fact
 of_table plan input table Fact h fact = (h.0, h.1, subst Fact h.2 fact)
 
-pub explains_of : (plan : Plan) (input : List ℕ) (table : Pairs) (e : MakeError) → (pairs : Pairs) × IsPairs plan.source input pairs × (table ≡ lowered plan.lower_case pairs)
+pub explains_of : (plan : Plan) (input : List ℕ) (table : Pairs) (e : MakeError) → (pairs : Pairs) × IsPairs plan.read.source input pairs × (table ≡ lowered plan.read.lower_case pairs)
     → ExplainsKept plan table e → Explains plan input e
 explains_of plan input table (Line number bad) h fact = absurd fact
 explains_of plan input table (NotJson line column) h fact = absurd fact
@@ -45,17 +46,18 @@ no_index_refusal (Text format end) input e h = h
 no_index_refusal Json input e h = h
 
 -- an input that is no pairs makes no file
-pub no_pairs : (plan : Plan) (input : List ℕ) (e : MakeError) → NoPairs plan.source input e → Explains plan input e
+pub no_pairs : (plan : Plan) (input : List ℕ) (e : MakeError) → NoPairs plan.read.source input e → Explains plan input e
 no_pairs plan input (Line number bad) h = h
 no_pairs plan input (NotJson line column) h = h
 no_pairs plan input NotPairs h = h
 no_pairs plan input (NotPair bad) h = h
-no_pairs plan input (Keys s) h = absurd (no_keys plan.source input s h)
-no_pairs plan input (Refused e) h = absurd (no_refusal plan.source input e h)
-no_pairs plan input (IndexRefused e) h = absurd (no_index_refusal plan.source input e h)
+no_pairs plan input (Keys s) h = absurd (no_keys plan.read.source input s h)
+no_pairs plan input (Refused e) h = absurd (no_refusal plan.read.source input e h)
+no_pairs plan input (IndexRefused e) h = absurd (no_index_refusal plan.read.source input e h)
 no_pairs plan input OutOfMemory h = tt
 
 -- pairs of a text whose keys are as they are
-pub as_they_are : (source : Source) (format : Format) (end : LineEnd) (lower_case : Bool) (input : List ℕ) (pairs : Pairs) → source ≡ Text format end → false ≡ lower_case
+pub as_they_are : (source : Source) (format : Format) (end : LineEnd) (lower_case : Bool) (input : List ℕ) (pairs : Pairs) → source ≡ Text format end → not lower_case ≡ true
     → Reads format end input pairs → (given : Pairs) × IsPairs source input given × (pairs ≡ lowered lower_case given)
-as_they_are source format end lower_case input pairs text kept reads = (pairs, rw text reads, rw (sym kept) refl)
+as_they_are source format end true input pairs text kept reads = absurd (cc)
+as_they_are source format end false input pairs text kept reads = (pairs, rw text reads, refl)

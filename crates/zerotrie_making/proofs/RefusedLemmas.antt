@@ -24,11 +24,11 @@ use Rattle.zerotrie_making.specs.Sources.{IsPairs}
 use Rattle.zerotrie_making.specs.Json.{pairs_in}
 use Rattle.zerotrie_making.specs.Made.{OfInput, AreAtFault, ExplainsKept, IsBuiltAs, IsFile, IsFileOfKept, IsIndexRefusedBy, IsTrieRefusedBy}
 use Rattle.zerotrie_making.specs.Laws.{RefusedMakesNoFile}
-use Rattle.zerotrie_making.specs.declared.making.Plan.{Plan}
-use Rattle.zerotrie_making.specs.declared.making.Source.{Source}
-use Rattle.zerotrie_making.specs.declared.making.Source.TheVariants.{Text, Json}
-use Rattle.zerotrie_making.specs.declared.refused.MakeError.{MakeError}
-use Rattle.zerotrie_making.specs.declared.refused.MakeError.TheVariants.{Line, NotJson, NotPairs, NotPair, Keys, Refused, IndexRefused, OutOfMemory}
+use Rattle.zerotrie_making.specs.declared.plan.Plan.{Plan}
+use Rattle.zerotrie_making.specs.declared.plan.Source.{Source}
+use Rattle.zerotrie_making.specs.declared.plan.Source.TheVariants.{Text, Json}
+use Rattle.zerotrie_making.specs.declared.error.MakeError.{MakeError}
+use Rattle.zerotrie_making.specs.declared.error.MakeError.TheVariants.{Line, NotJson, NotPairs, NotPair, Keys, Refused, IndexRefused, OutOfMemory}
 use Rattle.zerotrie_making.proofs.UnreadLemmas.{some_is, no_file}
 
 -- a value is found at the key of each pair
@@ -154,23 +154,23 @@ one_list one Json input pairs others h k =
 of_one : OneReading → (plan : Plan) (input file : List ℕ) (e : MakeError) → OfInput plan input (λ pairs. ExplainsKept plan pairs e) → IsFile plan input file
     → (pairs : Pairs) × ExplainsKept plan pairs e × IsFileOfKept plan pairs file
 of_one one plan input file e h made =
-    (_, h.2, subst (λ ps. IsFileOfKept plan (lowered plan.lower_case ps) file) (one_list one plan.source input h.0 made.0 h.1 made.1) made.2)
+    (_, h.2, subst (λ ps. IsFileOfKept plan (lowered plan.read.lower_case ps) file) (one_list one plan.read.source input h.0 made.0 h.1 made.1) made.2)
 
 pub refused : OneReading → BadIsUnread → IndexExcludesCauses → RefusedMakesNoFile
-refused one bad excludes plan input file (Line number fault) h some other crowd made = no_file bad plan.source input (Line number fault) made.0 h some made.1
-refused one bad excludes plan input file (NotJson line column) h some other crowd made = no_file bad plan.source input (NotJson line column) made.0 h some made.1
-refused one bad excludes plan input file NotPairs h some other crowd made = no_file bad plan.source input NotPairs made.0 h some made.1
-refused one bad excludes plan input file (NotPair why) h some other crowd made = no_file bad plan.source input (NotPair why) made.0 h some made.1
+refused one bad excludes plan input file (Line number fault) h some other crowd made = no_file bad plan.read.source input (Line number fault) made.0 h some made.1
+refused one bad excludes plan input file (NotJson line column) h some other crowd made = no_file bad plan.read.source input (NotJson line column) made.0 h some made.1
+refused one bad excludes plan input file NotPairs h some other crowd made = no_file bad plan.read.source input NotPairs made.0 h some made.1
+refused one bad excludes plan input file (NotPair why) h some other crowd made = no_file bad plan.read.source input (NotPair why) made.0 h some made.1
 refused one bad excludes plan input file (Keys s) h some other crowd made =
     let o = of_one one plan input file (Keys s) h made in
-    let ps = kept plan.duplicates o.0 in
-    keys_never excludes (content_of plan.form (kind_for plan.kind ps)) plan.sorted ps o.2.bytes o.1.0 o.2.build o.1.1
+    let ps = kept plan.read.duplicates o.0 in
+    keys_never excludes (content_of plan.file.form (kind_for plan.file.kind ps)) plan.file.sorted ps o.2.bytes o.1.0 o.2.build o.1.1
 refused one bad excludes plan input file (Refused e) h some other crowd made =
     let o = of_one one plan input file (Refused e) h made in
-    let ps = kept plan.duplicates o.0 in
-    trie_never (content_of plan.form (kind_for plan.kind ps)) plan.sorted ps o.2.bytes e o.2.build o.1 (λ is. other (ap Refused is))
+    let ps = kept plan.read.duplicates o.0 in
+    trie_never (content_of plan.file.form (kind_for plan.file.kind ps)) plan.file.sorted ps o.2.bytes e o.2.build o.1 (λ is. other (ap Refused is))
 refused one bad excludes plan input file (IndexRefused e) h some other crowd made =
     let o = of_one one plan input file (IndexRefused e) h made in
-    let ps = kept plan.duplicates o.0 in
-    index_never excludes (content_of plan.form (kind_for plan.kind ps)) plan.sorted ps o.2.bytes e o.2.build o.1 (λ is. crowd (ap IndexRefused is))
+    let ps = kept plan.read.duplicates o.0 in
+    index_never excludes (content_of plan.file.form (kind_for plan.file.kind ps)) plan.file.sorted ps o.2.bytes e o.2.build o.1 (λ is. crowd (ap IndexRefused is))
 refused one bad excludes plan input file OutOfMemory h some other crowd made = some refl

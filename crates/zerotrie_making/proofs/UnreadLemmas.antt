@@ -5,10 +5,10 @@ use Rattle.zerotrie_lines.specs.Laws.{BadIsUnread}
 use Rattle.json.specs.Json.{Json as Value}
 use Rattle.zerotrie_making.specs.Json.{pairs_in}
 use Rattle.zerotrie_making.specs.Sources.{IsJson, IsPairs, NoPairs}
-use Rattle.zerotrie_making.specs.declared.making.Source.{Source}
-use Rattle.zerotrie_making.specs.declared.making.Source.TheVariants.{Text, Json}
-use Rattle.zerotrie_making.specs.declared.refused.MakeError.{MakeError}
-use Rattle.zerotrie_making.specs.declared.refused.MakeError.TheVariants.{Line, NotJson, NotPairs, NotPair, Keys, Refused, IndexRefused, OutOfMemory}
+use Rattle.zerotrie_making.specs.declared.plan.Source.{Source}
+use Rattle.zerotrie_making.specs.declared.plan.Source.TheVariants.{Text, Json}
+use Rattle.zerotrie_making.specs.declared.error.MakeError.{MakeError}
+use Rattle.zerotrie_making.specs.declared.error.MakeError.TheVariants.{Line, NotJson, NotPairs, NotPair, Keys, Refused, IndexRefused, OutOfMemory}
 
 pub some_is : {A : Type 0} (a b : A) → Some a ≡ Some b → a ≡ b
 some_is {A} a b e = ap (inside a) e

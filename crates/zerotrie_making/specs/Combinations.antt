@@ -9,16 +9,14 @@ use Rattle.zerotrie_sets.specs.Operations.{IsCombined}
 use Rattle.zerotrie_sets.specs.declared.combined.Operation.{Operation}
 use Rattle.zerotrie_making.specs.Kept.{number_of}
 use Rattle.zerotrie_making.specs.Made.{IsFileOf, ExplainsOf}
-use Rattle.zerotrie_making.specs.declared.duplicates.Duplicates.TheVariants.{Refuse}
-use Rattle.zerotrie_making.specs.declared.making.FileForm.{FileForm}
-use Rattle.zerotrie_making.specs.declared.making.Plan.{Plan}
-use Rattle.zerotrie_making.specs.declared.making.Source.TheVariants.{Json}
-use Rattle.zerotrie_making.specs.declared.refused.MakeError.{MakeError}
-use Rattle.zerotrie_making.specs.declared.refused.MakeError.TheVariants.{OutOfMemory}
+use Rattle.zerotrie_making.specs.declared.plan.FileForm.{FileForm}
+use Rattle.zerotrie_making.specs.declared.plan.FilePlan.{FilePlan}
+use Rattle.zerotrie_making.specs.declared.error.MakeError.{MakeError}
+use Rattle.zerotrie_making.specs.declared.error.MakeError.TheVariants.{OutOfMemory}
 
--- how the file of pairs is made that are there already: they may have any order, and each is kept as it is
-abbrev pub plan_of : Option TrieKind → FileForm → Plan
-plan_of kind form = record { source = Json; kind = kind; sorted = false; lower_case = false; duplicates = Refuse; form = form }
+-- what file is made of the pairs of a combination, which may have any order
+abbrev pub plan_of : Option TrieKind → FileForm → FilePlan
+plan_of kind form = record { kind = kind; sorted = false; form = form }
 
 -- the fact holds of the pairs of a combination of two maps
 abbrev pub OfBoth : Operation → Map → Map → (Pairs → Type 0) → Type 0
@@ -28,7 +26,7 @@ OfBoth operation first second Fact = (pairs : Pairs) × IsCombined operation (en
 abbrev pub IsFileOfBoth : Operation → Option TrieKind → FileForm → Map → Map → List ℕ → Type 0
 IsFileOfBoth operation kind form first second file = OfBoth operation first second (λ pairs. IsFileOf (plan_of kind form) pairs file)
 
--- why no file is made of a combination of two maps: an allocation failed, or a build of its pairs is refused
+-- why no file is made of a combination of two maps: an allocation failed, or a build of its pairs fails
 abbrev pub ExplainsBoth : Operation → Option TrieKind → FileForm → Map → Map → MakeError → Type 0
 ExplainsBoth operation kind form first second e =
     (e ≡ OutOfMemory) ⊎ OfBoth operation first second (λ pairs. ExplainsOf (plan_of kind form) (number_of None) pairs e)

@@ -14,22 +14,22 @@ use Rattle.zerotrie_index.specs.declared.error.ZeroIndexBuildError.TheVariants.{
 use Rattle.zerotrie_making.specs.Plans.{IsFormOf}
 use Rattle.zerotrie_making.specs.Made.{IsFile, Explains}
 use Rattle.zerotrie_making.specs.Sources.{NoPairs}
-use Rattle.zerotrie_making.specs.declared.refused.MakeError.{MakeError}
-use Rattle.zerotrie_making.specs.declared.refused.MakeError.TheVariants.{Refused, IndexRefused, OutOfMemory}
-use Rattle.zerotrie_making.specs.declared.making.FileForm.TheVariants.{Index}
-use Rattle.zerotrie_making.specs.declared.making.Plan.{Plan}
+use Rattle.zerotrie_making.specs.declared.error.MakeError.{MakeError}
+use Rattle.zerotrie_making.specs.declared.error.MakeError.TheVariants.{Refused, IndexRefused, OutOfMemory}
+use Rattle.zerotrie_making.specs.declared.plan.FileForm.TheVariants.{Index}
+use Rattle.zerotrie_making.specs.declared.plan.Plan.{Plan}
 use Rattle.zerotrie_making.specs.declared.duplicates.Duplicates.TheVariants.{Refuse}
-use Rattle.zerotrie_making.specs.declared.making.Source.TheVariants.{Text}
+use Rattle.zerotrie_making.specs.declared.plan.Source.TheVariants.{Text}
 
 -- a trie file of this kind that is made of the lines in which all pairs of a trie are listed has bytes that mean the map of that trie
 abbrev pub ListedIsMadeAgain : Type 0
 ListedIsMadeAgain = (kind : TrieKind) (bytes file : List ℕ) (m : Map) (plan : Plan) (means : Means (kind_of kind) bytes m)
-    → (end : LineEnd) → plan.source ≡ Text Tsv end → plan.form ≢ Index → plan.kind ≡ Some kind → plan.lower_case ≡ false → plan.duplicates ≡ Refuse → IsFile plan (listed (Lines style.Tsv) (beginning (kind_of kind) [] means.pairs)) file
-    → (again : List ℕ) × IsFormOf plan.form (kind_of kind) again file × Means (kind_of kind) again m
+    → (end : LineEnd) → plan.read.source ≡ Text Tsv end → plan.file.form ≢ Index → plan.file.kind ≡ Some kind → plan.read.lower_case ≡ false → plan.read.duplicates ≡ Refuse → IsFile plan (listed (Lines style.Tsv) (beginning (kind_of kind) [] means.pairs)) file
+    → (again : List ℕ) × IsFormOf plan.file.form (kind_of kind) again file × Means (kind_of kind) again m
 
 -- an input that is no pairs makes no file
 abbrev pub UnreadMakesNoFile : Type 0
-UnreadMakesNoFile = (plan : Plan) (input file : List ℕ) (e : MakeError) → NoPairs plan.source input e → e ≢ OutOfMemory → IsFile plan input file → ⊥
+UnreadMakesNoFile = (plan : Plan) (input file : List ℕ) (e : MakeError) → NoPairs plan.read.source input e → e ≢ OutOfMemory → IsFile plan input file → ⊥
 
 -- An input for which an error has a reason makes no file. Three errors are left out: an allocation may fail at any time; that a
 -- table has to be searched, which is all that is said of CouldNotSolvePerfectHash, does not exclude that the search finds one; and

@@ -16,15 +16,16 @@ use Rattle.zerotrie_lines.specs.declared.fault.ReadError.TheVariants as fault
 use Rattle.zerotrie_making.specs.Sources.{IsPairs, NoPairs}
 use Rattle.zerotrie_making.specs.Plans.{Content, a_trie, an_index, content_of, route_of, kind_for, IsFormOf}
 use Rattle.zerotrie_making.specs.Kept.{kept, number_at}
-use Rattle.zerotrie_making.specs.declared.making.Plan.{Plan}
-use Rattle.zerotrie_making.specs.declared.refused.NumberedKey.{NumberedKey}
-use Rattle.zerotrie_making.specs.declared.refused.Shown.{Shown}
-use Rattle.zerotrie_making.specs.declared.refused.MakeError.{MakeError}
-use Rattle.zerotrie_making.specs.declared.refused.MakeError.TheVariants.{Line, NotJson, NotPairs, NotPair, Keys, Refused, IndexRefused, OutOfMemory}
+use Rattle.zerotrie_making.specs.declared.plan.FilePlan.{FilePlan}
+use Rattle.zerotrie_making.specs.declared.plan.Plan.{Plan}
+use Rattle.zerotrie_making.specs.declared.error.NumberedKey.{NumberedKey}
+use Rattle.zerotrie_making.specs.declared.error.Shown.{Shown}
+use Rattle.zerotrie_making.specs.declared.error.MakeError.{MakeError}
+use Rattle.zerotrie_making.specs.declared.error.MakeError.TheVariants.{Line, NotJson, NotPairs, NotPair, Keys, Refused, IndexRefused, OutOfMemory}
 
 -- the input is pairs, and the fact holds of them, with their keys in lower case if the plan says so
 abbrev pub OfInput : Plan → List ℕ → (Pairs → Type 0) → Type 0
-OfInput plan input Fact = (pairs : Pairs) × IsPairs plan.source input pairs × Fact (lowered plan.lower_case pairs)
+OfInput plan input Fact = (pairs : Pairs) × IsPairs plan.read.source input pairs × Fact (lowered plan.read.lower_case pairs)
 
 -- the result of a build of an index of the pairs, whose keys are to ascend or may have any order
 abbrev pub IsIndexed : {B : Type 0} → Bool → (B → List ℕ) → Pairs → Result B ZeroIndexBuildError → Type 0
@@ -37,14 +38,14 @@ IsBuiltAs (a_trie kind) sorted pairs bytes = IsBuild (route_of sorted) kind (λ 
 IsBuiltAs an_index sorted pairs bytes = IsIndexed sorted (λ b. b) pairs (Ok bytes)
 
 -- The file is that of a trie or an index which a build of the pairs returns.
-pub record IsFileOf (plan : Plan) (pairs : Pairs) (file : List ℕ) : Type 0 where
+pub record IsFileOf (plan : FilePlan) (pairs : Pairs) (file : List ℕ) : Type 0 where
   pub bytes : List ℕ
   pub build : IsBuiltAs (content_of plan.form (kind_for plan.kind pairs)) plan.sorted pairs bytes
   pub is : IsFormOf plan.form (kind_for plan.kind pairs) bytes file
 
 -- the file is that of those of the pairs that are kept
 abbrev pub IsFileOfKept : Plan → Pairs → List ℕ → Type 0
-IsFileOfKept plan pairs file = IsFileOf plan (kept plan.duplicates pairs) file
+IsFileOfKept plan pairs file = IsFileOf plan.file (kept plan.read.duplicates pairs) file
 
 -- the file is that of the pairs that the input is, as far as they are kept
 abbrev pub IsFile : Plan → List ℕ → List ℕ → Type 0
@@ -63,12 +64,12 @@ abbrev pub fault_of : Bool → ZeroTrieBuildError
 fault_of true = cause.Unsorted
 fault_of false = cause.DuplicateKey
 
--- keys show why a build of the pairs is refused; of an index as they do of a trie that takes any bytes
+-- keys show why a build of the pairs fails; of an index as they do of a trie that takes any bytes
 abbrev pub AreAtFault : Content → Bool → Pairs → Refusal → Type 0
 AreAtFault (a_trie kind) sorted pairs r = IsWhyRefused (route_of sorted) kind pairs (Some r)
 AreAtFault an_index sorted pairs r = (r.error ≡ fault_of sorted) × IsWhyRefused (route_of sorted) perfect_hash pairs (Some r)
 
--- the build of a trie is refused by a cause though no keys show one
+-- the build of a trie fails by a cause though no keys show one
 abbrev pub IsTrieRefusedBy : Content → Bool → Pairs → ZeroTrieBuildError → Type 0
 IsTrieRefusedBy (a_trie kind) sorted pairs e = HasCause (route_of sorted) kind pairs e × AreFaultless (route_of sorted) kind pairs
 IsTrieRefusedBy an_index sorted pairs e = ⊥
@@ -78,7 +79,7 @@ abbrev pub IsIndexRefusedBy : Content → Bool → Pairs → ZeroIndexBuildError
 IsIndexRefusedBy (a_trie kind) sorted pairs e = ⊥
 IsIndexRefusedBy an_index sorted pairs e = (e ≢ unindexed.OutOfMemory) × IsIndexed {B = List ℕ} sorted (λ b. b) pairs (Err e) × Takes (route_of sorted) pairs
 
--- Why a build of the pairs is refused: keys that show an error, a cause though no keys show one, or an allocation failed.
+-- Why a build of the pairs fails: keys that show an error, a cause though no keys show one, or an allocation failed.
 abbrev pub IsRefusedAs : Content → Bool → (ℕ → ℕ) → Pairs → MakeError → Type 0
 IsRefusedAs content sorted number pairs (Line m bad) = ⊥
 IsRefusedAs content sorted number pairs (NotJson line column) = ⊥
@@ -90,19 +91,19 @@ IsRefusedAs content sorted number pairs (IndexRefused e) = IsIndexRefusedBy cont
 IsRefusedAs content sorted number pairs OutOfMemory = Unit {0}
 
 -- why the plan makes no file of pairs that are kept, which have these numbers
-abbrev pub ExplainsOf : Plan → (ℕ → ℕ) → Pairs → MakeError → Type 0
+abbrev pub ExplainsOf : FilePlan → (ℕ → ℕ) → Pairs → MakeError → Type 0
 ExplainsOf plan number pairs e = IsRefusedAs (content_of plan.form (kind_for plan.kind pairs)) plan.sorted number pairs e
 
 -- why the plan makes no file of those of the pairs that are kept
 abbrev pub ExplainsKept : Plan → Pairs → MakeError → Type 0
-ExplainsKept plan pairs e = ExplainsOf plan (number_at plan.duplicates pairs) (kept plan.duplicates pairs) e
+ExplainsKept plan pairs e = ExplainsOf plan.file (number_at plan.read.duplicates pairs) (kept plan.read.duplicates pairs) e
 
--- why the plan makes no file of the input: it is no pairs, a build of its pairs is refused, or an allocation failed
+-- why the plan makes no file of the input: it is no pairs, a build of its pairs fails, or an allocation failed
 abbrev pub Explains : Plan → List ℕ → MakeError → Type 0
-Explains plan input (Line number bad) = NoPairs plan.source input (Line number bad)
-Explains plan input (NotJson line column) = NoPairs plan.source input (NotJson line column)
-Explains plan input NotPairs = NoPairs plan.source input NotPairs
-Explains plan input (NotPair bad) = NoPairs plan.source input (NotPair bad)
+Explains plan input (Line number bad) = NoPairs plan.read.source input (Line number bad)
+Explains plan input (NotJson line column) = NoPairs plan.read.source input (NotJson line column)
+Explains plan input NotPairs = NoPairs plan.read.source input NotPairs
+Explains plan input (NotPair bad) = NoPairs plan.read.source input (NotPair bad)
 Explains plan input (Keys s) = OfInput plan input (λ pairs. ExplainsKept plan pairs (Keys s))
 Explains plan input (Refused e) = OfInput plan input (λ pairs. ExplainsKept plan pairs (Refused e))
 Explains plan input (IndexRefused e) = OfInput plan input (λ pairs. ExplainsKept plan pairs (IndexRefused e))

@@ -8,10 +8,10 @@ use Rattle.zerotrie_any.specs.Tagged.{tagged}
 use Rattle.zerotrie_core.specs.Kinds.{kind_of}
 use Rattle.zerotrie_core.specs.declared.TrieKind.{TrieKind}
 use Rattle.zerotrie_sealed.specs.Sealed.{IsSealed, IsSealedIndex}
-use Rattle.zerotrie_making.specs.declared.making.FileForm.{FileForm}
-use Rattle.zerotrie_making.specs.declared.making.FileForm.TheVariants as form
+use Rattle.zerotrie_making.specs.declared.plan.FileForm.{FileForm}
+use Rattle.zerotrie_making.specs.declared.plan.FileForm.TheVariants as form
 
--- the route of a build, whose keys are to ascend or may have any order
+-- the way of a build, whose keys are to ascend or may have any order
 abbrev pub route_of : Bool → Route
 route_of true = ascending
 route_of false = any_order

@@ -10,11 +10,11 @@ use Rattle.zerotrie_lines.specs.declared.reading.Format.{Format}
 use Rattle.zerotrie_lines.specs.declared.reading.LineEnd.{LineEnd}
 use Rattle.zerotrie_lines.specs.declared.fault.ReadError.TheVariants as fault
 use Rattle.zerotrie_making.specs.Unread.{IsFirst}
-use Rattle.zerotrie_making.specs.declared.making.Source.{Source}
-use Rattle.zerotrie_making.specs.declared.making.Source.TheVariants.{Text, Json}
-use Rattle.zerotrie_making.specs.declared.refused.NoPair.{NoPair}
-use Rattle.zerotrie_making.specs.declared.refused.MakeError.{MakeError}
-use Rattle.zerotrie_making.specs.declared.refused.MakeError.TheVariants.{Line, NotJson, NotPairs, NotPair, Keys, Refused, IndexRefused, OutOfMemory}
+use Rattle.zerotrie_making.specs.declared.plan.Source.{Source}
+use Rattle.zerotrie_making.specs.declared.plan.Source.TheVariants.{Text, Json}
+use Rattle.zerotrie_making.specs.declared.error.NoPair.{NoPair}
+use Rattle.zerotrie_making.specs.declared.error.MakeError.{MakeError}
+use Rattle.zerotrie_making.specs.declared.error.MakeError.TheVariants.{Line, NotJson, NotPairs, NotPair, Keys, Refused, IndexRefused, OutOfMemory}
 
 -- the input is the text of this JSON value, after the byte order mark that may be in front
 abbrev pub IsJson : List ℕ → Value → Type 0

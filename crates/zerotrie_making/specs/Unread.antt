@@ -3,8 +3,8 @@ use Rattle.std.specs.Prelude.{◌≡◌, ℕ, suc, List, Option, Some, None, opt
 use Rattle.json.specs.Json.{Json, Items, no_items, item, Members, no_members, member}
 use Rattle.json.specs.Find.{as_array, as_object}
 use Rattle.zerotrie_making.specs.Json.{number_in, pair_in}
-use Rattle.zerotrie_making.specs.declared.refused.NoPair.{NoPair}
-use Rattle.zerotrie_making.specs.declared.refused.NoPair.TheVariants.{Member, Item}
+use Rattle.zerotrie_making.specs.declared.error.NoPair.{NoPair}
+use Rattle.zerotrie_making.specs.declared.error.NoPair.TheVariants.{Member, Item}
 
 -- 1 if nothing is read, and else one more than the number among the rest, if one of these has it
 abbrev pub first_or_later : {A : Type 0} → Option A → Option ℕ → Option ℕ

@@ -9,16 +9,16 @@ ghost use Rattle.zerotrie_any.specs.JsonCalls.{IsReading};
 ghost use Rattle.zerotrie_making.specs.Json.{number_in, byte_in, key_in, pair_in, pairs_in, each, member_pairs};
 ghost use Rattle.zerotrie_making.specs.Sources.{NoValue, IsPairs, NoPairs};
 ghost use Rattle.zerotrie_making.specs.Unread.{first_unread, first_member, IsFirst};
-ghost use Rattle.zerotrie_making.specs.declared.making.Source.TheVariants.{Json};
+ghost use Rattle.zerotrie_making.specs.declared.plan.Source.TheVariants.{Json};
 
+use crate::error::{MakeError, NoPair};
 use crate::json_places::{not_json, why_no_json};
-use crate::refused::{MakeError, NoPair};
 use json::{Error, MAX_DEPTH, Reader, Scratch, Value};
 use std::alloc::{AllocError, Global};
 use zerotrie_any::JsonError;
 use zerotrie_lines::{Table, parse_number, without_mark};
 
-/// The items of a list.
+/// Returns the items, if the value is a list.
 fn items_of<'v, 'a>(value: &'v Value<'a>) -> Option<&'v [Value<'a>]>
     ensures { option_map (λ items. items_view items.now) result ≡ as_array (value_view value.now) }
 {
@@ -28,7 +28,7 @@ fn items_of<'v, 'a>(value: &'v Value<'a>) -> Option<&'v [Value<'a>]>
     }
 }
 
-/// The members of an object.
+/// Returns the members, if the value is an object.
 fn members_of<'v, 'a>(value: &'v Value<'a>) -> Option<&'v [(&'a str, Value<'a>)]>
     ensures { option_map (λ members. members_view members.now) result
         ≡ as_object (value_view value.now) }
@@ -39,14 +39,14 @@ fn members_of<'v, 'a>(value: &'v Value<'a>) -> Option<&'v [(&'a str, Value<'a>)]
     }
 }
 
-/// The whole number that a value is.
+/// Returns the whole number in a value.
 fn number_of(value: &Value<'_>) -> Option<usize>
     ensures { result ≡ number_in (value_view value.now) }
 {
     parse_number(value.as_number()?.as_bytes())
 }
 
-/// The byte that a value is.
+/// Returns the byte in a value.
 fn byte_of(value: &Value<'_>) -> Option<u8>
     ensures { result ≡ byte_in (value_view value.now) }
 {
@@ -58,7 +58,7 @@ fn byte_of(value: &Value<'_>) -> Option<u8>
     }
 }
 
-/// The bytes that the items of a list are.
+/// Returns the bytes in the items of a list.
 fn bytes_of(alloc: Global, items: &[Value<'_>]) -> Result<Vec<u8>, JsonError>
     ensures { IsReading (λ bytes. bytes.items) (each byte_in (items_view items.now)) result }
 {
@@ -72,7 +72,7 @@ fn bytes_of(alloc: Global, items: &[Value<'_>]) -> Result<Vec<u8>, JsonError>
     Ok(bytes)
 }
 
-/// The key in a value: a text, or a list of bytes.
+/// Returns the key in a value: a text, or a list of bytes.
 fn key_of(alloc: Global, value: &Value<'_>) -> Result<Vec<u8>, JsonError>
     ensures { IsReading (λ key. key.items) (key_in (value_view value.now)) result }
 {
@@ -85,7 +85,7 @@ fn key_of(alloc: Global, value: &Value<'_>) -> Result<Vec<u8>, JsonError>
     }
 }
 
-/// The pair in a value, which is a list of exactly two.
+/// Returns the pair in a value, which is a list of exactly two.
 fn pair_of(alloc: Global, value: &Value<'_>) -> Result<(Vec<u8>, usize), JsonError>
     ensures { IsReading (λ e. (e.0.items, e.1)) (pair_in (value_view value.now)) result }
 {
@@ -102,7 +102,7 @@ fn pair_of(alloc: Global, value: &Value<'_>) -> Result<(Vec<u8>, usize), JsonErr
     Ok((key, number))
 }
 
-/// The pairs in the items of a list.
+/// Returns the pairs in the items of a list.
 fn pairs_of_list(alloc: Global, items: &[Value<'_>]) -> Result<Table, JsonError>
     ensures { IsReading (λ table. table) (each pair_in (items_view items.now)) result }
 {
@@ -114,7 +114,7 @@ fn pairs_of_list(alloc: Global, items: &[Value<'_>]) -> Result<Table, JsonError>
     Ok(table)
 }
 
-/// The pairs in the members of an object, in their order.
+/// Returns the pairs in the members of an object, in their order.
 fn pairs_of_members(alloc: Global, members: &[(&str, Value<'_>)]) -> Result<Table, JsonError>
     ensures { IsReading (λ table. table) (member_pairs (members_view members.now)) result }
 {
@@ -128,7 +128,7 @@ fn pairs_of_members(alloc: Global, members: &[(&str, Value<'_>)]) -> Result<Tabl
     Ok(table)
 }
 
-/// The pairs in a value.
+/// Returns the pairs in a value.
 fn pairs_of(alloc: Global, value: &Value<'_>) -> Result<Table, JsonError>
     ensures { IsReading (λ table. table) (pairs_in (value_view value.now)) result }
 {
@@ -141,7 +141,7 @@ fn pairs_of(alloc: Global, value: &Value<'_>) -> Result<Table, JsonError>
     }
 }
 
-/// The number of the first item that is no pair, from 1 on.
+/// Returns the number of the first item that is no pair, from 1 on.
 fn first_item(alloc: Global, items: &[Value<'_>]) -> Result<Option<usize>, AllocError>
     ensures { IfOk result (λ number. number ≡ first_unread pair_in (items_view items.now)) }
 {
@@ -155,7 +155,7 @@ fn first_item(alloc: Global, items: &[Value<'_>]) -> Result<Option<usize>, Alloc
     Ok(None)
 }
 
-/// The name of the first member whose value is no whole number.
+/// Returns the name of the first member whose value is no whole number.
 fn first_member<'a>(members: &[(&'a str, Value<'a>)]) -> Option<&'a str>
     ensures { option_map (λ key. key.now) result ≡ first_member (members_view members.now) }
 {
@@ -167,7 +167,7 @@ fn first_member<'a>(members: &[(&'a str, Value<'a>)]) -> Option<&'a str>
     None
 }
 
-/// The first member or item of a value that is no pair. `None` if the value has none.
+/// Returns the first member or item of a value that is no pair. `None` if the value has none.
 fn first_bad(alloc: Global, value: &Value<'_>) -> Result<Option<NoPair>, AllocError>
     ensures { IfOk result (IsFirst (value_view value.now)) }
 {
@@ -183,7 +183,7 @@ fn first_bad(alloc: Global, value: &Value<'_>) -> Result<Option<NoPair>, AllocEr
     }
 }
 
-/// The JSON value that a text is.
+/// Reads the JSON value of a text.
 fn value_of<'a>(
     alloc: Global,
     text: &'a str,
@@ -205,7 +205,7 @@ fn value_of<'a>(
     }
 }
 
-/// The pairs in the JSON value that an input is.
+/// Reads the pairs in the JSON value of an input.
 pub(crate) fn read_json(alloc: Global, input: &[u8]) -> Result<Table, MakeError>
     ensures ok { IfOk result (λ table. IsPairs Json input.now table) }
     ensures err { IfErr result (λ e. NoPairs Json input.now e) }

@@ -3,7 +3,7 @@
 ghost use Rattle.std.specs.Prelude.{IfOk};
 ghost use Rattle.zerotrie_making.specs.Sources.{IsNotJson};
 
-use crate::refused::MakeError;
+use crate::error::MakeError;
 use json::{MAX_DEPTH, Reader, Scratch, Token};
 use std::alloc::{AllocError, Global};
 
@@ -71,12 +71,12 @@ fn first_misfit(alloc: Global, text: &str) -> Result<usize, AllocError> {
     Ok(place)
 }
 
-/// Whether a byte of UTF-8 continues a character.
+/// Returns whether a byte of UTF-8 continues a character.
 fn is_continuation(byte: u8) -> bool {
     byte & 0xC0 == 0x80
 }
 
-/// The line and the column, both from 1 on, of a place in a text. The column counts characters.
+/// Returns the line and the column of a place in a text, both from 1 on. Columns are characters.
 fn line_and_column(text: &[u8], place: usize) -> (usize, usize) {
     let mut line: usize = 1;
     let mut column: usize = 1;
@@ -91,7 +91,7 @@ fn line_and_column(text: &[u8], place: usize) -> (usize, usize) {
     (line, column)
 }
 
-/// The error of a text that is no JSON value, as this place shows.
+/// Returns the error of a text that is no JSON value from this place on.
 pub(crate) fn not_json(text: &[u8], place: usize) -> MakeError
     ensures { IsNotJson result }
 {
@@ -99,7 +99,7 @@ pub(crate) fn not_json(text: &[u8], place: usize) -> MakeError
     MakeError::NotJson(line, column)
 }
 
-/// The error of a text that is no JSON value.
+/// Returns the error of a text that is no JSON value, with the place that shows it.
 pub(crate) fn why_no_json(alloc: Global, text: &str) -> Result<MakeError, AllocError>
     ensures { IfOk result IsNotJson }
 {

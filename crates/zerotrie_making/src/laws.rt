@@ -7,7 +7,8 @@ ghost use Rattle.zerotrie_making.specs.Laws.{ListedIsMadeAgain, UnreadMakesNoFil
 use zerotrie_index::laws::index_excludes_causes;
 use zerotrie_lines::laws::{bad_is_unread, lines_read_back, one_reading};
 
-/// The lines in which a trie is listed, made into a trie file of the same kind, mean the same map.
+/// States that the lines in which a trie is listed, made into a trie file of the same kind, mean the
+/// same map.
 pub fn listed_is_made_again()
     ensures { ListedIsMadeAgain }
 {
@@ -15,15 +16,15 @@ pub fn listed_is_made_again()
     one_reading();
 }
 
-/// An input that is no pairs makes no file.
+/// States that an input that is no pairs makes no file.
 pub fn unread_makes_no_file()
     ensures { UnreadMakesNoFile }
 {
     bad_is_unread();
 }
 
-/// An input of which no file is made has none: what an error says of the input, and what a file
-/// says of it, exclude each other.
+/// States that an input of which no file is made has none: what an error says of the input, and what a
+/// file says of it, exclude each other.
 ///
 /// `CouldNotSolvePerfectHash` is left out: it says that the trie needs a table that has to be
 /// searched, and a search may find one. So is `Crowded`, as under another seed the pairs have an
@@ -36,7 +37,7 @@ pub fn refused_makes_no_file()
     index_excludes_causes();
 }
 
-/// A number in JSON is a value exactly if it is one on a line.
+/// States that a number in JSON is a value exactly if it is one on a line.
 pub fn whole_is_number()
     ensures { WholeIsNumber }
 {}

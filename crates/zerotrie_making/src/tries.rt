@@ -134,7 +134,8 @@ pub(crate) fn why_unindexed(
     sorted: bool,
     items: &[(&[u8], usize)],
 ) -> Result<Option<Refusal>, AllocError>
-    ensures some { IfOk result (λ why. IfSome why (AreAtFault an_index sorted (pairs_of items.now))) }
+    ensures some { IfOk result (λ why. IfSome why (AreAtFault an_index sorted
+        (pairs_of items.now))) }
     ensures none { IfOk result (λ why. IfNone why (Takes (route_of sorted) (pairs_of items.now))) }
 {
     // a trie of this kind takes keys of any bytes, too

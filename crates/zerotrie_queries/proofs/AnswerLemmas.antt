@@ -11,11 +11,11 @@ use Rattle.zerotrie_core.specs.Borders.{at_borders}
 use Rattle.zerotrie_core.specs.Texts.{Means}
 use Rattle.zerotrie_core.specs.Kinds.{kind_of}
 use Rattle.zerotrie_core.specs.declared.TrieKind.{TrieKind}
-use Rattle.zerotrie_queries.specs.declared.lookups.Asked.{Asked}
-use Rattle.zerotrie_queries.specs.declared.lookups.Asked.TheVariants.{Value, Pair, Longest, LongestAt, Prefixes}
-use Rattle.zerotrie_queries.specs.declared.lookups.Spelling.{Spelling}
-use Rattle.zerotrie_queries.specs.declared.lookups.Spelling.TheVariants.{Plain, Escaped}
-use Rattle.zerotrie_queries.specs.declared.lookups.Query.{Query}
+use Rattle.zerotrie_queries.specs.declared.question.Asked.{Asked}
+use Rattle.zerotrie_queries.specs.declared.question.Asked.TheVariants.{Value, Pair, Longest, LongestAt, Prefixes}
+use Rattle.zerotrie_queries.specs.declared.question.Spelling.{Spelling}
+use Rattle.zerotrie_queries.specs.declared.question.Spelling.TheVariants.{Plain, Escaped}
+use Rattle.zerotrie_queries.specs.declared.question.Query.{Query}
 use Rattle.zerotrie_queries.specs.Printed.{value_line, value_lines, key_line, found_line, fronts_text, are_found}
 use Rattle.zerotrie_queries.specs.Answers.{IsAnswer, IsAnswerAs, IsAdded, Belongs, AreAnswered, AreAnsweredInPart, as_is, with_escapes}
 use Rattle.zerotrie_queries.specs.Finders.{TrieFinds}

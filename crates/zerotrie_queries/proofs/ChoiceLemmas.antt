@@ -1,27 +1,37 @@
 -- The pairs that are chosen.
-use Rattle.std.proofs.Common.{◌≡◌, ℕ, ◌≤◌, List, [], ◌∷◌, Bool, not, length, refl, ap, arith, subst, Option, Some, None, Result, Ok, Err, IfOk, IfSome, IfNone, OnErr}
+use Rattle.std.proofs.Common.{◌≡◌, ℕ, ◌≤◌, List, Bool, not, length, refl, ap, arith, subst, Option, Some, None, Result, Ok, Err, IfOk, IfSome, IfNone, OnErr}
 use Rattle.std.specs.Io.KnownBytes.{Appends}
 use Rattle.std.proofs.lemmas.List.Filters.{length-filter_both}
 use Rattle.zerotrie_core.specs.Kind.{Kind}
 use Rattle.zerotrie_core.specs.Kinds.{kind_of}
-use Rattle.zerotrie_core.specs.Maps.{Pairs, beginning}
+use Rattle.zerotrie_core.specs.Listings.{Left}
+use Rattle.zerotrie_core.specs.Maps.{Pairs}
 use Rattle.zerotrie_core.specs.Texts.{Lists}
 use Rattle.zerotrie_core.specs.declared.TrieKind.{TrieKind}
 use Rattle.zerotrie_files.specs.Parts.{AppendsPart}
-use Rattle.zerotrie_search.specs.Searches.{accepted}
+use Rattle.zerotrie_search.specs.Searches.{accepted, IsSearch}
 use Rattle.zerotrie_queries.specs.Json.{IsFirstNoText}
 use Rattle.zerotrie_queries.specs.Listed.{limited, IsPrintable, AreListed, AreListedInPart}
 use Rattle.zerotrie_queries.specs.Printed.{listed}
 use Rattle.zerotrie_queries.specs.declared.print.Form.{Form}
 
--- each key begins with no bytes
-pub all_begin : (kind : Kind) (pairs : Pairs) → beginning kind [] pairs ≡ pairs
-all_begin kind [] = refl
-all_begin kind (e ∷ pairs) = ap (λ l. e ∷ l) (all_begin kind pairs)
-
 -- those that are accepted are no more than all
 pub few_accepted : (accepts : List ℕ → Bool) (pairs : Pairs) → length (accepted accepts pairs) ≤ length pairs
 few_accepted accepts pairs = let both = length-filter_both (λ e. accepts e.0) (λ e. not (accepts e.0)) (λ e. refl) pairs in omega arith
+
+-- a search lists the accepted pairs
+pub found_pairs : (kind : Kind) (bytes : List ℕ) (accepts : List ℕ → Bool) (stream left : Left) → IsSearch kind bytes (λ pairs. pairs) accepts stream left
+    → (pairs : Pairs) → Lists kind bytes pairs → left.pairs ≡ accepted accepts pairs
+found_pairs kind bytes accepts stream left h = λ pairs lists. ap (λ l. l.pairs) (h.lists pairs lists)
+
+-- a search has no more pairs than bytes
+pub few_found : (kind : Kind) (bytes : List ℕ) (part : Pairs → Pairs) (accepts : List ℕ → Bool) (stream left : Left) → IsSearch kind bytes part accepts stream left
+    → length left.pairs ≤ length bytes
+few_found kind bytes part accepts stream left h =
+    let few = few_accepted accepts stream.pairs in
+    let most = h.most in
+    let all : length left.pairs ≡ length (accepted accepts stream.pairs) = ap (λ l. length l.pairs) h.always in
+    omega arith
 
 -- what follows from the clauses of a result
 pub if_none_weaker : {A E P Q : Type 0} (r : Result (Option A) E) → (P → Q) → IfOk r (λ key. IfNone key P) → IfOk r (λ key. IfNone key Q)

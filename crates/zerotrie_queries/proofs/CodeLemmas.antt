@@ -9,7 +9,7 @@ use Rattle.zerotrie_core.specs.declared.TrieKind.TheVariants.{Simple, Ignore, Ha
 use Rattle.zerotrie_queries.specs.declared.code.Language.{Language}
 use Rattle.zerotrie_queries.specs.declared.code.Language.TheVariants as lang
 use Rattle.zerotrie_queries.specs.code.Names.{is_letter, is_in_word, are_in_word, is_name}
-use Rattle.zerotrie_queries.specs.code.Texts.{rust_kind, c_kind, kind_number, rattle_type, c_constants, c_call, alone_call, c_get, c_end, front, end}
+use Rattle.zerotrie_queries.specs.code.Texts.{c_kind, kind_number, rattle_type, c_constants, c_call, alone_call, c_get, c_end, js_end, front, end}
 use Rattle.zerotrie_queries.specs.code.Items.{before_item, item_number, items, is_hex, digit_value, seen_after, numbers_after}
 use Rattle.zerotrie_queries.specs.code.Laws.{IsC, items_before_end, items_in_braces}
 use Rattle.zerotrie_queries.specs.code.Items.Seen.{outside, inside, zero_seen, digit_seen}
@@ -95,11 +95,11 @@ named : (name text rest : List ℕ) → is_name name ≡ true → numbers_after 
 named name text rest is = ap (numbers_after outside) (append_assoc name text rest) ∙ name_read name (text ++ rest) is
 
 -- a text that begins with letters alone up to the rest, as a kind does, leaves a word open
-pub rust_kind_read : (kind : TrieKind) (text rest : List ℕ) → numbers_after outside ((rust_kind kind ++ text) ++ rest) ≡ numbers_after inside (text ++ rest)
-rust_kind_read Simple text rest = refl
-rust_kind_read Ignore text rest = refl
-rust_kind_read Hash text rest = refl
-rust_kind_read Ext text rest = refl
+rust_type_read : (kind : TrieKind) (text rest : List ℕ) → numbers_after outside ((rattle_type kind ++ text) ++ rest) ≡ numbers_after inside (text ++ rest)
+rust_type_read Simple text rest = refl
+rust_type_read Ignore text rest = refl
+rust_type_read Hash text rest = refl
+rust_type_read Ext text rest = refl
 
 c_kind_read : (kind : TrieKind) (text rest : List ℕ) → numbers_after outside ((c_kind kind ++ text) ++ rest) ≡ numbers_after inside (text ++ rest)
 c_kind_read Simple text rest = refl
@@ -132,13 +132,18 @@ constants_read kind name rest read is =
 -- no number stands in front of the bytes
 pub front_read : (language : Language) (kind : TrieKind) (name rest : List ℕ) → is_name name ≡ true → numbers_after outside (front language kind name ++ rest) ≡ numbers_after outside rest
 front_read lang.Rust kind name rest is =
-    let last = codes ", &[" in
-    let kinds = codes ": zerotrie_proved::ZeroTrie<&'static [u8]> =\n    zerotrie_proved::ZeroTrie::from_bytes(zerotrie_proved::Kind::" ++ (rust_kind kind ++ last) in
-    let static = codes ".get(key)` is the value of a key.\npub static " ++ (name ++ kinds) in
-    named name static rest is ∙ named name kinds rest is ∙ rust_kind_read kind last rest
+    let last = codes "::from_store(&[" in
+    let made = codes "<&'static [u8]> =\n    zerotrie::" ++ (rattle_type kind ++ last) in
+    let types = codes ": zerotrie::" ++ (rattle_type kind ++ made) in
+    let static = codes ".get(key)` is the value of a key.\npub static " ++ (name ++ types) in
+    named name static rest is ∙ named name types rest is ∙ rust_type_read kind made rest ∙ rust_type_read kind last rest
 front_read lang.C kind name rest is = constants_read (c_kind kind) name rest (λ text. c_kind_read kind (59 ∷ text)) is
 front_read lang.CAlone kind name rest is = constants_read (kind_number kind) name rest (kind_number_read kind) is
 front_read lang.Rattle kind name rest is = named name (codes "(key: &[u8]) -> Option<usize> {\n    static BYTES: &[u8] = &[") rest is
+front_read lang.JavaScript kind name rest is =
+    let last = codes " = new ZeroTrie(new Uint8Array([" in
+    let constant = codes ".get(key)` is the value of a key. */\nexport const " ++ (name ++ last) in
+    named name constant rest is ∙ named name last rest is
 
 -- nor after the bytes of C
 c_end_read : (call name : List ℕ) → ((rest : List ℕ) → numbers_after inside (call ++ rest) ≡ numbers_after outside rest) → is_name name ≡ true → numbers_after outside (c_end call name) ≡ []
@@ -151,12 +156,19 @@ c_end_read call name read is =
     let get = c_get call name in
     named name size get is ∙ named name less get is ∙ name_read name (call ++ (name ++ bytes)) is ∙ read (name ++ bytes) ∙ name_read name bytes is ∙ name_read name len is ∙ name_read name last is
 
+js_end_read : (kind : TrieKind) → numbers_after outside (js_end kind) ≡ []
+js_end_read Simple = refl
+js_end_read Ignore = refl
+js_end_read Hash = refl
+js_end_read Ext = refl
+
 -- and none after them
 pub end_read : (language : Language) (kind : TrieKind) (name : List ℕ) → is_name name ≡ true → numbers_after outside (end language kind name) ≡ []
 end_read lang.Rust kind name is = refl
 end_read lang.C kind name is = c_end_read c_call name (λ rest. refl) is
 end_read lang.CAlone kind name is = c_end_read alone_call name (λ rest. refl) is
 end_read lang.Rattle kind name is = rattle_type_read kind (codes "::from_bytes(BYTES).get(key)\n}\n")
+end_read lang.JavaScript kind name is = js_end_read kind
 
 -- a digit is neither the end of a list nor a comma
 no_end : (n : ℕ) → n < 16 → (hex_digit n == 125) ≡ false
@@ -232,6 +244,7 @@ front_passed lang.Rust kind name rest c is = absurd c
 front_passed lang.C kind name rest c is = constants_passed (c_kind kind) name rest (c_kind_passed kind) is
 front_passed lang.CAlone kind name rest c is = constants_passed (kind_number kind) name rest (kind_number_passed kind) is
 front_passed lang.Rattle kind name rest c is = absurd c
+front_passed lang.JavaScript kind name rest c is = absurd c
 
 -- what stands behind the bytes has one item more
 pub end_passed : (language : Language) (kind : TrieKind) (name : List ℕ) → IsC language → items_before_end (end language kind name) ≡ 1
@@ -239,3 +252,4 @@ end_passed lang.Rust kind name c = absurd c
 end_passed lang.C kind name c = refl
 end_passed lang.CAlone kind name c = refl
 end_passed lang.Rattle kind name c = absurd c
+end_passed lang.JavaScript kind name c = absurd c

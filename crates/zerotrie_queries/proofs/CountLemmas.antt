@@ -19,9 +19,9 @@ use Rattle.zerotrie_core.specs.walk.Texts.{front_size, text_visits, target_visit
 use Rattle.zerotrie_core.specs.declared.TrieKind.{TrieKind}
 use Rattle.zerotrie_queries.specs.reports.Counts.{value_in, values, depth_in, depths, greatest_of, is_literal, is_span, is_branch, is_in_cell, cell_of, count_of, cells_in, branches_in}
 use Rattle.zerotrie_queries.specs.reports.Reports.{report_over, TellsPairs}
-use Rattle.zerotrie_queries.specs.reports.counting.Steps.{no_branches, with_shape, greater, no_nodes, with_node, with_nodes, IsWithin}
+use Rattle.zerotrie_queries.specs.reports.count.Steps.{no_branches, with_shape, greater, no_nodes, with_node, with_nodes, IsWithin}
 use Rattle.zerotrie_queries.specs.declared.reports.branches.Branches.{Branches}
-use Rattle.zerotrie_queries.specs.declared.reports.counting.Report.{Report}
+use Rattle.zerotrie_queries.specs.declared.reports.count.Report.{Report}
 
 -- with no node counted no count is above another
 pub none_within : (kind : TrieKind) (bytes : ℕ) → IsWithin (no_nodes kind bytes)

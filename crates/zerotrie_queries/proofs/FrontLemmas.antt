@@ -12,7 +12,7 @@ use Rattle.zerotrie_base.proofs.CallerLemmas.{look-map_of}
 use Rattle.zerotrie_core.specs.Prefixes.{Along, Leaves, at_front, fronts, fronts_left, common_prefixes, NextFront}
 use Rattle.zerotrie_queries.specs.Printed.{front_line, front_lines, fronts_text}
 use Rattle.zerotrie_queries.specs.Answers.{AddsAnswer, as_is}
-use Rattle.zerotrie_queries.specs.declared.lookups.Asked.TheVariants.{Prefixes}
+use Rattle.zerotrie_queries.specs.declared.question.Asked.TheVariants.{Prefixes}
 
 -- what was printed of the keys, and how many they are, belong to those to come and to all
 abbrev pub Prints : (text lines first : List ℕ) (count : ℕ) (before now : Along) → Type 0

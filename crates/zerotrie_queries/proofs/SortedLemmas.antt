@@ -27,9 +27,9 @@ use Rattle.zerotrie_search.specs.Sorted.{within}
 use Rattle.zerotrie_search.proofs.PathLemmas.{lists_few}
 use Rattle.zerotrie_queries.specs.Chosen.{chosen}
 use Rattle.zerotrie_queries.specs.Sorted.{is_chosen, picked, below_some, AreWithin}
-use Rattle.zerotrie_queries.specs.declared.source.Order.TheVariants.{ByBytes}
-use Rattle.zerotrie_queries.specs.declared.source.Choice.{Choice}
-use Rattle.zerotrie_queries.specs.declared.source.Choice.TheVariants as choice
+use Rattle.zerotrie_queries.specs.declared.question.Order.TheVariants.{ByBytes}
+use Rattle.zerotrie_queries.specs.declared.question.Choice.{Choice}
+use Rattle.zerotrie_queries.specs.declared.question.Choice.TheVariants as choice
 use Rattle.zerotrie_queries.proofs.ChoiceLemmas.{few_accepted}
 
 -- the pairs that are chosen are those whose keys are

@@ -9,13 +9,13 @@ use Rattle.zerotrie_core.specs.Borders.{at_borders}
 use Rattle.zerotrie_files.specs.Parts.{AppendsPart}
 use Rattle.zerotrie_lines.specs.Escapes.{Spells}
 use Rattle.zerotrie_queries.specs.Printed.{value_line, key_line, found_line, fronts_text}
-use Rattle.zerotrie_queries.specs.declared.lookups.Asked.{Asked}
-use Rattle.zerotrie_queries.specs.declared.lookups.Asked.TheVariants.{Value, Pair, Longest, LongestAt, Prefixes}
-use Rattle.zerotrie_queries.specs.declared.lookups.Spelling.{Spelling}
-use Rattle.zerotrie_queries.specs.declared.lookups.Spelling.TheVariants.{Plain, Escaped}
-use Rattle.zerotrie_queries.specs.declared.lookups.Query.{Query}
+use Rattle.zerotrie_queries.specs.declared.question.Asked.{Asked}
+use Rattle.zerotrie_queries.specs.declared.question.Asked.TheVariants.{Value, Pair, Longest, LongestAt, Prefixes}
+use Rattle.zerotrie_queries.specs.declared.question.Spelling.{Spelling}
+use Rattle.zerotrie_queries.specs.declared.question.Spelling.TheVariants.{Plain, Escaped}
+use Rattle.zerotrie_queries.specs.declared.question.Query.{Query}
 
--- the values of keys that lie elsewhere
+-- the values of keys that are borrowed
 abbrev pub answers : Kind → Map → List (Bor (List ℕ)) → List (Option ℕ)
 answers kind m keys = map (λ key. look kind m key.now) keys
 

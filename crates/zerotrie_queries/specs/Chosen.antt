@@ -10,8 +10,8 @@ use Rattle.zerotrie_search.specs.Pending.{is_near_text}
 use Rattle.zerotrie_search.specs.Searches.{accepted}
 use Rattle.zerotrie_search.specs.Sets.{by_bytes, has_within}
 use Rattle.zerotrie_search.specs.Words.{letters_of}
-use Rattle.zerotrie_queries.specs.declared.source.Choice.{Choice}
-use Rattle.zerotrie_queries.specs.declared.source.Choice.TheVariants as choice
+use Rattle.zerotrie_queries.specs.declared.question.Choice.{Choice}
+use Rattle.zerotrie_queries.specs.declared.question.Choice.TheVariants as choice
 
 -- the pairs whose keys are chosen, in their order
 abbrev pub chosen : TrieKind → Choice → Pairs → Pairs

@@ -17,7 +17,7 @@ abbrev pub HoldsSealed : Option TrieKind → List ℕ → TrieKind → List ℕ 
 HoldsSealed None file kind bytes = IsSealed (kind_of kind) bytes file
 HoldsSealed (Some named) file kind bytes = ⊥
 
--- the file has these bytes of this kind unsealed: all of it if the kind was named, and else what stands after the number of the kind
+-- the file has these bytes of this kind unsealed: all of it if the kind was named, and else what is after the number of the kind
 abbrev pub HoldsUnsealed : Option TrieKind → List ℕ → TrieKind → List ℕ → Type 0
 HoldsUnsealed None file kind bytes = file ≡ tagged (kind_of kind) bytes
 HoldsUnsealed (Some named) file kind bytes = (kind ≡ named) × (bytes ≡ file)
@@ -39,7 +39,7 @@ abbrev pub BeginsSealed : Option TrieKind → List ℕ → Type 0
 BeginsSealed None file = HasMagic file
 BeginsSealed (Some named) file = ⊥
 
--- why the kind of a file is not known: none was named, the file does not begin as a sealed one, and no kind has its number in front
+-- why the kind of a file is not known: none was named, the file does not begin as a sealed one, and it does not begin with the number of a kind
 abbrev pub HasNoKind : Option TrieKind → List ℕ → TagError → Type 0
 HasNoKind None file why = (HasMagic file → ⊥) × IsTagFault IsTag file why
 HasNoKind (Some named) file why = ⊥
@@ -49,7 +49,7 @@ abbrev pub IsDamaged : Option TrieKind → List ℕ → SealError → Type 0
 IsDamaged None file why = HasMagic file × IsSealFault file why × ((kind : TrieKind) (bytes : List ℕ) → IsSealed (kind_of kind) bytes file → ⊥)
 IsDamaged (Some named) file why = ⊥
 
--- the file has bytes of this kind unsealed that mean no map of it
+-- the file has bytes of this kind unsealed that are malformed
 abbrev pub IsMalformed : Option TrieKind → List ℕ → TrieKind → List ℕ → Type 0
 IsMalformed named file kind bytes = HoldsUnsealed named file kind bytes × (IsWellFormed (kind_of kind) bytes → ⊥)
 
@@ -60,7 +60,7 @@ IsUnknown named file (Damaged why) = IsDamaged named file why
 IsUnknown named file (NotWellFormed kind fault) = ⊥
 IsUnknown named file OutOfMemory = ⊥
 
--- why a file has no trie: its kind is not known, it is damaged, or it has bytes unsealed that mean no map of their kind, and this is
+-- why a file has no trie: its kind is not known, it is damaged, or it has bytes unsealed that are malformed, and this is
 -- their first fault, if memory for its search was there
 abbrev pub Explains : Option TrieKind → List ℕ → OpenError → Type 0
 Explains named file (BadTag why) = HasNoKind named file why

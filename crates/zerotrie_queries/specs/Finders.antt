@@ -6,10 +6,10 @@ use Rattle.zerotrie_core.specs.Texts.{Means}
 use Rattle.zerotrie_core.specs.Kinds.{kind_of}
 use Rattle.zerotrie_core.specs.declared.TrieKind.{TrieKind}
 use Rattle.zerotrie_index.specs.Layout.{IsIndex}
-use Rattle.zerotrie_queries.specs.declared.finder.Finder.{Finder}
-use Rattle.zerotrie_queries.specs.declared.finder.Finder.TheVariants as finder
-use Rattle.zerotrie_queries.specs.declared.lookups.Asked.{Asked}
-use Rattle.zerotrie_queries.specs.declared.lookups.Asked.TheVariants.{Value, Pair, Longest, LongestAt, Prefixes}
+use Rattle.zerotrie_queries.specs.declared.question.Finder.{Finder}
+use Rattle.zerotrie_queries.specs.declared.question.Finder.TheVariants as finder
+use Rattle.zerotrie_queries.specs.declared.question.Asked.{Asked}
+use Rattle.zerotrie_queries.specs.declared.question.Asked.TheVariants.{Value, Pair, Longest, LongestAt, Prefixes}
 
 -- keys have these values in the map that the bytes of a trie mean
 abbrev pub TrieFinds : TrieKind → List ℕ → (List ℕ → Option ℕ) → Type 0

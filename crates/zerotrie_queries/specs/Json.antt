@@ -27,7 +27,7 @@ pair_json e = compact_text (list_of (key_data e.0 ∷ whole e.1 ∷ []))
 abbrev pub member_text : List ℕ × ℕ → List ℕ
 member_text e = quoted e.0 ++ 58 ∷ decimal e.1
 
--- pairs with a comma before each, but for the first if nothing stands before it
+-- pairs with a comma before each, but none before the first if nothing is before it
 abbrev pub member_texts : Bool → Pairs → List ℕ
 member_texts later [] = []
 member_texts later (e ∷ pairs) = (comma_if later ++ member_text e) ++ member_texts true pairs

@@ -12,10 +12,10 @@ use Rattle.zerotrie_search.specs.Pending.{is_near_text}
 use Rattle.zerotrie_search.specs.Sets.{by_bytes, has_within}
 use Rattle.zerotrie_search.specs.Words.{letters_of}
 use Rattle.zerotrie_queries.specs.Chosen.{chosen}
-use Rattle.zerotrie_queries.specs.declared.source.Choice.{Choice}
-use Rattle.zerotrie_queries.specs.declared.source.Choice.TheVariants as choice
-use Rattle.zerotrie_queries.specs.declared.source.Order.{Order}
-use Rattle.zerotrie_queries.specs.declared.source.Order.TheVariants.{Stored, ByBytes}
+use Rattle.zerotrie_queries.specs.declared.question.Choice.{Choice}
+use Rattle.zerotrie_queries.specs.declared.question.Choice.TheVariants as choice
+use Rattle.zerotrie_queries.specs.declared.question.Order.{Order}
+use Rattle.zerotrie_queries.specs.declared.question.Order.TheVariants.{Stored, ByBytes}
 
 -- whether a key is chosen
 abbrev pub is_chosen : TrieKind → Choice → List ℕ → Bool

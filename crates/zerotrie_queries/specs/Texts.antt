@@ -3,7 +3,7 @@ use Rattle.std.specs.Prelude.{ℕ, ◌==◌, ◌&&◌, ◌||◌, nat_le, nat_lt,
 use Rattle.std.specs.List.{list_all}
 use Rattle.std.specs.Str.{is_utf8}
 
--- a byte that may stand in a line of text, or between lines: a tab, a line feed, a carriage return, or no control character
+-- a byte that may be in a line of text, or between lines: a tab, a line feed, a carriage return, or no control character
 abbrev pub is_text_byte : ℕ → Bool
 is_text_byte b = (b == 9) || ((b == 10) || ((b == 13) || (nat_le 32 b && not (b == 127))))
 

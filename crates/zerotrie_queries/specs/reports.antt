@@ -4,4 +4,4 @@ pub mod Reports
 pub mod Lines
 pub mod Json
 pub mod Forms
-pub mod counting
+pub mod count

@@ -1,44 +1,34 @@
 //! A trie as source code: its bytes as a constant, and a function that looks a key up in them.
 
 ghost use Rattle.std.specs.Prelude.{◌≡◌};
-ghost use Rattle.zerotrie_queries.specs.code.Texts.{rust_kind, c_kind, kind_number, rattle_type, usual_name};
+ghost use Rattle.zerotrie_queries.specs.code.Texts.{c_kind, kind_number, rattle_type, usual_name};
 
 mod c_reader;
 mod items;
 pub mod laws;
 mod name;
-mod writing;
+mod write;
 
 pub use name::is_name;
-pub use writing::write_trie_code;
+pub use write::write_trie_code;
 use zerotrie_core::TrieKind;
 
 /// A language that has the library.
 #[derive(Clone, Copy, PartialEq, Eq, Debug)]
 pub enum Language {
-    /// Rust, by the crate `zerotrie-proved`.
+    /// Rust, by the package of plain Rust.
     Rust,
     /// C, by `zerotrie.h`.
     C,
-    /// C, by the reader `zerotrie_read.h`, which stands in front.
+    /// C, by the reader `zerotrie_read.h`, whose text comes first.
     CAlone,
     /// Rattle, by the library `zerotrie`.
     Rattle,
+    /// JavaScript, by the reader `zerotrie_read.mjs`.
+    JavaScript,
 }
 
-/// What the crate calls the kind.
-pub fn rust_kind(kind: TrieKind) -> &'static str
-    ensures { result.now ≡ rust_kind kind }
-{
-    match kind {
-        TrieKind::Simple => "SimpleAscii",
-        TrieKind::Ignore => "IgnoreCase",
-        TrieKind::Hash => "PerfectHash",
-        TrieKind::Ext => "ExtendedCapacity",
-    }
-}
-
-/// What the header calls the kind.
+/// Returns the constant of the kind in `zerotrie.h`.
 pub fn c_kind(kind: TrieKind) -> &'static str
     ensures { result.now ≡ c_kind kind }
 {
@@ -50,7 +40,7 @@ pub fn c_kind(kind: TrieKind) -> &'static str
     }
 }
 
-/// The number of the kind.
+/// Returns the number of the kind, as text.
 pub fn kind_number(kind: TrieKind) -> &'static str
     ensures { result.now ≡ kind_number kind }
 {
@@ -62,7 +52,7 @@ pub fn kind_number(kind: TrieKind) -> &'static str
     }
 }
 
-/// The type of the kind in the library.
+/// Returns the name of the type, in the library and in plain Rust.
 pub fn rattle_type(kind: TrieKind) -> &'static str
     ensures { result.now ≡ rattle_type kind }
 {
@@ -75,13 +65,13 @@ pub fn rattle_type(kind: TrieKind) -> &'static str
 }
 
 impl Language {
-    /// The name that code has if no other is asked for.
+    /// Returns the name that code has if no other is asked for.
     pub fn usual_name(self) -> &'static str
         ensures { result.now ≡ usual_name self }
     {
         match self {
             Language::Rust => "TRIE",
-            Language::C | Language::CAlone => "trie",
+            Language::C | Language::CAlone | Language::JavaScript => "trie",
             Language::Rattle => "get",
         }
     }

@@ -10,12 +10,12 @@ ghost use Rattle.zerotrie_lines.specs.Lines.{tsv_line};
 ghost use Rattle.zerotrie_queries.specs.Diffs.{change_line, change_lines, AreCompared, AreComparedInPart};
 ghost use Rattle.zerotrie_sets.specs.declared.diff.Change.TheVariants.{Changed};
 
-use crate::trie::Trie;
+use crate::sorted::stream_sorted;
 use std::alloc::{AllocError, Global};
 use std::io;
 use std::io::Write;
 use std::ops::Bound;
-use zerotrie_core::PairStream;
+use zerotrie_core::{PairStream, TrieRef};
 use zerotrie_files::Noted;
 use zerotrie_lines::{write_escaped, write_number, write_pair};
 use zerotrie_search::laws::sorted_listing_ascends;
@@ -49,7 +49,6 @@ fn add_signed(line: &mut Vec<u8>, sign: &[u8], key: &[u8], value: usize) -> Resu
     write_pair(line, key, value)
 }
 
-/// Adds the line of a key that changed.
 fn add_change(line: &mut Vec<u8>, key: &[u8], change: Change) -> Result<(), AllocError>
     ensures { OnOk result (line.new.items ≡ line.old.items ++ change_line key.now change) }
 {
@@ -93,8 +92,8 @@ fn write_changes<S: PairStream, T: PairStream, W: Write>(
     ensures all { OnOk result (Appends (W.contents output.old.inner) (W.contents output.new.inner)
         (change_lines diff.old.left.items)) }
     ensures none { IfOk result (λ same. same ≡ true ↔ diff.old.left.items ≡ []) }
-    ensures part { OnErr result (AppendsPart (W.contents output.old.inner) (W.contents output.new.inner)
-        (change_lines diff.old.left.items)) }
+    ensures part { OnErr result (AppendsPart (W.contents output.old.inner)
+        (W.contents output.new.inner) (change_lines diff.old.left.items)) }
     ensures noted { IsNoted result output.old.failed output.new.failed }
 {
     let mut lines = Vec::new(alloc);
@@ -113,13 +112,13 @@ fn write_changes<S: PairStream, T: PairStream, W: Write>(
 /// Writes a line for each key that changed from one trie to another, in the order of the keys'
 /// bytes, and returns whether they have the same pairs. The kinds of the two may differ.
 ///
-/// A line is `+`, the key and its value if only the new trie has the key; `-`, the key and its value
-/// if only the old one has it; or `~`, the key, and the old and the new value. Tabs stand between,
-/// and keys are written with escapes.
+/// A line is `+`, the key and its value if only the new trie has the key; `-`, the key and its
+/// value if only the old one has it; or `~`, the key, and the old and the new value. Tabs are
+/// between, and keys are written with escapes.
 ///
 /// ```
-/// let old = Trie { kind: TrieKind::Simple, bytes: b"a\x81" };
-/// let new = Trie { kind: TrieKind::Hash, bytes: b"a\x85b\x86" };
+/// let old = TrieRef { kind: TrieKind::Simple, bytes: b"a\x81" };
+/// let new = TrieRef { kind: TrieKind::Hash, bytes: b"a\x85b\x86" };
 /// let mut output = Noted::new(Vec::new(rt.alloc()));
 /// assert!(rt; !write_diff(rt.alloc(), &old, &new, &mut output)?);
 /// assert_eq!(rt; output.get_ref().as_slice(), b"~\ta\t1\t5\n+\tab\t6\n".as_slice());
@@ -128,8 +127,8 @@ fn write_changes<S: PairStream, T: PairStream, W: Write>(
 /// It allocates for the longest keys alone. If it fails, a beginning of the lines was written.
 pub fn write_diff<W: Write>(
     alloc: Global,
-    old: &Trie<'_>,
-    new: &Trie<'_>,
+    old: &TrieRef<'_>,
+    new: &TrieRef<'_>,
     output: &mut Noted<W>,
 ) -> io::Result<bool>
     requires old { IsWellFormed (kind_of old.now.kind) old.now.bytes.now }
@@ -145,8 +144,8 @@ pub fn write_diff<W: Write>(
     sorted_listing_ascends();
     diffs_are_of_maps();
     no_change();
-    let first = old.stream_sorted(alloc, Bound::Unbounded, Bound::Unbounded)?;
-    let second = new.stream_sorted(alloc, Bound::Unbounded, Bound::Unbounded)?;
+    let first = stream_sorted(alloc, old, Bound::Unbounded, Bound::Unbounded)?;
+    let second = stream_sorted(alloc, new, Bound::Unbounded, Bound::Unbounded)?;
     let mut diff = Diff::new(first, second);
     write_changes(alloc, &mut diff, output)
 }

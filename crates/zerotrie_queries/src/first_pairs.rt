@@ -82,14 +82,14 @@ impl<P: PairStream> FirstPairs<P> {
         advance_within(&mut self.source, &mut self.limit)
     }
 
-    /// The key of the current pair.
+    /// Returns the key of the current pair.
     pub fn key(&self) -> &[u8]
         ensures { result.now ≡ self.now.key }
     {
         self.source.key()
     }
 
-    /// The value of the current pair.
+    /// Returns the value of the current pair.
     pub fn value(&self) -> usize
         ensures { result ≡ self.now.value }
     {

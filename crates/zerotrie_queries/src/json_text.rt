@@ -5,7 +5,7 @@ ghost use Rattle.serde_json.specs.Written.{compact_text, comma_if};
 ghost use Rattle.zerotrie_any.specs.Json.{list_of, whole};
 ghost use Rattle.zerotrie_queries.specs.Json.{key_data, pair_json, member_text};
 
-use crate::utf8::is_text;
+use crate::text::is_text;
 use std::alloc::AllocError;
 use zerotrie_lines::{write_number, write_quoted};
 

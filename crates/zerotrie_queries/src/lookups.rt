@@ -6,124 +6,23 @@ ghost use Rattle.zerotrie_core.specs.Prefixes.{Leaves, fronts_left};
 ghost use Rattle.zerotrie_core.specs.Texts.{Means};
 ghost use Rattle.zerotrie_core.specs.Kinds.{kind_of};
 ghost use Rattle.zerotrie_files.specs.Faults.{IsNoted};
-ghost use Rattle.zerotrie_queries.specs.Printed.{value_lines, are_found, front_lines};
-ghost use Rattle.zerotrie_queries.specs.Finders.{Finds, IndexFinds, TrieFinds, asks_keys};
-ghost use Rattle.zerotrie_queries.specs.Answers.{answers, as_is, with_escapes, AddsAnswer, IsAdded, AreAnswered, AreAnsweredInPart};
-ghost use Rattle.zerotrie_queries.specs.declared.lookups.Asked.TheVariants.{Value, Prefixes};
+ghost use Rattle.zerotrie_queries.specs.Printed.{front_lines};
+ghost use Rattle.zerotrie_queries.specs.Finders.{Finds, IndexFinds};
+ghost use Rattle.zerotrie_queries.specs.Answers.{as_is, with_escapes, AddsAnswer, IsAdded, AreAnswered, AreAnsweredInPart};
+ghost use Rattle.zerotrie_queries.specs.declared.question.Asked.TheVariants.{Prefixes};
 
-use crate::finder::Finder;
+mod values;
+
+use crate::lookups::values::write_values;
 use crate::print::{add_found, add_front, add_key_value, add_value};
-use crate::trie::Trie;
+use crate::question::{Asked, Finder, Query, Spelling};
 use std::alloc::{AllocError, Global};
 use std::io;
 use std::io::Write;
-use zerotrie_core::{CommonPrefixes, LookUps, ZeroTrieWithOptions, by_kind};
+use zerotrie_core::{CommonPrefixes, Trie, TrieRef};
 use zerotrie_files::Noted;
 use zerotrie_index::get;
 use zerotrie_lines::{unescape, write_number};
-
-/// The number of keys whose lines are written at once.
-const BLOCK: usize = 4096;
-
-/// What is looked up for each text.
-#[derive(Clone, Copy, PartialEq, Eq, Debug)]
-pub enum Asked {
-    /// The text is a key: its value.
-    Value,
-    /// The text is a key: the key and its value.
-    Pair,
-    /// The longest key that the text begins with, and its value.
-    Longest,
-    /// The longest key that the text begins with and that ends at a border of the text, and its
-    /// value. A border is the end of the text, or a place with this byte next. The empty key always
-    /// counts.
-    LongestAt(u8),
-    /// All keys that the text begins with, the shortest first, each with its value.
-    Prefixes,
-}
-
-impl Asked {
-    /// Returns whether texts are asked for as keys.
-    pub fn asks_keys(self) -> bool
-        ensures { result ≡ asks_keys self }
-    {
-        matches!(self, Asked::Value | Asked::Pair)
-    }
-}
-
-/// How the keys and texts that are asked for are written.
-#[derive(Clone, Copy, PartialEq, Eq, Debug)]
-pub enum Spelling {
-    /// As they are.
-    Plain,
-    /// With the escapes that keys have in lines of pairs. If one is malformed, nothing is found.
-    Escaped,
-}
-
-/// What is looked up for each text, and how the texts are written.
-#[derive(Clone, Copy, PartialEq, Eq, Debug)]
-pub struct Query {
-    pub asked: Asked,
-    pub spelling: Spelling,
-}
-
-/// Adds a line for each key, its value or `none`, and returns whether all are there.
-fn add_values_as<K: ZeroTrieWithOptions>(
-    lines: &mut Vec<u8>,
-    bytes: &[u8],
-    keys: &[&[u8]],
-) -> Result<bool, AllocError>
-    ensures { IfOk result (λ all. (m : Map) → Means K.kind bytes.now m
-        → (lines.new.items ≡ lines.old.items ++ value_lines (answers K.kind m keys.now))
-        × (all ≡ are_found (answers K.kind m keys.now))) }
-{
-    let mut trie = LookUps::<K>::new(bytes);
-    let mut all = true;
-    for key in keys {
-        let value = trie.get(key);
-        all &= value.is_some();
-        add_value(lines, value)?;
-    }
-    Ok(all)
-}
-
-/// Adds a line for each key, its value or `none`, and returns whether all are there.
-fn add_values(lines: &mut Vec<u8>, trie: &Trie<'_>, keys: &[&[u8]]) -> Result<bool, AllocError>
-    ensures { IfOk result (λ all. (m : Map) → Means (kind_of trie.now.kind) trie.now.bytes.now m
-        → (lines.new.items ≡ lines.old.items
-        ++ value_lines (answers (kind_of trie.now.kind) m keys.now))
-        × (all ≡ are_found (answers (kind_of trie.now.kind) m keys.now))) }
-{
-    by_kind!(trie.kind, add_values_as::<_>(lines, trie.bytes, keys))
-}
-
-/// Writes a line for each key, its value or `none`, and returns whether all are there. It writes
-/// many lines at once.
-fn write_values<W: Write>(
-    alloc: Global,
-    trie: &Trie<'_>,
-    keys: &[&[u8]],
-    output: &mut Noted<W>,
-) -> io::Result<bool>
-    ensures answered { IfOk result (AreAnswered (as_is Value) (TrieFinds trie.now.kind trie.now.bytes.now)
-        (map (λ key. key.now) keys.now) (W.contents output.old.inner) (W.contents output.new.inner)) }
-    ensures part { OnErr result (AreAnsweredInPart (as_is Value) (TrieFinds trie.now.kind trie.now.bytes.now)
-        (map (λ key. key.now) keys.now) (W.contents output.old.inner) (W.contents output.new.inner)) }
-    ensures noted { IsNoted result output.old.failed output.new.failed }
-{
-    let mut lines = Vec::new(alloc);
-    let mut all = true;
-    let mut begin = 0;
-    while begin < keys.len() {
-        let (_, left) = keys.split_at(begin);
-        let (block, _) = left.split_at(left.len().min(BLOCK));
-        lines.clear();
-        all &= add_values(&mut lines, trie, block)?;
-        output.write_bytes(lines.as_slice())?;
-        begin += block.len();
-    }
-    Ok(all)
-}
 
 /// Adds the lines of the keys to come that a text begins with, and returns how many there are.
 fn add_fronts(
@@ -149,11 +48,12 @@ fn add_fronts(
 fn add_prefixes(
     alloc: Global,
     text: &mut Vec<u8>,
-    trie: &Trie<'_>,
+    trie: &TrieRef<'_>,
     asked: &[u8],
 ) -> Result<bool, AllocError>
     ensures { IfOk result (λ found. (m : Map) → Means (kind_of trie.now.kind) trie.now.bytes.now m
-        → AddsAnswer (as_is Prefixes) (look (kind_of trie.now.kind) m) asked.now text.old.items text.new.items found) }
+        → AddsAnswer (as_is Prefixes) (look (kind_of trie.now.kind) m) asked.now text.old.items
+        text.new.items found) }
 {
     let mut lines = Vec::new(alloc);
     let mut fronts = trie.common_prefixes(asked);
@@ -172,12 +72,13 @@ fn add_prefixes(
 fn add_trie_answer(
     alloc: Global,
     line: &mut Vec<u8>,
-    trie: &Trie<'_>,
+    trie: &TrieRef<'_>,
     asked: Asked,
     text: &[u8],
 ) -> Result<bool, AllocError>
     ensures { IfOk result (λ found. (m : Map) → Means (kind_of trie.now.kind) trie.now.bytes.now m
-        → AddsAnswer (as_is asked) (look (kind_of trie.now.kind) m) text.now line.old.items line.new.items found) }
+        → AddsAnswer (as_is asked) (look (kind_of trie.now.kind) m) text.now line.old.items
+        line.new.items found) }
 {
     match asked {
         Asked::Value => {
@@ -191,12 +92,12 @@ fn add_trie_answer(
             Ok(value.is_some())
         }
         Asked::Longest => {
-            let found = trie.longest(text);
+            let found = trie.longest_prefix(text);
             add_found(line, text, found)?;
             Ok(found.is_some())
         }
         Asked::LongestAt(delimiter) => {
-            let found = trie.longest_at(text, delimiter);
+            let found = trie.longest_prefix_at(text, &[delimiter]);
             add_found(line, text, found)?;
             Ok(found.is_some())
         }
@@ -220,7 +121,7 @@ fn add_index_answer(
             add_key_value(line, key, value)?;
             Ok(value.is_some())
         }
-        _ => {
+        Asked::Value | Asked::Longest | Asked::LongestAt(_) | Asked::Prefixes => {
             add_value(line, value)?;
             Ok(value.is_some())
         }
@@ -313,8 +214,8 @@ fn write_each<W: Write>(
 ///
 /// An answer is one line, but for `Asked::Prefixes`: then it is `none`, or a line with the number
 /// of keys, as `2 found`, and a line of each. A key is written with escapes, a tab and its value;
-/// after the tab stands `none` if `Asked::Pair` looked for an absent key. With `Spelling::Escaped`
-/// the answer is that to the bytes that the text spells, and a line `none` if an escape is malformed.
+/// after the tab is `none` if `Asked::Pair` looked for an absent key. With `Spelling::Escaped` the
+/// answer is that to the bytes that the text spells, and a line `none` if an escape is malformed.
 ///
 /// The answers are those of the trie's map, or of the pairs of the index. If the bytes are
 /// malformed, it still returns, and the answers are unspecified; so are those of an index to
@@ -337,6 +238,12 @@ pub fn write_answers<W: Write>(
         (Finder::Trie(trie), Asked::Value, Spelling::Plain) => {
             write_values(alloc, trie, texts, output)
         }
-        _ => write_each(alloc, finder, query, texts, output),
+        (Finder::Trie(_), Asked::Value, Spelling::Escaped)
+        | (
+            Finder::Trie(_),
+            Asked::Pair | Asked::Longest | Asked::LongestAt(_) | Asked::Prefixes,
+            Spelling::Plain | Spelling::Escaped,
+        )
+        | (Finder::Index(_), _, _) => write_each(alloc, finder, query, texts, output),
     }
 }

@@ -39,7 +39,13 @@ pub enum Form {
     Count,
 }
 
-/// Adds the line of a number.
+/// Adds a text to a line.
+pub fn add_text(line: &mut Vec<u8>, text: &str) -> Result<(), AllocError>
+    ensures { OnOk result (line.new.items ≡ line.old.items ++ text.now) }
+{
+    line.extend_from_slice(text.as_bytes())
+}
+
 pub fn add_number_line(line: &mut Vec<u8>, number: usize) -> Result<(), AllocError>
     ensures { OnOk result (line.new.items ≡ line.old.items ++ number_line number) }
 {
@@ -105,7 +111,6 @@ fn is_csv_plain(byte: u8) -> bool
     byte >= 32 && byte <= 126 && byte != b'"' && byte != b','
 }
 
-/// Returns whether a field of CSV can have bytes without quotes.
 fn are_csv_plain(bytes: &[u8]) -> bool
     ensures { result ≡ list_all is_csv_plain bytes.now }
 {
@@ -143,7 +148,6 @@ fn add_csv_field(line: &mut Vec<u8>, key: &[u8]) -> Result<(), AllocError>
     Ok(())
 }
 
-/// Adds the record of a pair.
 fn add_csv(line: &mut Vec<u8>, key: &[u8], value: usize) -> Result<(), AllocError>
     ensures { OnOk result (line.new.items ≡ line.old.items ++ pair_line Csv (key.now, value)) }
 {
@@ -152,7 +156,6 @@ fn add_csv(line: &mut Vec<u8>, key: &[u8], value: usize) -> Result<(), AllocErro
     add_number_line(line, value)
 }
 
-/// Adds the line of a pair.
 pub fn add_pair(
     line: &mut Vec<u8>,
     style: Style,

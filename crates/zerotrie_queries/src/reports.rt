@@ -8,18 +8,18 @@ ghost use Rattle.zerotrie_queries.specs.reports.Reports.{report_of};
 ghost use Rattle.zerotrie_queries.specs.reports.Forms.{reported};
 
 mod branches;
-mod counting;
+mod count;
 mod lines;
 mod object;
 
 use crate::reports::lines::add_report;
 use crate::reports::object::add_report_object;
-use crate::trie::Trie;
 pub use branches::Branches;
-pub use counting::Report;
+pub use count::Report;
 use std::alloc::{AllocError, Global};
 use std::io;
 use std::io::Write;
+use zerotrie_core::TrieRef;
 use zerotrie_files::Noted;
 
 /// How a report is printed.
@@ -31,7 +31,6 @@ pub enum ReportForm {
     Json,
 }
 
-/// Adds a report.
 fn add_in_form(text: &mut Vec<u8>, form: ReportForm, report: &Report) -> Result<(), AllocError>
     ensures { OnOk result (text.new.items ≡ text.old.items ++ reported form report.now) }
 {
@@ -44,13 +43,14 @@ fn add_in_form(text: &mut Vec<u8>, form: ReportForm, report: &Report) -> Result<
 /// Writes the report of a trie. If it fails, a beginning of it was written.
 pub fn write_trie_report<W: Write>(
     alloc: Global,
-    trie: &Trie<'_>,
+    trie: &TrieRef<'_>,
     form: ReportForm,
     output: &mut Noted<W>,
 ) -> io::Result<()>
     ensures all { OnOk result (Appends (W.contents output.old.inner) (W.contents output.new.inner)
         (reported form (report_of trie.now.kind trie.now.bytes.now))) }
-    ensures part { OnErr result (AppendsPart (W.contents output.old.inner) (W.contents output.new.inner)
+    ensures part { OnErr result (AppendsPart (W.contents output.old.inner)
+        (W.contents output.new.inner)
         (reported form (report_of trie.now.kind trie.now.bytes.now))) }
     ensures noted { IsNoted result output.old.failed output.new.failed }
 {

@@ -15,13 +15,12 @@ ghost use Rattle.zerotrie_search.specs.Searches.{accepted, accepted_left};
 ghost use Rattle.zerotrie_search.specs.Sorted.{within};
 ghost use Rattle.zerotrie_queries.specs.Sorted.{below_some, is_chosen};
 
-use crate::source::Choice;
-use crate::trie::Trie;
+use crate::question::Choice;
 use std::alloc::{AllocError, Global};
 use std::marker::Model;
 use std::ops::Bound;
-use zerotrie_core::{PairStream, TrieKind, ZeroTrieWithOptions, by_kind, folded};
-use zerotrie_search::{Automaton, ZeroTrieSorted};
+use zerotrie_core::{PairStream, TrieKind, TrieRef, ZeroTrieWithOptions, by_kind, folded};
+use zerotrie_search::{Automaton, Search};
 use zerotrie_sets::SortedTrie;
 
 /// The chosen pairs of a sorted listing.
@@ -77,7 +76,8 @@ fn begins_with<K: ZeroTrieWithOptions>(prefix: &[u8], key: &[u8]) -> bool
     true
 }
 
-/// Returns whether an automaton accepts a key.
+/// Runs an automaton over a key, up to the first byte after which no key can match, and returns
+/// whether it accepts.
 fn accepts<T: Automaton>(automaton: &T, key: &[u8]) -> bool
     ensures { result ≡ T.accepts automaton.now key.now }
 {
@@ -91,7 +91,6 @@ fn accepts<T: Automaton>(automaton: &T, key: &[u8]) -> bool
     automaton.is_match(state)
 }
 
-/// Returns whether a key is chosen.
 fn is_chosen(kind: TrieKind, choice: &Choice<'_>, key: &[u8]) -> bool
     ensures { result ≡ is_chosen kind choice.now key.now }
 {
@@ -194,64 +193,42 @@ pub(crate) fn upper_bound(above: &Option<Vec<u8>>) -> Bound<&[u8]>
     }
 }
 
-impl<'a> Trie<'a> {
-    /// Lists all pairs between two bounds in the order of their keys' bytes. Does not validate them.
-    fn list_between<'p>(
-        &self,
-        alloc: Global,
-        from: Bound<&[u8]>,
-        to: Bound<&'p [u8]>,
-    ) -> Result<ZeroTrieSorted<'a, 'p>, AllocError>
-        ensures left { IfOk result (λ s. (m : Map)
-            → Means (kind_of self.now.kind) self.now.bytes.now m
-            → s.left ≡ to_come (within (bound_map (λ b. b.now) from.entry)
-            (bound_map (λ b. b.now) to.entry) m)) }
-        ensures kind { IfOk result (λ s. s.kind ≡ kind_of self.now.kind) }
-        ensures bytes { IfOk result (λ s. s.bytes ≡ self.now.bytes.now) }
-    {
-        by_kind!(
-            self.kind,
-            ZeroTrieSorted::new::<_>(alloc, self.bytes, from, to)
-        )
-    }
+/// Lists all pairs between two bounds in the order of their keys' bytes.
+///
+/// An error means that an allocation failed.
+pub fn stream_sorted<'t, 'p>(
+    alloc: Global,
+    trie: &'t TrieRef<'_>,
+    from: Bound<&[u8]>,
+    to: Bound<&'p [u8]>,
+) -> Result<SortedTrie<'t, 'p>, AllocError>
+    requires { IsWellFormed (kind_of trie.now.kind) trie.now.bytes.now }
+    ensures lists { IfOk result (λ s. (m : Map)
+        → Means (kind_of trie.now.kind) trie.now.bytes.now m
+        → s.left ≡ to_come (within (bound_map (λ b. b.now) from.entry)
+        (bound_map (λ b. b.now) to.entry) m)) }
+{
+    let pairs = trie.stream_sorted(alloc, from, to)?;
+    Ok(SortedTrie::new(pairs))
+}
 
-    /// Lists all pairs between two bounds in the order of their keys' bytes.
-    ///
-    /// The only error is that it is out of memory.
-    pub fn stream_sorted<'p>(
-        &self,
-        alloc: Global,
-        from: Bound<&[u8]>,
-        to: Bound<&'p [u8]>,
-    ) -> Result<SortedTrie<'a, 'p>, AllocError>
-        requires { IsWellFormed (kind_of self.now.kind) self.now.bytes.now }
-        ensures lists { IfOk result (λ s. (m : Map)
-            → Means (kind_of self.now.kind) self.now.bytes.now m
-            → s.left ≡ to_come (within (bound_map (λ b. b.now) from.entry)
-            (bound_map (λ b. b.now) to.entry) m)) }
-    {
-        let pairs = self.list_between(alloc, from, to)?;
-        Ok(SortedTrie::new(pairs))
-    }
-
-    /// Lists the pairs between two bounds whose keys are chosen, in the order of their bytes.
-    ///
-    /// The only error is that it is out of memory.
-    pub(crate) fn stream_chosen<'p>(
-        &self,
-        alloc: Global,
-        choice: Choice<'p>,
-        from: Bound<&[u8]>,
-        to: Bound<&'p [u8]>,
-    ) -> Result<ChosenPairs<'a, 'p>, AllocError>
-        requires { IsWellFormed (kind_of self.now.kind) self.now.bytes.now }
-        ensures lists { IfOk result (λ s. (m : Map)
-            → Means (kind_of self.now.kind) self.now.bytes.now m
-            → s.left ≡ to_come (accepted (is_chosen self.now.kind choice.entry)
-            (within (bound_map (λ b. b.now) from.entry) (bound_map (λ b. b.now) to.entry) m))) }
-        ensures most { IfOk result (λ s. length s.left.pairs < 2 ^ 64) }
-    {
-        let pairs = self.stream_sorted(alloc, from, to)?;
-        Ok(ChosenPairs::new(pairs, self.kind, choice))
-    }
+/// Lists the pairs between two bounds whose keys are chosen, in the order of their bytes.
+///
+/// An error means that an allocation failed.
+pub(crate) fn stream_chosen<'t, 'p>(
+    alloc: Global,
+    trie: &'t TrieRef<'_>,
+    choice: Choice<'p>,
+    from: Bound<&[u8]>,
+    to: Bound<&'p [u8]>,
+) -> Result<ChosenPairs<'t, 'p>, AllocError>
+    requires { IsWellFormed (kind_of trie.now.kind) trie.now.bytes.now }
+    ensures lists { IfOk result (λ s. (m : Map)
+        → Means (kind_of trie.now.kind) trie.now.bytes.now m
+        → s.left ≡ to_come (accepted (is_chosen trie.now.kind choice.entry)
+        (within (bound_map (λ b. b.now) from.entry) (bound_map (λ b. b.now) to.entry) m))) }
+    ensures most { IfOk result (λ s. length s.left.pairs < 2 ^ 64) }
+{
+    let pairs = stream_sorted(alloc, trie, from, to)?;
+    Ok(ChosenPairs::new(pairs, trie.kind, choice))
 }

@@ -10,12 +10,12 @@ mod dot;
 mod dump;
 mod meaning;
 
-use crate::trie::Trie;
 use crate::views::dot::write_dot;
 use crate::views::dump::write_dump;
 use std::alloc::Global;
 use std::io;
 use std::io::Write;
+use zerotrie_core::TrieRef;
 use zerotrie_files::Noted;
 
 /// What is shown of a trie.
@@ -31,14 +31,14 @@ pub enum View {
 /// fails, a beginning of what is shown was written.
 pub fn write_trie_view<W: Write>(
     alloc: Global,
-    trie: &Trie<'_>,
+    trie: &TrieRef<'_>,
     view: View,
     output: &mut Noted<W>,
 ) -> io::Result<()>
     ensures all { OnOk result (Appends (W.contents output.old.inner) (W.contents output.new.inner)
         (shown view trie.now.kind trie.now.bytes.now)) }
-    ensures part { OnErr result (AppendsPart (W.contents output.old.inner) (W.contents output.new.inner)
-        (shown view trie.now.kind trie.now.bytes.now)) }
+    ensures part { OnErr result (AppendsPart (W.contents output.old.inner)
+        (W.contents output.new.inner) (shown view trie.now.kind trie.now.bytes.now)) }
     ensures noted { IsNoted result output.old.failed output.new.failed }
 {
     match view {

@@ -9,7 +9,7 @@ use Rattle.zerotrie_queries.specs.reports.Reports.{report_of}
 use Rattle.zerotrie_queries.specs.reports.Forms.{reported}
 use Rattle.zerotrie_queries.specs.Printed.{listed}
 use Rattle.zerotrie_queries.specs.Answers.{AreAnswered}
-use Rattle.zerotrie_queries.specs.declared.lookups.Query.{Query}
+use Rattle.zerotrie_queries.specs.declared.question.Query.{Query}
 use Rattle.zerotrie_queries.specs.Sorted.{picked}
 use Rattle.zerotrie_queries.specs.Listed.{limited}
 use Rattle.zerotrie_queries.proofs.PartLemmas.{part_all}
@@ -21,8 +21,8 @@ use Rattle.zerotrie_queries.specs.Finders.{TrieFinds, IndexFinds}
 use Rattle.zerotrie_run.specs.Runs.Content.{of_trie, of_index}
 use Rattle.zerotrie_run.specs.Runs.{Answers, AnswersInPart, Content, ContentAnswers, ContentAnswersInPart, IndexAnswers, IndexAnswersInPart, AreKeys, KeysAnswered, KeysAnsweredInPart, IsNoAnswer, IsRead, IsUnanswered, Opens, EndsAsk, ask_refusal, are_lines, of_lines}
 use Rattle.zerotrie_run.specs.Told.{HasReason}
-use Rattle.zerotrie_run.specs.declared.asking.AskError.{AskError}
-use Rattle.zerotrie_run.specs.declared.asking.AskError.TheVariants.{TwoInputs, Unread, NoTrie, NotText, Unanswered}
+use Rattle.zerotrie_run.specs.declared.ask.AskError.{AskError}
+use Rattle.zerotrie_run.specs.declared.ask.AskError.TheVariants.{TwoInputs, Unread, NoTrie, NotText, Unanswered}
 use Rattle.zerotrie_run.specs.declared.command.TrieFile.{TrieFile}
 use Rattle.zerotrie_run.specs.declared.command.Place.{Place}
 use Rattle.zerotrie_run.specs.declared.command.Place.TheVariants.{Stream}

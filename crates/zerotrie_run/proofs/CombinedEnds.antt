@@ -3,15 +3,15 @@ use Rattle.std.proofs.Common.{◌≡◌, ℕ, List, Option, Some, None, Bool, tr
 use Rattle.std.specs.Prelude.{unwrap_or}
 use Rattle.std.specs.declared.alloc.AllocError.{AllocError}
 use Rattle.zerotrie_queries.specs.declared.file.OpenError.TheVariants as unopened
-use Rattle.zerotrie_making.specs.declared.refused.MakeError.{MakeError}
-use Rattle.zerotrie_making.specs.declared.refused.MakeError.TheVariants as made
+use Rattle.zerotrie_making.specs.declared.error.MakeError.{MakeError}
+use Rattle.zerotrie_making.specs.declared.error.MakeError.TheVariants as made
 use Rattle.zerotrie_run.specs.Combined.{EndsCombine, FailsCombine, RunsCombine, combine_refusal}
 use Rattle.zerotrie_run.specs.Runs.{World}
 use Rattle.zerotrie_run.specs.Statuses.{failure, made_refusal}
 use Rattle.zerotrie_run.specs.Told.{ended}
-use Rattle.zerotrie_run.specs.declared.building.BuildError.TheVariants as build
-use Rattle.zerotrie_run.specs.declared.combining.CombineError.{CombineError}
-use Rattle.zerotrie_run.specs.declared.combining.CombineError.TheVariants.{Unopened, NoTrie, NotBuilt}
+use Rattle.zerotrie_run.specs.declared.build.BuildError.TheVariants as build
+use Rattle.zerotrie_run.specs.declared.combine.CombineError.{CombineError}
+use Rattle.zerotrie_run.specs.declared.combine.CombineError.TheVariants.{Unopened, NoTrie, NotBuilt}
 use Rattle.zerotrie_run.specs.declared.command.Combine.{Combine}
 use Rattle.zerotrie_run.specs.declared.status.Status.{Status}
 use Rattle.zerotrie_run.specs.declared.status.Status.TheVariants.{Done, Absent, Refused, Taken, BadUsage, BadInput, Unread, Unwritten, OutOfMemory, Closed}

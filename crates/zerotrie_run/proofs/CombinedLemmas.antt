@@ -8,14 +8,14 @@ use Rattle.zerotrie_files.specs.Disks.{Story}
 use Rattle.zerotrie_files.specs.Faults.{Watched}
 use Rattle.zerotrie_queries.specs.declared.file.OpenError.TheVariants as unopened
 use Rattle.zerotrie_making.specs.Combinations.{OfMeant}
-use Rattle.zerotrie_making.specs.declared.refused.MakeError.{MakeError}
-use Rattle.zerotrie_making.specs.declared.refused.MakeError.TheVariants as made
+use Rattle.zerotrie_making.specs.declared.error.MakeError.{MakeError}
+use Rattle.zerotrie_making.specs.declared.error.MakeError.TheVariants as made
 use Rattle.zerotrie_run.specs.Runs.{world, IsNotBegun, IsRead, OpensBy}
 use Rattle.zerotrie_run.specs.Combined.{AreRead, EndsCombine, ExplainsMaps, HasCombineCause, IsUncombined, IsUnopenedSide, IsUnread, OfHeld, combine_refusal}
-use Rattle.zerotrie_run.specs.declared.building.BuildError.{BuildError}
-use Rattle.zerotrie_run.specs.declared.building.BuildError.TheVariants as build
-use Rattle.zerotrie_run.specs.declared.combining.CombineError.{CombineError}
-use Rattle.zerotrie_run.specs.declared.combining.CombineError.TheVariants.{Unopened, NoTrie, NotBuilt}
+use Rattle.zerotrie_run.specs.declared.build.BuildError.{BuildError}
+use Rattle.zerotrie_run.specs.declared.build.BuildError.TheVariants as build
+use Rattle.zerotrie_run.specs.declared.combine.CombineError.{CombineError}
+use Rattle.zerotrie_run.specs.declared.combine.CombineError.TheVariants.{Unopened, NoTrie, NotBuilt}
 use Rattle.zerotrie_run.specs.declared.command.Check.TheVariants.{Full}
 use Rattle.zerotrie_run.specs.declared.command.Combine.{Combine}
 use Rattle.zerotrie_run.specs.declared.command.Place.{Place}

@@ -5,18 +5,18 @@ use Rattle.std.specs.Io.KnownBytes.{Appends}
 use Rattle.std.specs.declared.alloc.AllocError.{AllocError}
 use Rattle.zerotrie_files.specs.Disks.{Story}
 use Rattle.zerotrie_queries.specs.declared.file.OpenError.TheVariants as unopened
-use Rattle.zerotrie_making.specs.declared.making.Source.TheVariants.{Json}
-use Rattle.zerotrie_making.specs.declared.refused.MakeError.{MakeError}
-use Rattle.zerotrie_making.specs.declared.refused.MakeError.TheVariants as made
+use Rattle.zerotrie_making.specs.declared.error.MakeError.{MakeError}
+use Rattle.zerotrie_making.specs.declared.error.MakeError.TheVariants as made
 use Rattle.zerotrie_run.specs.Statuses.{failure}
 use Rattle.zerotrie_run.specs.Messages.{TellsBuild, TellsCombine, TellsNoTrie, source_name, target_name}
 use Rattle.zerotrie_run.specs.Combined.{ExplainsMaps, HasCombineCause, OfFiles, combine_refusal, place_of}
 use Rattle.zerotrie_run.specs.Told.{TellsMore, IsPlaceOf, IsTold, ended, last_text}
 use Rattle.zerotrie_run.specs.declared.status.Status.{Status}
 use Rattle.zerotrie_run.specs.declared.status.Status.TheVariants.{Closed}
-use Rattle.zerotrie_run.specs.declared.building.BuildError.TheVariants as build
-use Rattle.zerotrie_run.specs.declared.combining.CombineError.{CombineError}
-use Rattle.zerotrie_run.specs.declared.combining.CombineError.TheVariants.{Unopened, NoTrie, NotBuilt}
+use Rattle.zerotrie_run.specs.declared.build.BuildError.TheVariants as build
+use Rattle.zerotrie_run.specs.declared.combine.CombineError.{CombineError}
+use Rattle.zerotrie_run.specs.declared.combine.CombineError.TheVariants.{Unopened, NoTrie, NotBuilt}
+use Rattle.zerotrie_run.specs.declared.messages.pairs.PairUnit.TheVariants.{Pair}
 use Rattle.zerotrie_run.specs.declared.command.Combine.{Combine}
 use Rattle.zerotrie_run.specs.declared.command.Side.{Side}
 use Rattle.zerotrie_run.specs.declared.command.Side.TheVariants.{First, Second}
@@ -27,7 +27,7 @@ use Rattle.zerotrie_run.proofs.CombinedLemmas.IsOfPairs.{keys, refused, index_re
 use Rattle.zerotrie_run.proofs.ToldLemmas.{told_last, no_memory, failure_told}
 
 made_told : (o : Combine) (input : Option (List ℕ)) (files : Option Story) (a b c : Option (List ℕ)) (text : List ℕ) (read write closed : Bool) (e : MakeError) → OfFiles o input files (ExplainsMaps o e)
-    → TellsBuild (target_name o.to) (target_name o.to) Json (build.NotMade e) text → TellsMore a b → Appends b c text → IsOfPairs e
+    → TellsBuild (target_name o.to) (target_name o.to) Pair (build.NotMade e) text → TellsMore a b → Appends b c text → IsOfPairs e
     → IsTold (commands.Combine o) input files a c (unwrap_or (combine_refusal (NotBuilt (build.NotMade e))) (failure read write closed))
 made_told o input files a b c text read write closed _ cause tells more h (keys s) = (made.Keys s, cause, refl, text, tells.0, tells.1, told_last a b c text more h)
 made_told o input files a b c text read write closed _ cause tells more h (refused why) = (made.Refused why, cause, refl, text, tells.0, tells.1, told_last a b c text more h)

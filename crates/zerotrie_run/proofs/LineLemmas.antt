@@ -7,7 +7,7 @@ use Rattle.std.proofs.KnownBytes.{Consumes-nil, Consumes-trans, Consumes-whole}
 use Rattle.zerotrie_lines.specs.Lines.{lines_of}
 use Rattle.zerotrie_lines.specs.Blocks.{AreWhole, HasFeed}
 use Rattle.zerotrie_files.specs.Reads.{Gives}
-use Rattle.zerotrie_queries.specs.declared.lookups.Query.{Query}
+use Rattle.zerotrie_queries.specs.declared.question.Query.{Query}
 use Rattle.zerotrie_queries.specs.Answers.{AreAnswered, AreAnsweredInPart}
 use Rattle.zerotrie_queries.proofs.AnswerLemmas.{none_answered, more_answered, begun_all, begun_front, more_begun}
 use Rattle.zerotrie_run.specs.Streams.{WholeAnswered}

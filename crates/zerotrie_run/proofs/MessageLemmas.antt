@@ -4,19 +4,19 @@ use Rattle.std.proofs.lemmas.List.{take_all}
 use Rattle.std.specs.Global.{Global}
 use Rattle.std.specs.Io.KnownBytes.{Appends}
 use Rattle.std.proofs.KnownBytes.{Appends-trans}
-use Rattle.zerotrie_making.specs.declared.refused.Shown.{Shown}
-use Rattle.zerotrie_making.specs.declared.refused.NoPair.{NoPair}
-use Rattle.zerotrie_making.specs.declared.refused.NoPair.TheVariants.{Member, Item}
-use Rattle.zerotrie_making.specs.declared.refused.MakeError.{MakeError}
-use Rattle.zerotrie_making.specs.declared.refused.MakeError.TheVariants.{Line, NotJson, NotPairs, NotPair, Keys, Refused, IndexRefused, OutOfMemory}
+use Rattle.zerotrie_making.specs.declared.error.Shown.{Shown}
+use Rattle.zerotrie_making.specs.declared.error.NoPair.{NoPair}
+use Rattle.zerotrie_making.specs.declared.error.NoPair.TheVariants.{Member, Item}
+use Rattle.zerotrie_making.specs.declared.error.MakeError.{MakeError}
+use Rattle.zerotrie_making.specs.declared.error.MakeError.TheVariants.{Line, NotJson, NotPairs, NotPair, Keys, Refused, IndexRefused, OutOfMemory}
 use Rattle.zerotrie_run.specs.Told.{told_step}
-use Rattle.zerotrie_making.specs.declared.making.Source.{Source}
+use Rattle.zerotrie_run.specs.declared.messages.pairs.PairUnit.{PairUnit}
 use Rattle.zerotrie_run.specs.declared.command.Place.{Place}
-use Rattle.zerotrie_run.specs.declared.asking.AskError.{AskError}
-use Rattle.zerotrie_run.specs.declared.asking.AskError.TheVariants as ask
+use Rattle.zerotrie_run.specs.declared.ask.AskError.{AskError}
+use Rattle.zerotrie_run.specs.declared.ask.AskError.TheVariants as ask
 use Rattle.zerotrie_lines.specs.declared.fault.BadLine.{BadLine}
 use Rattle.zerotrie_lines.specs.declared.fault.BadLine.TheVariants as fault
-use Rattle.zerotrie_run.specs.Messages.{BeginsWithNoDigit, Extends, IsLine, IsLineOn, Names, NamesBoth, NamesPairs, Says, SaysKeys, TellsMade, TellsAsk, TellsNoPair, told_key, SaysField, line_front, source_name, unit_of}
+use Rattle.zerotrie_run.specs.Messages.{BeginsWithNoDigit, Extends, IsLine, IsLineOn, Names, NamesBoth, NamesPairs, Says, SaysKeys, TellsMade, TellsAsk, TellsNoPair, told_key, SaysField, line_front, source_name, unit_word}
 
 pub extends_both : (a b c : List ℕ) → Extends a b → Extends b c → Extends a c
 extends_both a b c p q = (p.0 ++ q.0, q.1 ∙ ap (λ t. t ++ q.0) p.1 ∙ append_assoc a p.0 q.0)
@@ -99,15 +99,15 @@ field_on (fault.Value v) a b h e = says_on a b (told_key v.front.items) h e
 field_on fault.Fields a b h e = tt
 
 -- why no file is made stays told
-pub made_on : (source : Source) (why : MakeError) (a b : List ℕ) → TellsMade source why a → Extends a b → TellsMade source why b
-made_on source (Line number bad) a b h e = (names_on (unit_of source) a b number h.0 e, field_on bad a b h.1 e)
-made_on source (NotJson line column) a b h e = (names_on (codes "line") a b line h.0 e, names_on (codes "column") a b column h.1 e)
-made_on source NotPairs a b h e = tt
-made_on source (NotPair bad) a b h e = no_pair_on bad a b h e
-made_on source (Keys s) a b h e = (pairs_on (unit_of source) s a b h.0 e, keys_on s a b h.1 e)
-made_on source (Refused why) a b h e = tt
-made_on source (IndexRefused why) a b h e = tt
-made_on source OutOfMemory a b h e = tt
+pub made_on : (unit : PairUnit) (why : MakeError) (a b : List ℕ) → TellsMade unit why a → Extends a b → TellsMade unit why b
+made_on unit (Line number bad) a b h e = (names_on (unit_word unit) a b number h.0 e, field_on bad a b h.1 e)
+made_on unit (NotJson line column) a b h e = (names_on (codes "line") a b line h.0 e, names_on (codes "column") a b column h.1 e)
+made_on unit NotPairs a b h e = tt
+made_on unit (NotPair bad) a b h e = no_pair_on bad a b h e
+made_on unit (Keys s) a b h e = (pairs_on (unit_word unit) s a b h.0 e, keys_on s a b h.1 e)
+made_on unit (Refused why) a b h e = tt
+made_on unit (IndexRefused why) a b h e = tt
+made_on unit OutOfMemory a b h e = tt
 
 -- a key that is told whole
 pub is_short : (key : List ℕ) → length key ≤ 100 → key ≡ take 100 key
@@ -149,9 +149,9 @@ pub both_after : {E : Type 0} (r : Result (Unit {0}) E) (unit a b : List ℕ) (m
 both_after (Ok u) unit a b m n first second e = inl (names_on (unit ++ codes "s") a b m first e, second)
 both_after (Err e) unit a b m n first second x = tt
 
--- the pairs that show a refusal are told by the unit of the source
-pub shown_told : {E : Type 0} (r : Result (Unit {0}) E) (source : Source) (s : Shown) (why : MakeError) (unit text : List ℕ) → why ≡ Keys s → unit ≡ unit_of source → OnOk r (NamesPairs unit s text)
+-- the pairs that show a refusal are told by their unit
+pub shown_told : {E : Type 0} (r : Result (Unit {0}) E) (unit : PairUnit) (s : Shown) (why : MakeError) (word text : List ℕ) → why ≡ Keys s → word ≡ unit_word unit → OnOk r (NamesPairs word s text)
     → OnOk r (SaysKeys s text)
-    → OnOk r (TellsMade source why text)
-shown_told (Ok u) source s why unit text is same names says = subst (λ w. TellsMade source w text) (sym is) (subst (λ x. NamesPairs x s text) same names, says)
-shown_told (Err e) source s why unit text is same names says = tt
+    → OnOk r (TellsMade unit why text)
+shown_told (Ok u) unit s why word text is same names says = subst (λ w. TellsMade unit w text) (sym is) (subst (λ x. NamesPairs x s text) same names, says)
+shown_told (Err e) unit s why word text is same names says = tt

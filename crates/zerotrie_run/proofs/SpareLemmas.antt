@@ -4,8 +4,8 @@ use Rattle.zerotrie_files.specs.Disks.{Story}
 use Rattle.zerotrie_run.specs.Runs.{world, IsNotBegun, EndsBuild, build_refusal}
 use Rattle.zerotrie_run.specs.Told.{HasCause}
 use Rattle.zerotrie_run.specs.declared.command.Build.{Build}
-use Rattle.zerotrie_run.specs.declared.building.BuildError.{BuildError}
-use Rattle.zerotrie_run.specs.declared.building.BuildError.TheVariants as unmade
+use Rattle.zerotrie_run.specs.declared.build.BuildError.{BuildError}
+use Rattle.zerotrie_run.specs.declared.build.BuildError.TheVariants as unmade
 
 -- it ends so, and nothing was touched
 pub spared_ends : (b : Build) (input : Option (List ℕ)) (files : Option Story) (printed : Option (List ℕ)) (left : Option Story) (e : BuildError) → IsNotBegun b.to b.no_clobber files e → left ≡ files

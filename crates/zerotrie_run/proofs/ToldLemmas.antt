@@ -7,9 +7,9 @@ use Rattle.std.specs.declared.alloc.AllocError.{AllocError}
 use Rattle.std.proofs.KnownBytes.{Appends-trans}
 use Rattle.zerotrie_files.specs.Disks.{Story}
 use Rattle.zerotrie_queries.specs.declared.file.OpenError.TheVariants as unopened
-use Rattle.zerotrie_making.specs.declared.refused.MakeError.TheVariants as made
+use Rattle.zerotrie_making.specs.declared.error.MakeError.TheVariants as made
 use Rattle.zerotrie_run.specs.Statuses.{failure}
-use Rattle.zerotrie_run.specs.Messages.{IsLineOn, TellsAsk, TellsBuild, TellsNoTrie, source_name, target_name}
+use Rattle.zerotrie_run.specs.Messages.{IsLineOn, TellsAsk, TellsBuild, TellsNoTrie, source_name, target_name, unit_of}
 use Rattle.zerotrie_run.specs.Runs.{RunsAsk, EndsAsk, FailsAsk, LeavesInputOf, ask_refusal, build_refusal}
 use Rattle.zerotrie_run.specs.Told.{TellsMore, ToldLast, LineTold, IsPlaceOf, HasReason, HasCause, IsTold, ended, last_text}
 use Rattle.zerotrie_run.specs.declared.status.Status.{Status}
@@ -19,11 +19,11 @@ use Rattle.zerotrie_run.specs.declared.command.TrieFile.{TrieFile}
 use Rattle.zerotrie_run.specs.declared.command.Question.{Question}
 use Rattle.zerotrie_run.specs.declared.command.Command.{Command}
 use Rattle.zerotrie_run.specs.declared.command.Command.TheVariants as commands
-use Rattle.zerotrie_run.specs.declared.asking.AskError.{AskError}
-use Rattle.zerotrie_run.specs.declared.asking.AskError.TheVariants as ask
+use Rattle.zerotrie_run.specs.declared.ask.AskError.{AskError}
+use Rattle.zerotrie_run.specs.declared.ask.AskError.TheVariants as ask
 use Rattle.zerotrie_run.specs.declared.stdin_lines.AnswerError.TheVariants as answer
-use Rattle.zerotrie_run.specs.declared.building.BuildError.{BuildError}
-use Rattle.zerotrie_run.specs.declared.building.BuildError.TheVariants as unmade
+use Rattle.zerotrie_run.specs.declared.build.BuildError.{BuildError}
+use Rattle.zerotrie_run.specs.declared.build.BuildError.TheVariants as unmade
 use Rattle.zerotrie_run.proofs.MessageLemmas.{line_of}
 
 -- a text that is told after some words is told last
@@ -46,7 +46,7 @@ failure_told command input files a b c text name false false closed place line m
 failure_told command input files a b c text name false true true place line more h = tt
 failure_told command input files a b c text name false true false place line more h = (name, place, (text, line, told_last a b c text more h))
 
-build_text_told : (build : Build) (input : Option (List ℕ)) (files : Option Story) (a b c : Option (List ℕ)) (text : List ℕ) (read write closed : Bool) (e : BuildError) → HasCause build input files e → TellsBuild (source_name build.from) (target_name build.to) build.plan.source e text
+build_text_told : (build : Build) (input : Option (List ℕ)) (files : Option Story) (a b c : Option (List ℕ)) (text : List ℕ) (read write closed : Bool) (e : BuildError) → HasCause build input files e → TellsBuild (source_name build.from) (target_name build.to) (unit_of build.plan.read.source) e text
     → TellsMore a b → Appends b c text → IsTold (commands.Build build) input files a c (unwrap_or (build_refusal e) (failure read write closed))
 build_text_told build input files a b c text read write closed (unmade.Unread e) cause tells more h = failure_told (commands.Build build) input files a b c text (source_name build.from) read write closed (inl refl) tells more h
 build_text_told build input files a b c text read write closed (unmade.NotMade (made.Line n bad)) cause tells more h = (cause.0, cause.1, made.Line n bad, cause.2, refl, text, tells.0, tells.1, told_last a b c text more h)
@@ -64,14 +64,14 @@ build_text_told build input files a b c text read write closed (unmade.Unfound e
 -- what is told last if no file is made or written
 build_told_by : (build : Build) (input : Option (List ℕ)) (files : Option Story) (a b c : Option (List ℕ)) (read write closed : Bool) (e : BuildError) (status : Status) (r : Result (Vec ℕ Global) AllocError)
     → HasCause build input files e
-    → status ≡ unwrap_or (build_refusal e) (failure read write closed) → IfOk r (λ text. TellsBuild (source_name build.from) (target_name build.to) build.plan.source e text.items) → TellsMore a b → Appends b c (last_text r)
+    → status ≡ unwrap_or (build_refusal e) (failure read write closed) → IfOk r (λ text. TellsBuild (source_name build.from) (target_name build.to) (unit_of build.plan.read.source) e text.items) → TellsMore a b → Appends b c (last_text r)
     → IsTold (commands.Build build) input files a c (ended status r)
 build_told_by build input files a b c read write closed e status (Ok text) cause is tells more h = rw is (build_text_told build input files a b c text.items read write closed e cause tells more h)
 build_told_by build input files a b c read write closed e status (Err x) cause is tells more h = no_memory a b c more h
 
 pub build_told : (command : Command) (build : Build) (input : Option (List ℕ)) (files : Option Story) (a b c : Option (List ℕ)) (read write closed : Bool) (e : BuildError) (status result : Status)
     (r : Result (Vec ℕ Global) AllocError)
-    → command ≡ commands.Build build → HasCause build input files e → status ≡ unwrap_or (build_refusal e) (failure read write closed) → IfOk r (λ text. TellsBuild (source_name build.from) (target_name build.to) build.plan.source e text.items) → TellsMore a b
+    → command ≡ commands.Build build → HasCause build input files e → status ≡ unwrap_or (build_refusal e) (failure read write closed) → IfOk r (λ text. TellsBuild (source_name build.from) (target_name build.to) (unit_of build.plan.read.source) e text.items) → TellsMore a b
     → result ≡ ended status r → (result ≡ Closed) ⊎ Appends b c (last_text r)
     → IsTold command input files a c result
 build_told command build input files a b c read write closed e status result r at cause is tells more ends (inl silent) = rw silent tt

@@ -7,12 +7,12 @@ use Rattle.zerotrie_queries.specs.Diffs.{AreCompared, AreComparedInPart}
 use Rattle.zerotrie_queries.specs.Texts.{looks_like_text}
 use Rattle.zerotrie_run.specs.Messages.{IsLineOn, source_name}
 use Rattle.zerotrie_run.specs.Runs.{AreOneStream, IsRead, Opens, IsUnopened, HasNoTrie, HasNumberToo, IsDoubtful, ask_refusal}
-use Rattle.zerotrie_run.specs.declared.asking.AskError.{AskError}
-use Rattle.zerotrie_run.specs.declared.asking.AskError.TheVariants as ask
+use Rattle.zerotrie_run.specs.declared.ask.AskError.{AskError}
+use Rattle.zerotrie_run.specs.declared.ask.AskError.TheVariants as ask
 use Rattle.zerotrie_run.specs.declared.command.Check.TheVariants.{Full}
 use Rattle.zerotrie_run.specs.declared.command.Diff.{Diff}
 use Rattle.zerotrie_run.specs.declared.command.TrieFile.{TrieFile}
-use Rattle.zerotrie_run.specs.declared.comparing.DiffError.{DiffError}
+use Rattle.zerotrie_run.specs.declared.diff.DiffError.{DiffError}
 use Rattle.zerotrie_run.specs.declared.status.Status.{Status}
 use Rattle.zerotrie_run.specs.declared.status.Status.TheVariants.{Done, Absent, Refused, Taken, BadUsage, BadInput, Unread, Unwritten, OutOfMemory, Closed}
 
@@ -145,7 +145,7 @@ pub record AreHeldComparedInPart (diff : Diff) (held other : List ℕ) (old new 
 abbrev pub IsOneUnopened : Diff → (held other : List ℕ) → DiffError → Type 0
 IsOneUnopened diff held other e = ((e.file ≡ old_file diff) × HasNoTrieIn (old_file diff) held e.error) ⊎ ((e.file ≡ new_file diff) × HasNoTrieIn (new_file diff) other e.error)
 
--- the output failed, or memory was refused
+-- the output failed, or an allocation failed
 abbrev pub IsUnanswered : AskError → Type 0
 IsUnanswered ask.TwoInputs = ⊥
 IsUnanswered (ask.Unread e) = ⊥

@@ -2,12 +2,12 @@
 use Rattle.std.specs.Prelude.{◌≡◌, ◌⊎◌, true}
 use Rattle.std.specs.declared.io.Error.{Error}
 use Rattle.zerotrie_files.specs.Faults.{Watched, Files, IsOutOfMemory}
-use Rattle.zerotrie_run.specs.declared.asking.AskError.{AskError}
-use Rattle.zerotrie_run.specs.declared.asking.AskError.TheVariants as ask
-use Rattle.zerotrie_run.specs.declared.building.BuildError.{BuildError}
-use Rattle.zerotrie_run.specs.declared.building.BuildError.TheVariants as build
-use Rattle.zerotrie_run.specs.declared.combining.CombineError.{CombineError}
-use Rattle.zerotrie_run.specs.declared.combining.CombineError.TheVariants as combine
+use Rattle.zerotrie_run.specs.declared.ask.AskError.{AskError}
+use Rattle.zerotrie_run.specs.declared.ask.AskError.TheVariants as ask
+use Rattle.zerotrie_run.specs.declared.build.BuildError.{BuildError}
+use Rattle.zerotrie_run.specs.declared.build.BuildError.TheVariants as build
+use Rattle.zerotrie_run.specs.declared.combine.CombineError.{CombineError}
+use Rattle.zerotrie_run.specs.declared.combine.CombineError.TheVariants as combine
 use Rattle.zerotrie_run.specs.declared.stdin_lines.AnswerError.{AnswerError}
 use Rattle.zerotrie_run.specs.declared.stdin_lines.AnswerError.TheVariants.{Input, Output}
 

@@ -11,8 +11,8 @@ use Rattle.zerotrie_files.specs.Disks.{Story}
 use Rattle.zerotrie_making.specs.Plans.{kind_for, IsFormOf}
 use Rattle.zerotrie_making.specs.Kept.{kept}
 use Rattle.zerotrie_making.specs.Made.{IsFile, OfInput}
-use Rattle.zerotrie_making.specs.declared.making.FileForm.{FileForm}
-use Rattle.zerotrie_making.specs.declared.making.FileForm.TheVariants as form
+use Rattle.zerotrie_making.specs.declared.plan.FileForm.{FileForm}
+use Rattle.zerotrie_making.specs.declared.plan.FileForm.TheVariants as form
 use Rattle.zerotrie_run.specs.Runs.{World, IsRead, Opens, Content, OpensFor, HasNoTrie, HasNoAnswer, IsMade, RunsAsk, RunsBuild, asks_index}
 use Rattle.zerotrie_run.specs.Runs.Content.{of_trie, of_index}
 use Rattle.zerotrie_run.specs.Statuses.{number_of}
@@ -41,8 +41,8 @@ pub record OpensAsMade (file : TrieFile) (input : Option (List ℕ)) (files : Op
 abbrev pub MadeOpens : Type 0
 MadeOpens = (build : Build) (input : Option (List ℕ)) (before after : World) (held files : Story) → before.files ≡ Some held → after.files ≡ Some files
     → (made : IsMade build input before after) (file : TrieFile) (stdin : Option (List ℕ)) → (build.to ≡ Stream → ⊥) → file.place ≡ build.to
-    → OfInput build.plan made.all (λ given. let pairs = kept build.plan.duplicates given in IsNamedAsMade build.plan.form (kind_for build.plan.kind pairs) file.bare
-    → OpensAsMade file stdin after.files build.plan.form (kind_for build.plan.kind pairs) pairs made.file)
+    → OfInput build.plan made.all (λ given. let pairs = kept build.plan.read.duplicates given in IsNamedAsMade build.plan.file.form (kind_for build.plan.file.kind pairs) file.bare
+    → OpensAsMade file stdin after.files build.plan.file.form (kind_for build.plan.file.kind pairs) pairs made.file)
 
 -- what a file has is the index that was made, of the pairs in some order
 abbrev pub IsIndexAsMade : Pairs → List ℕ → Content → Type 0
@@ -60,8 +60,8 @@ pub record IndexOpensAsMade (file : TrieFile) (input : Option (List ℕ)) (files
 abbrev pub MadeIndexOpens : Type 0
 MadeIndexOpens = (build : Build) (input : Option (List ℕ)) (before after : World) (held files : Story) → before.files ≡ Some held → after.files ≡ Some files
     → (made : IsMade build input before after) (file : TrieFile) (stdin : Option (List ℕ)) → (build.to ≡ Stream → ⊥) → file.place ≡ build.to
-    → build.plan.form ≡ form.Index → file.bare ≡ None
-    → OfInput build.plan made.all (λ given. IndexOpensAsMade file stdin after.files (kept build.plan.duplicates given) made.file)
+    → build.plan.file.form ≡ form.Index → file.bare ≡ None
+    → OfInput build.plan made.all (λ given. IndexOpensAsMade file stdin after.files (kept build.plan.read.duplicates given) made.file)
 
 -- the file that is read has a trie, which is opened
 abbrev pub HasTrie : TrieFile → List ℕ → Story → Type 0

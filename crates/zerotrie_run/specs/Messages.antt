@@ -8,30 +8,32 @@ use Rattle.zerotrie_lines.specs.declared.fault.BadLine.{BadLine}
 use Rattle.zerotrie_lines.specs.declared.fault.BadLine.TheVariants as bad
 use Rattle.zerotrie_queries.specs.declared.file.OpenError.{OpenError}
 use Rattle.zerotrie_queries.specs.declared.file.OpenError.TheVariants as unopened
-use Rattle.zerotrie_making.specs.declared.making.Source.{Source}
-use Rattle.zerotrie_making.specs.declared.making.Source.TheVariants.{Text, Json}
-use Rattle.zerotrie_making.specs.declared.refused.NoPair.{NoPair}
-use Rattle.zerotrie_making.specs.declared.refused.NoPair.TheVariants.{Member, Item}
-use Rattle.zerotrie_making.specs.declared.refused.Shown.{Shown}
-use Rattle.zerotrie_making.specs.declared.refused.MakeError.{MakeError}
-use Rattle.zerotrie_making.specs.declared.refused.MakeError.TheVariants as made
+use Rattle.zerotrie_making.specs.declared.plan.Source.{Source}
+use Rattle.zerotrie_making.specs.declared.plan.Source.TheVariants.{Text, Json}
+use Rattle.zerotrie_making.specs.declared.error.NoPair.{NoPair}
+use Rattle.zerotrie_making.specs.declared.error.NoPair.TheVariants.{Member, Item}
+use Rattle.zerotrie_making.specs.declared.error.Shown.{Shown}
+use Rattle.zerotrie_making.specs.declared.error.MakeError.{MakeError}
+use Rattle.zerotrie_making.specs.declared.error.MakeError.TheVariants as made
 use Rattle.zerotrie_run.specs.Combined.{place_of}
 use Rattle.zerotrie_run.specs.declared.command.Combine.{Combine}
 use Rattle.zerotrie_run.specs.declared.command.Place.{Place}
 use Rattle.zerotrie_run.specs.declared.command.Place.TheVariants.{File, Stream}
 use Rattle.zerotrie_run.specs.declared.stdin_lines.AnswerError.TheVariants.{Input, Output}
-use Rattle.zerotrie_run.specs.declared.asking.AskError.{AskError}
-use Rattle.zerotrie_run.specs.declared.asking.AskError.TheVariants as ask
-use Rattle.zerotrie_run.specs.declared.building.BuildError.{BuildError}
-use Rattle.zerotrie_run.specs.declared.building.BuildError.TheVariants as build
-use Rattle.zerotrie_run.specs.declared.combining.CombineError.{CombineError}
-use Rattle.zerotrie_run.specs.declared.combining.CombineError.TheVariants as combine
+use Rattle.zerotrie_run.specs.declared.ask.AskError.{AskError}
+use Rattle.zerotrie_run.specs.declared.ask.AskError.TheVariants as ask
+use Rattle.zerotrie_run.specs.declared.build.BuildError.{BuildError}
+use Rattle.zerotrie_run.specs.declared.build.BuildError.TheVariants as build
+use Rattle.zerotrie_run.specs.declared.combine.CombineError.{CombineError}
+use Rattle.zerotrie_run.specs.declared.combine.CombineError.TheVariants as combine
+use Rattle.zerotrie_run.specs.declared.messages.pairs.PairUnit.{PairUnit}
+use Rattle.zerotrie_run.specs.declared.messages.pairs.PairUnit.TheVariants as unit
 
 -- words were added to a text
 abbrev pub Extends : List ℕ → List ℕ → Type 0
 Extends old new = (words : List ℕ) × (new ≡ old ++ words)
 
--- words stand in a text
+-- words are in a text
 abbrev pub Says : List ℕ → List ℕ → Type 0
 Says text words = (front back : List ℕ) × (text ≡ front ++ (words ++ back))
 
@@ -40,11 +42,11 @@ abbrev pub BeginsWithNoDigit : List ℕ → Type 0
 BeginsWithNoDigit [] = ⊥
 BeginsWithNoDigit (b ∷ words) = (b < 48) ⊎ (57 < b)
 
--- a number stands in a text by itself: after its unit, as a line or a byte, and a space, and in front of what begins with no digit
+-- a number is in a text by itself: after its unit, as a line or a byte, and a space, and in front of what begins with no digit
 abbrev pub Names : (unit text : List ℕ) → ℕ → Type 0
 Names unit text number = (front back : List ℕ) × BeginsWithNoDigit back × (text ≡ front ++ (unit ++ (32 ∷ (decimal number ++ back))))
 
--- two numbers of a unit stand in a text: together, as "lines 3 and 5", or each by itself
+-- two numbers of a unit are in a text: together, as "lines 3 and 5", or each by itself
 abbrev pub NamesBoth : (unit text : List ℕ) → ℕ → ℕ → Type 0
 NamesBoth unit text m n = (Names (unit ++ codes "s") text m × Names (codes "and") text n) ⊎ (Names unit text m × Names unit text n)
 
@@ -72,19 +74,25 @@ line_front place = (codes "zerotrie: " ++ place) ++ codes ": "
 abbrev pub IsLineOn : List ℕ → List ℕ → Type 0
 IsLineOn place text = (words : List ℕ) × (text ≡ line_front place ++ (words ++ 10 ∷ []))
 
--- what the pairs of an input stand on
-abbrev pub unit_of : Source → List ℕ
-unit_of (Text Lines ended) = codes "line"
-unit_of (Text Tsv ended) = codes "line"
-unit_of (Text TsvRaw ended) = codes "line"
-unit_of (Text Csv ended) = codes "record"
-unit_of Json = codes "pair"
+-- what holds one pair of a source
+abbrev pub unit_of : Source → PairUnit
+unit_of (Text Lines ended) = unit.Line
+unit_of (Text Tsv ended) = unit.Line
+unit_of (Text TsvRaw ended) = unit.Line
+unit_of (Text Csv ended) = unit.Record
+unit_of Json = unit.Pair
 
--- how a key is told: by its first 100 bytes, as they stand on a line
+-- the word before its number
+abbrev pub unit_word : PairUnit → List ℕ
+unit_word unit.Line = codes "line"
+unit_word unit.Record = codes "record"
+unit_word unit.Pair = codes "pair"
+
+-- how a key is told: by its first 100 bytes, as they are on a line
 abbrev pub told_key : List ℕ → List ℕ
 told_key key = escaped (take 100 key)
 
--- the numbers of the pairs that show a refusal stand in a text: of both, or of the one whose key is not ASCII
+-- the numbers of the pairs that show a refusal are in a text: of both, or of the one whose key is not ASCII
 abbrev pub NamesPairs : (unit : List ℕ) → Shown → List ℕ → Type 0
 NamesPairs unit s text = (s.error ≡ cause.NonAsciiError → Names unit text s.first.number)
     × (s.error ≢ cause.NonAsciiError → NamesBoth unit text s.first.number s.second.number)
@@ -99,7 +107,7 @@ abbrev pub TellsNoPair : NoPair → List ℕ → Type 0
 TellsNoPair (Member key) text = Says text (told_key key.items)
 TellsNoPair (Item number) text = Names (codes "pair") text number
 
--- a field that is no value stands in a text: what it begins with
+-- a field that is no value is in a text: what it begins with
 abbrev pub SaysField : BadLine → List ℕ → Type 0
 SaysField bad.Empty text = Unit {0}
 SaysField bad.NoTab text = Unit {0}
@@ -107,17 +115,17 @@ SaysField bad.Escape text = Unit {0}
 SaysField (bad.Value v) text = Says text (told_key v.front.items)
 SaysField bad.Fields text = Unit {0}
 
--- a message tells why no file is made of a source, with the number of the line, record or pair, the place in the text, or the numbers
+-- a message tells why no file is made of pairs, with the number of the line, record or pair, the place in the text, or the numbers
 -- and keys of the pairs
-abbrev pub TellsMade : Source → MakeError → List ℕ → Type 0
-TellsMade source (made.Line number bad) text = Names (unit_of source) text number × SaysField bad text
-TellsMade source (made.NotJson line column) text = Names (codes "line") text line × Names (codes "column") text column
-TellsMade source made.NotPairs text = Unit {0}
-TellsMade source (made.NotPair bad) text = TellsNoPair bad text
-TellsMade source (made.Keys s) text = NamesPairs (unit_of source) s text × SaysKeys s text
-TellsMade source (made.Refused e) text = Unit {0}
-TellsMade source (made.IndexRefused e) text = Unit {0}
-TellsMade source made.OutOfMemory text = Unit {0}
+abbrev pub TellsMade : PairUnit → MakeError → List ℕ → Type 0
+TellsMade unit (made.Line number bad) text = Names (unit_word unit) text number × SaysField bad text
+TellsMade unit (made.NotJson line column) text = Names (codes "line") text line × Names (codes "column") text column
+TellsMade unit made.NotPairs text = Unit {0}
+TellsMade unit (made.NotPair bad) text = TellsNoPair bad text
+TellsMade unit (made.Keys s) text = NamesPairs (unit_word unit) s text × SaysKeys s text
+TellsMade unit (made.Refused e) text = Unit {0}
+TellsMade unit (made.IndexRefused e) text = Unit {0}
+TellsMade unit made.OutOfMemory text = Unit {0}
 
 -- a message tells why a file has no trie, by whether it looks like text: that it does, or the rule and the place of the first fault
 abbrev pub TellsNoTrie : OpenError → Bool → List ℕ → Type 0
@@ -135,20 +143,20 @@ TellsAsk file (ask.Unanswered (Input e)) text = IsLineOn (codes "standard input"
 TellsAsk file (ask.Unanswered (Output e)) text = IsLineOn (codes "standard output") text
 TellsAsk file (ask.NotText key) text = IsLineOn (source_name file) text × Says text (told_key key.items)
 
--- a line tells why no file was made of a source or written, and which of these places it is about: the one that is read, or the one that
+-- a line tells why no file was made of pairs or written, and which of these places it is about: the one that is read, or the one that
 -- is written
-abbrev pub TellsBuild : (from to : List ℕ) → Source → BuildError → List ℕ → Type 0
-TellsBuild from to source (build.Unread e) text = IsLineOn from text
-TellsBuild from to source (build.NotMade e) text = IsLineOn from text × TellsMade source e text
-TellsBuild from to source (build.Unwritten e) text = IsLineOn to text
-TellsBuild from to source build.Taken text = IsLineOn to text
-TellsBuild from to source (build.Unfound e) text = IsLineOn to text
+abbrev pub TellsBuild : (from to : List ℕ) → PairUnit → BuildError → List ℕ → Type 0
+TellsBuild from to unit (build.Unread e) text = IsLineOn from text
+TellsBuild from to unit (build.NotMade e) text = IsLineOn from text × TellsMade unit e text
+TellsBuild from to unit (build.Unwritten e) text = IsLineOn to text
+TellsBuild from to unit build.Taken text = IsLineOn to text
+TellsBuild from to unit (build.Unfound e) text = IsLineOn to text
 
 -- a line tells why no file was made of two others, or written, and which place it is about; pairs are refused at the one that is written
 abbrev pub TellsCombine : Combine → CombineError → List ℕ → Type 0
 TellsCombine c (combine.Unopened side e) text = IsLineOn (source_name (place_of c side)) text
 TellsCombine c (combine.NoTrie side why is_text) text = IsLineOn (source_name (place_of c side)) text × TellsNoTrie why is_text text
-TellsCombine c (combine.NotBuilt e) text = TellsBuild (target_name c.to) (target_name c.to) Json e text
+TellsCombine c (combine.NotBuilt e) text = TellsBuild (target_name c.to) (target_name c.to) unit.Pair e text
 
 -- what is told of a step of a build: its place, what was done there, and to how many bytes
 abbrev pub step_line : List ℕ → List ℕ → ℕ → List ℕ

@@ -21,7 +21,7 @@ use Rattle.zerotrie_index.specs.Layout.{IsIndex}
 use Rattle.zerotrie_sealed.specs.Sealed.{IsSealedIndex}
 use Rattle.zerotrie_queries.specs.Sorted.{picked}
 use Rattle.zerotrie_queries.specs.Listed.{AreListed, AreListedInPart, AreNoText}
-use Rattle.zerotrie_queries.specs.declared.lookups.Query.{Query}
+use Rattle.zerotrie_queries.specs.declared.question.Query.{Query}
 use Rattle.zerotrie_queries.specs.code.Code.{whole_code}
 use Rattle.zerotrie_queries.specs.views.Views.{shown}
 use Rattle.zerotrie_queries.specs.reports.Reports.{report_of}
@@ -30,7 +30,7 @@ use Rattle.zerotrie_files.specs.Disks.{Story, Known}
 use Rattle.zerotrie_files.specs.Stores.{WasReplaced, WasKept}
 use Rattle.zerotrie_making.specs.Made.{IsFile}
 use Rattle.zerotrie_making.specs.Made as made
-use Rattle.zerotrie_making.specs.declared.refused.MakeError.{MakeError}
+use Rattle.zerotrie_making.specs.declared.error.MakeError.{MakeError}
 use Rattle.zerotrie_run.specs.Statuses.{made_refusal}
 use Rattle.zerotrie_run.specs.declared.status.Status.{Status}
 use Rattle.zerotrie_run.specs.declared.status.Status.TheVariants.{Done, Absent, Refused, Taken, BadUsage, BadInput, Unread, Unwritten, OutOfMemory, Closed}
@@ -44,10 +44,10 @@ use Rattle.zerotrie_run.specs.declared.command.Check.{Check}
 use Rattle.zerotrie_run.specs.declared.command.Check.TheVariants as check
 use Rattle.zerotrie_run.specs.declared.command.TrieFile.{TrieFile}
 use Rattle.zerotrie_run.specs.declared.command.Build.{Build}
-use Rattle.zerotrie_run.specs.declared.asking.AskError.{AskError}
-use Rattle.zerotrie_run.specs.declared.asking.AskError.TheVariants as ask
-use Rattle.zerotrie_run.specs.declared.building.BuildError.{BuildError}
-use Rattle.zerotrie_run.specs.declared.building.BuildError.TheVariants as build
+use Rattle.zerotrie_run.specs.declared.ask.AskError.{AskError}
+use Rattle.zerotrie_run.specs.declared.ask.AskError.TheVariants as ask
+use Rattle.zerotrie_run.specs.declared.build.BuildError.{BuildError}
+use Rattle.zerotrie_run.specs.declared.build.BuildError.TheVariants as build
 
 -- What files hold and held at each moment, and what was printed: what a stream has, and then what its buffer still holds. Each as
 -- far as it is known.
@@ -357,7 +357,7 @@ abbrev pub IsRefused : Build → Option (List ℕ) → World → World → Statu
 IsRefused build input before after status = (all : List ℕ) × IsRead build.from input before.files all
     × (e : MakeError) × made.Explains build.plan all e × (made_refusal e ≡ Some status) × Untouched before after
 
--- after a fault the file of a place holds what it held, or a beginning of the bytes was printed
+-- after a fault all files hold what they held, or a beginning of the bytes was printed
 abbrev pub IsKept : Place → List ℕ → World → World → Type 0
 IsKept (File path) bytes before after = (after.printed ≡ before.printed) × Known before.files after.files (WasKept path.now bytes)
 IsKept Stream bytes before after = AppendsPart before.printed after.printed bytes × (after.files ≡ before.files)
@@ -370,8 +370,7 @@ pub record IsUnwritten (build : Build) (input : Option (List ℕ)) (before after
   pub made : IsFile build.plan all file
   pub kept : IsKept build.to file before after
 
--- a build failed: nothing was touched, or the input makes a file, and the file at its place holds what it held, or a beginning of it
--- was printed
+-- a build failed: nothing was touched, or the input makes a file, and all files hold what they held, or a beginning of it was printed
 abbrev pub FailsBuild : Build → Option (List ℕ) → World → World → Type 0
 FailsBuild build input before after = Untouched before after ⊎ IsUnwritten build input before after
 

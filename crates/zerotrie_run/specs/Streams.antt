@@ -5,7 +5,7 @@ use Rattle.zerotrie_files.specs.Faults.{IsOutOfMemory}
 use Rattle.zerotrie_lines.specs.Lines.{lines_of}
 use Rattle.zerotrie_lines.specs.Blocks.{AreWhole, HasFeed}
 use Rattle.zerotrie_queries.specs.Answers.{AreAnswered}
-use Rattle.zerotrie_queries.specs.declared.lookups.Query.{Query}
+use Rattle.zerotrie_queries.specs.declared.question.Query.{Query}
 use Rattle.zerotrie_run.specs.declared.stdin_lines.AnswerError.{AnswerError}
 use Rattle.zerotrie_run.specs.declared.stdin_lines.AnswerError.TheVariants.{Input, Output}
 

@@ -6,14 +6,13 @@ use Rattle.zerotrie_queries.specs.declared.file.OpenError.{OpenError}
 use Rattle.zerotrie_queries.specs.Texts.{looks_like_text}
 use Rattle.zerotrie_making.specs.Made.{IsFile}
 use Rattle.zerotrie_making.specs.Made as made
-use Rattle.zerotrie_making.specs.declared.refused.MakeError.{MakeError}
+use Rattle.zerotrie_making.specs.declared.error.MakeError.{MakeError}
 use Rattle.zerotrie_run.specs.Statuses.{made_refusal}
-use Rattle.zerotrie_making.specs.declared.making.Source.TheVariants.{Json}
-use Rattle.zerotrie_run.specs.Messages.{IsLine, IsLineOn, Says, TellsMade, TellsNoTrie, source_name, target_name, step_line, told_key}
+use Rattle.zerotrie_run.specs.Messages.{IsLine, IsLineOn, Says, TellsMade, TellsNoTrie, source_name, target_name, step_line, told_key, unit_of}
 use Rattle.zerotrie_run.specs.Runs.{IsRead, IsThere, IsUnopened, IsUnprinted, HasNumberToo}
 use Rattle.zerotrie_run.specs.Diffs.{IsFileOf, NotesNumbers}
 use Rattle.zerotrie_run.specs.declared.command.Diff.{Diff}
-use Rattle.zerotrie_run.specs.declared.comparing.DiffError.{DiffError}
+use Rattle.zerotrie_run.specs.declared.diff.DiffError.{DiffError}
 use Rattle.zerotrie_run.specs.Combined.{ExplainsMaps, OfFiles, file_of, place_of}
 use Rattle.zerotrie_run.specs.declared.status.Status.{Status}
 use Rattle.zerotrie_run.specs.declared.status.Status.TheVariants.{Done, Absent, Refused, Taken, BadUsage, BadInput, Unread, Unwritten, OutOfMemory, Closed}
@@ -25,10 +24,11 @@ use Rattle.zerotrie_run.specs.declared.command.Question.{Question}
 use Rattle.zerotrie_run.specs.declared.command.Question.TheVariants.{Verify}
 use Rattle.zerotrie_run.specs.declared.command.Side.{Side}
 use Rattle.zerotrie_run.specs.declared.command.Side.TheVariants.{First, Second}
-use Rattle.zerotrie_run.specs.declared.asking.AskError.{AskError}
-use Rattle.zerotrie_run.specs.declared.asking.AskError.TheVariants as ask
-use Rattle.zerotrie_run.specs.declared.building.BuildError.{BuildError}
-use Rattle.zerotrie_run.specs.declared.building.BuildError.TheVariants as unmade
+use Rattle.zerotrie_run.specs.declared.messages.pairs.PairUnit.TheVariants.{Pair}
+use Rattle.zerotrie_run.specs.declared.ask.AskError.{AskError}
+use Rattle.zerotrie_run.specs.declared.ask.AskError.TheVariants as ask
+use Rattle.zerotrie_run.specs.declared.build.BuildError.{BuildError}
+use Rattle.zerotrie_run.specs.declared.build.BuildError.TheVariants as unmade
 
 -- some words were told, or none
 abbrev pub TellsMore : (old new : Option (List ℕ)) → Type 0
@@ -112,7 +112,7 @@ TellsUnopened file input files old new = (held : List ℕ) × IsRead file.place 
 abbrev pub TellsRefusal : Command → Option (List ℕ) → Option Story → (old new : Option (List ℕ)) → Status → Type 0
 TellsRefusal (commands.Build build) input files old new status = (all : List ℕ) × IsRead build.from input files all
     × (e : MakeError) × made.Explains build.plan all e × (made_refusal e ≡ Some status)
-    × (text : List ℕ) × IsLineOn (source_name build.from) text × TellsMade build.plan.source e text × ToldLast old new text
+    × (text : List ℕ) × IsLineOn (source_name build.from) text × TellsMade (unit_of build.plan.read.source) e text × ToldLast old new text
 TellsRefusal (commands.Ask file question) input files old new status = TellsUnopened file input files old new
 TellsRefusal (commands.Diff diff) input files old new status = (file : TrieFile) × IsFileOf diff file × TellsUnopened file input files old new
 TellsRefusal (commands.Combine c) input files old new status = (side : Side) × TellsUnopened (file_of c side) input files old new
@@ -124,7 +124,7 @@ TellsRefused (commands.Ask file question) input files old new = (key : List ℕ)
     × (text : List ℕ) × IsLineOn (source_name file.place) text × Says text (told_key key) × ToldLast old new text
 TellsRefused (commands.Diff diff) input files old new = ⊥
 TellsRefused (commands.Combine c) input files old new = (e : MakeError) × OfFiles c input files (ExplainsMaps c e) × (made_refusal e ≡ Some Refused)
-    × (text : List ℕ) × IsLineOn (target_name c.to) text × TellsMade Json e text × ToldLast old new text
+    × (text : List ℕ) × IsLineOn (target_name c.to) text × TellsMade Pair e text × ToldLast old new text
 
 -- a line tells that the file to make is there already
 abbrev pub TellsTaken : Command → (old new : Option (List ℕ)) → Type 0

@@ -1,8 +1,9 @@
 //! What the program can be asked to do.
 
-ghost use Rattle.std.specs.Prelude.{◌≡◌, ◌↔◌, IsTrue};
+ghost use Rattle.std.specs.Prelude.{◌≡◌, ◌↔◌, true, IsTrue};
 ghost use Rattle.zerotrie_run.specs.Messages.{place_name};
-ghost use Rattle.zerotrie_run.specs.Runs.{AreOneStream, IsNamed};
+ghost use Rattle.zerotrie_run.specs.Runs.{AreOneStream, IsNamed, of_lines};
+ghost use Rattle.zerotrie_run.specs.declared.command.Place.TheVariants.{Stream};
 
 use zerotrie_core::TrieKind;
 use zerotrie_making::{FileForm, Plan};
@@ -19,7 +20,7 @@ pub enum Place<'a> {
 }
 
 impl<'a> Place<'a> {
-    /// The place that a word names: a file, or a stream if it is `-`.
+    /// Returns the place that a word names: a file, or a stream if it is `-`.
     pub fn named(word: &'a str) -> Self
         ensures { IsNamed word.now result }
     {
@@ -30,7 +31,7 @@ impl<'a> Place<'a> {
         }
     }
 
-    /// How messages name the place: by its path. A stream has the name that is given.
+    /// Returns how messages name the place: by its path, or a stream by the name that is given.
     pub fn name(self, stream: &'static str) -> &'a str
         ensures { result.now ≡ place_name self.entry stream.now }
     {
@@ -153,4 +154,29 @@ pub enum Command<'a> {
     Diff(Diff<'a>),
     /// Make such a file of the tries of two others.
     Combine(Combine<'a>),
+}
+
+/// Returns whether the keys of a question are the lines of standard input.
+fn reads_lines(question: Question<'_>) -> bool
+    ensures { result ≡ of_lines question.entry }
+{
+    match question {
+        Question::LookUp(_, Keys::Lines) => true,
+        Question::LookUp(_, Keys::Words(_))
+        | Question::List(_, _, _, _)
+        | Question::Code(_, _)
+        | Question::Verify
+        | Question::Report(_)
+        | Question::View(_) => false,
+    }
+}
+
+/// Returns whether standard input is to be both the file and the keys.
+pub fn reads_twice(place: Place<'_>, question: Question<'_>) -> bool
+    ensures { IsTrue result ↔ (place.entry ≡ Stream) × (of_lines question.entry ≡ true) }
+{
+    match place {
+        Place::Stream => reads_lines(question),
+        Place::File(_) => false,
+    }
 }

@@ -6,46 +6,46 @@ ghost use Rattle.zerotrie_run.specs.Laws.{MadeIndexOpens, MadeOpens, RefusedExac
 
 use zerotrie_sealed::laws::{one_content, one_trie};
 
-/// The file of a trie that a build made opens as the trie of the pairs that the build read, if its kind
-/// is named as it was for the build. So each question to it is answered by them.
+/// States that the file of a trie that a build made opens as the trie of the pairs that the build read,
+/// if its kind is named as it was for the build. So each question to it is answered by them.
 pub fn made_opens()
     ensures { MadeOpens }
 {
     one_trie();
 }
 
-/// The file of an index that a build made opens as an index of the pairs that the build read, if no
-/// kind is named. So each look-up in it is answered by them.
+/// States that the file of an index that a build made opens as an index of the pairs that the build
+/// read, if no kind is named. So each look-up in it is answered by them.
 pub fn made_index_opens()
     ensures { MadeIndexOpens }
 {
     one_content();
 }
 
-/// A question to a file is refused exactly if the file has no trie, nor an index that answers it, by
-/// the test that was asked for, unless the usage is bad or something failed.
+/// States that a question to a file is refused exactly if the file has no trie, nor an index that
+/// answers it, by the test that was asked for, unless the usage is bad or something failed.
 pub fn refused_exactly()
     ensures { RefusedExactly }
 {
     one_trie();
 }
 
-/// A build whose input makes no file is refused, unless something failed.
+/// States that a build whose input makes no file is refused, unless something failed.
 pub fn unmade_is_refused()
     ensures { UnmadeIsRefused }
 {}
 
-/// The file of a trie that was made of the tries of two others opens as the trie of the combination of
-/// their maps, if its kind is named as it was when it was made. So each question to it is answered by
-/// that.
+/// States that the file of a trie that was made of the tries of two others opens as the trie of the
+/// combination of their maps, if its kind is named as it was when it was made. So each question to it
+/// is answered by that.
 pub fn combined_opens()
     ensures { CombinedOpens }
 {
     one_trie();
 }
 
-/// A combination of the tries of two files is refused as bad input exactly if one of them has no
-/// trie, unless the new file is there already, the usage is bad, or something failed.
+/// States that a combination of the tries of two files is refused as bad input exactly if one of them
+/// has no trie, unless the new file is there already, the usage is bad, or something failed.
 pub fn combine_refused_exactly()
     ensures { CombineRefusedExactly }
 {

@@ -1,19 +1,19 @@
 //! The program over files: what each command prints, what it writes to files, and its status.
 #![tactic(auto)]
 
-mod asking;
-mod building;
-mod combining;
-mod combining_messages;
+mod ask;
+mod build;
+mod combine;
 mod command;
-mod comparing;
+mod diff;
 pub mod laws;
 mod messages;
-mod reading;
-mod running;
+mod open;
+mod place;
+mod program;
 mod status;
 mod stdin_lines;
 
 pub use command::{Build, Check, Combine, Command, Diff, Keys, Place, Question, Side, TrieFile};
-pub use running::run;
+pub use program::run;
 pub use status::Status;

@@ -31,7 +31,7 @@ pub enum Status {
 }
 
 impl Status {
-    /// The number that the program ends with.
+    /// Returns the number that the program ends with.
     pub fn number(self) -> u8
         ensures { result ≡ number_of self }
     {
@@ -44,7 +44,7 @@ impl Status {
         }
     }
 
-    /// How a run ends if its input makes no file. `None` if it is out of memory.
+    /// Returns how a run ends if its input makes no file. `None` if it is out of memory.
     pub fn of_refusal(error: &MakeError) -> Option<Self>
         ensures { result ≡ made_refusal error.now }
     {

@@ -47,9 +47,11 @@ fn answer_part<W: Write + Drop>(
     output: &mut Noted<BufWriter<W>>,
 ) -> io::Result<bool>
     ensures answered { IfOk result (AreAnswered query (Finds finder.now query.asked)
-        (lines_of part.now) (writer_contents W.contents output.old.inner) (writer_contents W.contents output.new.inner)) }
+        (lines_of part.now) (writer_contents W.contents output.old.inner)
+        (writer_contents W.contents output.new.inner)) }
     ensures part { OnErr result (AreAnsweredInPart query (Finds finder.now query.asked)
-        (lines_of part.now) (writer_contents W.contents output.old.inner) (writer_contents W.contents output.new.inner)) }
+        (lines_of part.now) (writer_contents W.contents output.old.inner)
+        (writer_contents W.contents output.new.inner)) }
     ensures handed { OnOk result (HandsOn output.old.inner output.new.inner) }
     ensures noted { IsNoted result output.old.failed output.new.failed }
 {
@@ -94,9 +96,11 @@ pub fn answer_lines<R: Read, W: Write + Drop>(
     output: &mut Noted<BufWriter<W>>,
 ) -> Result<bool, AnswerError>
     ensures answered { IfOk result (KeysAnswered query Lines (R.remaining input.old.inner)
-        (Finds finder.now query.asked) (writer_contents W.contents output.old.inner) (writer_contents W.contents output.new.inner)) }
+        (Finds finder.now query.asked) (writer_contents W.contents output.old.inner)
+        (writer_contents W.contents output.new.inner)) }
     ensures part { OnErr result (KeysAnsweredInPart query Lines (R.remaining input.old.inner)
-        (Finds finder.now query.asked) (writer_contents W.contents output.old.inner) (writer_contents W.contents output.new.inner)) }
+        (Finds finder.now query.asked) (writer_contents W.contents output.old.inner)
+        (writer_contents W.contents output.new.inner)) }
     ensures before { IfErr result (λ e. AreAnsweredSoFar query (Finds finder.now query.asked)
         (R.remaining input.old.inner) (R.remaining input.new.inner)
         (writer_contents W.contents output.old.inner) (writer_contents W.contents output.new.inner)

@@ -1,12 +1,13 @@
 -- What a step changes.
-use Rattle.std.proofs.Common.{◌≡◌, ◌≢◌, ◌∙◌, ℕ, List, [], ◌∷◌, ◌++◌, reverse, cond, Option, Some, None, bytes_eq, string_bytes, String, Vec, Global, Bor, is_some, Bool, true, false, option_map, append_assoc, sym, refl}
+use Rattle.std.proofs.Common.{◌≡◌, ◌≢◌, ◌∙◌, ℕ, Result, Ok, Err, OnOk, OnErr, is_err, ◌||◌, append-nil, List, [], ◌∷◌, ◌++◌, reverse, cond, Option, Some, None, bytes_eq, string_bytes, String, Vec, Global, Bor, is_some, Bool, true, false, option_map, sym, refl}
 use Rattle.std.proofs.lemmas.List.{reverse-append}
 use Rattle.std.proofs.lemmas.List.Elements.{All-nil, All-cons}
+use Rattle.std.specs.declared.io.Error.{Error}
 use Rattle.std.proofs.lemmas.Slice.Eq.{bytes_eq-Decides}
-use Rattle.zerotrie_files.specs.Disks.{Files, Passes, SameBeside, Moved, Holds}
+use Rattle.zerotrie_files.specs.Disks.{Files, Passes, SameBeside, Moved, Holds, Removes}
 use Rattle.zerotrie_run_tests.specs.declared.memory.Step.{Step}
 use Rattle.zerotrie_run_tests.specs.declared.memory.Step.TheVariants.{Wrote, Renamed, Removed}
-use Rattle.zerotrie_run_tests.specs.Steps.{after, files_after, moments_after, story_of}
+use Rattle.zerotrie_run_tests.specs.Steps.{after, files_after, moments_after, story_of, IsRemoval}
 
 pick_first : (b : Bool) (x y : Option (List ℕ)) → b ≡ true → cond b x y ≡ x
 pick_first true x y e = refl
@@ -17,8 +18,9 @@ pick_next true x y off = absurd (off refl)
 pick_next false x y off = refl
 
 -- a step is a moment
-pub one_step : (Fact : Files → Type 0) (steps : List Step) (step : Step) → Fact (after step (files_after (reverse steps))) → Passes Fact (story_of steps) (story_of (steps ++ step ∷ []))
-one_step Fact steps step h = rw (reverse-append steps (step ∷ []))
+pub one_step : (Fact : Files → Type 0) (steps : List Step) (step : Step) (was is : Bool) → Fact (after step (files_after (reverse steps)))
+    → Passes Fact (story_of steps was) (story_of (steps ++ step ∷ []) is)
+one_step Fact steps step was is h = rw (reverse-append steps (step ∷ []))
     (record { between = after step (files_after (reverse steps)) ∷ []; is = refl; each = All-cons Fact (after step (files_after (reverse steps))) [] h (All-nil Fact); ends = h })
 
 here : (path : List ℕ) (x y : Option (List ℕ)) → cond (bytes_eq path path) x y ≡ x
@@ -51,31 +53,24 @@ pub moved_now : (steps : List Step) (step : Step) (from to : List ℕ) → Moved
     → Moved from to (files_after (reverse steps)) (files_after (reverse (steps ++ step ∷ [])))
 moved_now steps step from to m = rw (reverse-append steps (step ∷ [])) m
 
--- two steps are two moments
-pub two_steps : (Fact : Files → Type 0) (steps : List Step) (one two : Step) → Fact (after one (files_after (reverse steps))) → Fact (after two (after one (files_after (reverse steps))))
-    → Passes Fact (story_of steps) (story_of ((steps ++ one ∷ []) ++ two ∷ []))
-two_steps Fact steps one two h k =
-    let first = after one (files_after (reverse steps)) in
-    let second = after two first in
-    rw (reverse-append (steps ++ one ∷ []) (two ∷ []), reverse-append steps (one ∷ []))
-    (record {
-      between = first ∷ second ∷ [];
-      is = append_assoc (moments_after (reverse steps)) (first ∷ []) (second ∷ []);
-      each = All-cons Fact first (second ∷ []) h (All-cons Fact second [] k (All-nil Fact));
-      ends = k;
-    })
-
-pub second_now : (steps : List Step) (one two : Step) (path : List ℕ) → files_after (reverse ((steps ++ one ∷ []) ++ two ∷ [])) path ≡ after two (after one (files_after (reverse steps))) path
-second_now steps one two path = rw (reverse-append (steps ++ one ∷ []) (two ∷ []), reverse-append steps (one ∷ [])) refl
-
--- a file that is written twice
-pub written_twice : (one two : String Global) (empty bytes : Vec ℕ Global) (path : List ℕ) (old : Files) → string_bytes one ≡ path → string_bytes two ≡ path
-    → Holds path bytes.items old (after (Wrote two bytes) (after (Wrote one empty) old))
-written_twice one two empty bytes path old is_one is_two =
-    let first = written one empty path old is_one in
-    let second = written two bytes path (after (Wrote one empty) old) is_two in
-    (second.0, λ other off. second.1 other off ∙ first.1 other off)
-
 pub none_here : (found : Option (Bor (List ℕ))) (held : Option (List ℕ)) → is_some found ≡ false → option_map (λ b. b.now) found ≡ held → held ≡ None
 none_here None held none e = sym e
 none_here (Some b) held none e = cc
+
+-- no step is no moment
+pub no_step : (Fact : Files → Type 0) (steps : List Step) (was is : Bool) → Fact (files_after (reverse steps)) → Passes Fact (story_of steps was) (story_of steps is)
+no_step Fact steps was is h = record { between = []; is = sym (append-nil (moments_after (reverse steps))); each = All-nil Fact; ends = h }
+
+-- a failed call is noted
+pub is_noted : (was failed : Bool) (r : Result (Unit {0}) Error) → failed ≡ is_err r → OnErr r (was || failed ≡ true)
+is_noted was failed (Ok u) e = tt
+is_noted true failed (Err x) e = refl
+is_noted false failed (Err x) e = e
+
+-- a removal, or one that failed
+pub removes : (path : List ℕ) (steps more : List Step) (was is : Bool) (r : Result (Unit {0}) Error) → OnOk r (IsRemoval path steps more) → OnErr r (more ≡ steps) → OnErr r (is ≡ true)
+    → Removes path r (story_of steps was) (story_of more is)
+removes path steps more was is (Ok u) done undone told =
+    let gone = removed done.0 path (files_after (reverse steps)) done.1 in
+    rw done.2 (one_step (SameBeside path (files_after (reverse steps))) steps (Removed done.0) was is gone.0, now_after steps (Removed done.0) path ∙ gone.1)
+removes path steps more was is (Err e) done undone told = rw undone (no_step (SameBeside path (files_after (reverse steps))) steps was is (λ other off. refl), told)

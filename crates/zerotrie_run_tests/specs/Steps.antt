@@ -1,5 +1,6 @@
 -- What a disk in memory holds after its steps.
-use Rattle.std.specs.Prelude.{List, [], ◌∷◌, ◌++◌, reverse, cond, Some, None, bytes_eq, string_bytes}
+use Rattle.std.specs.Prelude.{◌≡◌, ℕ, Bool, List, [], ◌∷◌, ◌++◌, reverse, cond, Some, None, bytes_eq, string_bytes, String}
+use Rattle.std.specs.Global.{Global}
 use Rattle.zerotrie_files.specs.Disks.{Files, Story}
 use Rattle.zerotrie_run_tests.specs.declared.memory.Step.{Step}
 use Rattle.zerotrie_run_tests.specs.declared.memory.Step.TheVariants.{Wrote, Renamed, Removed}
@@ -21,6 +22,10 @@ abbrev pub moments_after : List Step → List Files
 moments_after [] = []
 moments_after (step ∷ before) = moments_after before ++ files_after (step ∷ before) ∷ []
 
--- the story of a disk that did these steps
-abbrev pub story_of : List Step → Story
-story_of steps = record { now = files_after (reverse steps); moments = moments_after (reverse steps) }
+-- the story of a disk that did these steps, and of which some removal failed or none
+abbrev pub story_of : List Step → Bool → Story
+story_of steps unremoved = record { now = files_after (reverse steps); moments = moments_after (reverse steps); unremoved = unremoved }
+
+-- one step more: there is no file at the path
+abbrev pub IsRemoval : List ℕ → List Step → List Step → Type 0
+IsRemoval path old new = (name : String Global) × (string_bytes name ≡ path) × (new ≡ old ++ Removed name ∷ [])

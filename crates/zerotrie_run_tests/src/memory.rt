@@ -1,7 +1,8 @@
 //! A disk in memory, whose moments are known.
 
-ghost use Rattle.std.specs.Prelude.{◌≡◌, [], Some, option_map, reverse, string_bytes};
-ghost use Rattle.zerotrie_run_tests.specs.Steps.{files_after, story_of};
+ghost use Rattle.std.specs.Prelude.{◌≡◌, [], Some, option_map, reverse, OnOk, OnErr, eqb, codes, false};
+ghost use Rattle.std.specs.List.{starts_with};
+ghost use Rattle.zerotrie_run_tests.specs.Steps.{files_after, story_of, IsRemoval};
 
 use std::alloc::Global;
 use std::io;
@@ -20,13 +21,18 @@ enum Step {
 }
 
 /// A disk in memory: what it did, step by step, and there is a moment after each step.
+///
+/// A path says what fails: there is no room for the bytes of a file whose name begins with `.full`,
+/// a file whose name begins with `locked` can't be written, none takes a path that begins with
+/// `held`, and none whose name begins with `.held-on` can be removed.
 #[derive(Drop)]
 pub struct MemoryDisk {
     alloc: Global,
     steps: Vec<Step>,
+    unremoved: bool,
 }
 
-/// What the file of a path holds after these steps.
+/// Returns what the file of a path holds after these steps.
 fn held_after<'s>(steps: &'s [Step], path: &str) -> Option<&'s [u8]>
     ensures { option_map (λ bytes. bytes.now) result ≡ files_after (reverse steps.now) path.now }
 {
@@ -61,29 +67,47 @@ fn held_after<'s>(steps: &'s [Step], path: &str) -> Option<&'s [u8]>
 }
 
 impl MemoryDisk {
-    /// A disk with no file.
+    /// Returns a disk with no file.
     pub fn new(alloc: Global) -> Self
-        ensures { result.steps.items ≡ [] }
+        ensures steps { result.steps.items ≡ [] }
+        ensures unremoved { result.unremoved ≡ false }
     {
         MemoryDisk {
             alloc,
             steps: Vec::new(alloc),
+            unremoved: false,
         }
     }
 
-    /// What the file of a path holds. `None` if there is none.
+    /// Returns what the file of a path holds. `None` if there is none.
     pub fn held(&self, path: &str) -> Option<&[u8]>
         ensures { option_map (λ bytes. bytes.now) result
             ≡ files_after (reverse self.now.steps.items) path.now }
     {
         held_after(self.steps.as_slice(), path)
     }
+
+    /// Removes a file, if that can be done.
+    fn try_remove(&mut self, path: &str) -> io::Result<()>
+        ensures done { OnOk result (IsRemoval path.now self.old.steps.items self.new.steps.items) }
+        ensures undone { OnErr result (self.new.steps.items ≡ self.old.steps.items) }
+        ensures unremoved { self.new.unremoved ≡ self.old.unremoved }
+    {
+        if path.starts_with(".held-on") {
+            return Err(io::Error::from(ErrorKind::PermissionDenied));
+        }
+        let name = String::from_str(self.alloc, path)?;
+        self.steps.push(Step::Removed(name))?;
+        Ok(())
+    }
 }
 
 impl Disk for MemoryDisk {
-    ghost story = { λ disk. Some (story_of disk.steps.items) };
+    ghost story = { λ disk. Some (story_of disk.steps.items disk.unremoved) };
 
     ghost is_stream = { λ _ _. ⊥ };
+
+    ghost is_writable = { λ _ path. starts_with eqb path (codes "locked") ≡ false };
 
     fn read(&self, path: &str) -> io::Result<Vec<u8>> {
         match self.held(path) {
@@ -99,7 +123,10 @@ impl Disk for MemoryDisk {
         }
     }
 
-    fn test_writable(&self, _path: &str) -> io::Result<()> {
+    fn test_writable(&self, path: &str) -> io::Result<()> {
+        if path.starts_with("locked") {
+            return Err(io::Error::from(ErrorKind::PermissionDenied));
+        }
         Ok(())
     }
 
@@ -107,23 +134,37 @@ impl Disk for MemoryDisk {
         Ok(String::from_str(self.alloc, path)?)
     }
 
-    /// The file is empty for a moment. There is no room for one whose path begins with `full`.
-    fn write_new(&mut self, path: &str, _mode: Option<Mode>, bytes: &[u8]) -> io::Result<bool> {
+    fn process(&self) -> u32 {
+        1
+    }
+
+    fn draw(&self, tried: u32) -> u32 {
+        tried
+    }
+
+    fn make(&mut self, path: &str) -> io::Result<bool> {
         if self.held(path).is_some() {
             return Ok(false);
         }
-        if path.starts_with("full") {
-            return Err(io::Error::from(ErrorKind::StorageFull));
-        }
-        let made = String::from_str(self.alloc, path)?;
-        let filled = String::from_str(self.alloc, path)?;
-        let content = Vec::from_slice(self.alloc, bytes)?;
-        self.steps.push(Step::Wrote(made, Vec::new(self.alloc)))?;
-        self.steps.push(Step::Wrote(filled, content))?;
+        let name = String::from_str(self.alloc, path)?;
+        self.steps.push(Step::Wrote(name, Vec::new(self.alloc)))?;
         Ok(true)
     }
 
+    fn fill(&mut self, path: &str, _mode: Option<Mode>, bytes: &[u8]) -> io::Result<()> {
+        if path.starts_with(".full") {
+            return Err(io::Error::from(ErrorKind::StorageFull));
+        }
+        let name = String::from_str(self.alloc, path)?;
+        let content = Vec::from_slice(self.alloc, bytes)?;
+        self.steps.push(Step::Wrote(name, content))?;
+        Ok(())
+    }
+
     fn rename(&mut self, from: &str, to: &str) -> io::Result<()> {
+        if to.starts_with("held") {
+            return Err(io::Error::from(ErrorKind::StorageFull));
+        }
         if self.held(from).is_none() {
             return Err(io::Error::from(ErrorKind::NotFound));
         }
@@ -134,12 +175,10 @@ impl Disk for MemoryDisk {
     }
 
     fn remove(&mut self, path: &str) -> io::Result<()> {
-        let name = String::from_str(self.alloc, path)?;
-        self.steps.push(Step::Removed(name))?;
-        Ok(())
+        let outcome = self.try_remove(path);
+        self.unremoved |= outcome.is_err();
+        outcome
     }
-
-    fn remove_left(&mut self, _path: &str) {}
 
     fn append(&mut self, _path: &str, _bytes: &[u8]) -> io::Result<()> {
         Err(io::Error::from(ErrorKind::Unsupported))

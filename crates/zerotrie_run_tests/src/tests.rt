@@ -1,7 +1,9 @@
 mod disk;
 mod files;
+mod planted;
 
 use crate::memory::MemoryDisk;
+use planted::{are_planted, plant};
 use std::alloc::Global;
 use std::io;
 use std::io::{BufWriter, Cursor, ErrorKind, Read};
@@ -11,7 +13,7 @@ use zerotrie_core::TrieKind;
 use zerotrie_files::{Disk, Noted, Store};
 use zerotrie_index::ZeroIndex;
 use zerotrie_lines::{Format, LineEnd};
-use zerotrie_making::{Duplicates, FileForm, Plan, Source};
+use zerotrie_making::{Duplicates, FileForm, FilePlan, Plan, ReadPlan, Source};
 use zerotrie_queries::{
     Asked, Choice, Form, Language, Order, Query, ReportForm, Spelling, Style, View,
 };
@@ -38,14 +40,21 @@ const NAMES: &[u8] = b"foo\t1\nbar\t2\nbazzoo\t3\n";
 /// Their file.
 const TRIE: &[u8] = b"\x00\xC2bf\x0Aa\xC2rz\x01\x82zoo\x83oo\x81";
 
-/// The trie of any pairs, of the kind that is taken for them.
-const PLAN: Plan = Plan {
-    source: Source::Text(Format::Tsv, LineEnd::CrLf),
+/// The file of a trie, of the kind that is taken for its pairs.
+const TAGGED: FilePlan = FilePlan {
     kind: None,
-    duplicates: Duplicates::Refuse,
     sorted: false,
-    lower_case: false,
     form: FileForm::Tagged,
+};
+
+/// The trie of any pairs.
+const PLAN: Plan = Plan {
+    read: ReadPlan {
+        source: Source::Text(Format::Tsv, LineEnd::CrLf),
+        lower_case: false,
+        duplicates: Duplicates::Refuse,
+    },
+    file: TAGGED,
 };
 
 /// A build of the file `names.trie`, without a word on its steps.
@@ -59,14 +68,18 @@ const BUILD: Build<'static> = Build {
 
 /// The file of an index of the names, by the page on the format.
 const INDEXED: &[u8] =
-    b"ztri\x89\x8a\r\n\x01\0\x10\0\x6F\0\0\0\0\0\0\0\xfa\x99\x2D\x16\0\0\0\0\0\0\0\0\x06\0\0\0\0\0\0\0\
-    \0\0\0\0\0\0\0\0\0\0\0@\0\0\0\0\0\0\0\0\x0f\0\0\0\0\0\0\0\x0f\0\0\0\0\0\0\x02\x0f\0\0\0@\0\0\0\x1b\0\0\0\0\0\0\0\x27\0\0\0\
-    \x06\x03\0\0\0\0\0\0\0bazzoo\x03\x02\0\0\0\0\0\0\0bar\x03\x01\0\0\0\0\0\0\0foo";
+    b"ztri\x89\x8a\r\n\x01\0\x18\0o\0\0\0\0\0\0\0\xaa\xf0#*\0\0\0\0\0\0\0\0\x06\0\0\0\0\0\0\0\0\0\0\0\0\0\0\0\
+    \0\0\x04\0\0\0\0\0\0\0@\0\x0c\0\0\0\0\0\0\0\x1b\0\0\0\0\0\0\0\x1b\0\0\0\
+    @\0\0\0\x1b\0\0\0\0\0\0\0'\0\0\0\x03\x02\0\0\0\0\0\0\
+    \0bar\x06\x03\0\0\0\0\0\0\0bazzoo\x03\x01\0\0\0\0\0\0\0foo";
 
 /// How an index of any pairs is made.
 const INDEXING: Build<'static> = Build {
     plan: Plan {
-        form: FileForm::Index,
+        file: FilePlan {
+            form: FileForm::Index,
+            ..TAGGED
+        },
         ..PLAN
     },
     ..BUILD
@@ -122,7 +135,10 @@ const SEALED: &[u8] =
 /// A build of that file where one is to be left as it is.
 const SPARING: Build<'static> = Build {
     plan: Plan {
-        form: FileForm::Sealed,
+        file: FilePlan {
+            form: FileForm::Sealed,
+            ..TAGGED
+        },
         ..PLAN
     },
     no_clobber: true,
@@ -204,7 +220,7 @@ const SEALS: [Row; 6] = [
 ];
 
 /// Builds that are refused, and leave the file that was there.
-const REFUSED: [Row; 5] = [
+const REFUSED: [Row; 6] = [
     Row {
         files: &[("names.tsv", b"a\t1\nb\t2\na\t3\n"), ("names.trie", TRIE)],
         command: Command::Build(INDEXING),
@@ -248,7 +264,21 @@ const REFUSED: [Row; 5] = [
         told: b"zerotrie: full: no storage space\n",
         left: ("names.tsv", NAMES),
     },
+    Row {
+        files: &[("names.tsv", NAMES), ("held", TRIE)],
+        command: Command::Build(Build {
+            to: Place::File("held"),
+            ..BUILD
+        }),
+        status: Status::Unwritten,
+        printed: b"",
+        told: b"zerotrie: held: no storage space\n",
+        left: ("held", TRIE),
+    },
 ];
+
+/// The files that the rows make, or try to make.
+const MADE: [&str; 3] = ["names.trie", "full", "held"];
 
 /// The file of the names as a trie.
 const FILE: TrieFile<'static> = TrieFile {
@@ -310,7 +340,7 @@ const QUESTIONS: [Row; 4] = [
 ];
 
 /// A trie of one pair, which is shown.
-const SHOWN: [Row; 5] = [
+const SHOWN: [Row; 6] = [
     Row {
         files: &[("names.trie", b"\x00a\x85")],
         command: Command::Ask(
@@ -356,9 +386,19 @@ const SHOWN: [Row; 5] = [
         command: Command::Ask(FILE, Question::Code(Language::Rust, "NAMES")),
         status: Status::Done,
         printed: b"/// The trie: `NAMES.get(key)` is the value of a key.\n\
-            pub static NAMES: zerotrie_proved::ZeroTrie<&'static [u8]> =\n    \
-            zerotrie_proved::ZeroTrie::from_bytes(zerotrie_proved::Kind::SimpleAscii, &[\n    \
+            pub static NAMES: zerotrie::ZeroTrieSimpleAscii<&'static [u8]> =\n    \
+            zerotrie::ZeroTrieSimpleAscii::from_store(&[\n    \
             0x61, 0x85,\n]);\n",
+        told: b"",
+        left: ("names.trie", b"\x00a\x85"),
+    },
+    Row {
+        files: &[("names.trie", b"\x00a\x85")],
+        command: Command::Ask(FILE, Question::Code(Language::JavaScript, "names")),
+        status: Status::Done,
+        printed: b"import { ZeroTrie } from \"./zerotrie_read.mjs\";\n\n\
+            /** The trie: `names.get(key)` is the value of a key. */\n\
+            export const names = new ZeroTrie(new Uint8Array([\n    0x61, 0x85,\n]), 0);\n",
         told: b"",
         left: ("names.trie", b"\x00a\x85"),
     },
@@ -440,16 +480,30 @@ const NOTED: [Row; 1] = [Row {
     left: ("names.trie", TRIE),
 }];
 
-/// A disk with these files.
+/// Returns a disk with these files, and with those of a user beside what the rows make.
 fn disk_with(alloc: Global, files: &[(&str, &[u8])]) -> io::Result<MemoryDisk> {
     let mut disk = MemoryDisk::new(alloc);
     for (path, bytes) in files {
-        disk.write_new(path, None, bytes)?;
+        disk.make(path)?;
+        disk.fill(path, None, bytes)?;
+    }
+    for name in MADE {
+        plant(alloc, &mut disk, name)?;
     }
     Ok(disk)
 }
 
-/// Whether a run prints, tells, leaves and ends as it is to.
+/// Returns whether the files of a user are as they were.
+fn is_spared(alloc: Global, disk: &MemoryDisk) -> io::Result<bool> {
+    for name in MADE {
+        if !are_planted(alloc, disk, name)? {
+            return Ok(false);
+        }
+    }
+    Ok(true)
+}
+
+/// Returns whether a run prints, tells, leaves and ends as it is to.
 fn is_run(alloc: Global, row: &Row) -> io::Result<bool> {
     let mut files = Store::new(disk_with(alloc, row.files)?);
     let mut output = Noted::new(BufWriter::new(alloc, Vec::new(alloc))?);
@@ -469,7 +523,8 @@ fn is_run(alloc: Global, row: &Row) -> io::Result<bool> {
         status == row.status
             && output.get_ref().get_ref().as_slice() == row.printed
             && messages.get_ref().as_slice() == row.told
-            && files.disk().held(path) == Some(bytes),
+            && files.disk().held(path) == Some(bytes)
+            && is_spared(alloc, files.disk())?,
     )
 }
 
@@ -649,7 +704,7 @@ fn an_index_is_asked(rt: HostRuntime) -> Result<(), Fail> {
     Ok(())
 }
 
-/// The answer to a question to a damaged index, by the test that is asked for.
+/// Returns the answer to a question to a damaged index, by the test that is asked for.
 fn of_damaged(question: Question<'static>, check: Check, told: &'static [u8]) -> OfIndex {
     OfIndex {
         question,

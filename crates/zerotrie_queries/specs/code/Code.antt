@@ -11,7 +11,7 @@ use Rattle.zerotrie_queries.specs.declared.code.c_reader.TheConstants.{READER}
 abbrev pub code : Language → TrieKind → List ℕ → List ℕ → List ℕ
 code language kind name bytes = front language kind name ++ (items 0 bytes ++ end language kind name)
 
--- what a program needs in front of it: nothing but of the library, or a reader
+-- what a program needs before it: nothing but the library, or a reader
 abbrev pub reader_of : Language → List ℕ
 reader_of lang.CAlone = READER.now
 reader_of language = []

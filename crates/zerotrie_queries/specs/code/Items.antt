@@ -3,7 +3,7 @@ use Rattle.std.specs.Prelude.{ℕ, ◌+◌, ◌-◌, ◌*◌, ◌/◌, ◌%◌, 
 use Rattle.zerotrie_lines.specs.Escapes.{hex_digit}
 use Rattle.zerotrie_queries.specs.code.Names.{is_in_word}
 
--- what stands in front of item number i: a new line in front of each sixteenth
+-- what is before item number i: a new line before each sixteenth
 abbrev pub before_item : ℕ → List ℕ
 before_item i = if i % 16 == 0 then codes "\n    " else codes " "
 

@@ -26,7 +26,7 @@ header_kinds =
     (codes "ZEROTRIE_SIMPLE_ASCII", 0) ∷ (codes "ZEROTRIE_PERFECT_HASH", 3) ∷ (codes "ZEROTRIE_EXTENDED_CAPACITY", 7)
     ∷ (codes "ZEROTRIE_IGNORE_CASE", 8) ∷ []
 
--- the constant that the code of C names is the number of the kind, and so is the number beside the reader
+-- the constant that the code of C names is the number of the kind, and so is the number beside a reader
 abbrev pub CodeNamesKind : Type 0
 CodeNamesKind = (kind : TrieKind) → (number_at header_kinds (c_kind kind) ≡ Some (tag (kind_of kind))) × (kind_number kind ≡ decimal (tag (kind_of kind)))
 
@@ -36,13 +36,14 @@ IsC lang.Rust = ⊥
 IsC lang.C = Unit
 IsC lang.CAlone = Unit
 IsC lang.Rattle = ⊥
+IsC lang.JavaScript = ⊥
 
--- how many items stand before the brace that ends a list: those with a comma after them, and the last
+-- how many items are before the brace that ends a list: those with a comma after them, and the last
 abbrev pub items_before_end : List ℕ → ℕ
 items_before_end [] = 1
 items_before_end (c ∷ text) = if c == 125 then 1 else (if c == 44 then 1 + items_before_end text else items_before_end text)
 
--- how many stand in the first braces of a text
+-- how many are in the first braces of a text
 abbrev pub items_in_braces : List ℕ → ℕ
 items_in_braces [] = 0
 items_in_braces (c ∷ text) = if c == 123 then items_before_end text else items_in_braces text

@@ -1,16 +1,9 @@
--- What each language has round the bytes of a trie.
+-- What each language has around the bytes of a trie.
 use Rattle.std.specs.Prelude.{ℕ, List, ◌++◌, codes}
 use Rattle.zerotrie_core.specs.declared.TrieKind.{TrieKind}
 use Rattle.zerotrie_core.specs.declared.TrieKind.TheVariants.{Simple, Ignore, Hash, Ext}
 use Rattle.zerotrie_queries.specs.declared.code.Language.{Language}
 use Rattle.zerotrie_queries.specs.declared.code.Language.TheVariants as lang
-
--- a variant of the crate's `Kind`
-abbrev pub rust_kind : TrieKind → List ℕ
-rust_kind Simple = codes "SimpleAscii"
-rust_kind Ignore = codes "IgnoreCase"
-rust_kind Hash = codes "PerfectHash"
-rust_kind Ext = codes "ExtendedCapacity"
 
 -- a constant of the header
 abbrev pub c_kind : TrieKind → List ℕ
@@ -19,7 +12,7 @@ c_kind Ignore = codes "ZEROTRIE_IGNORE_CASE"
 c_kind Hash = codes "ZEROTRIE_PERFECT_HASH"
 c_kind Ext = codes "ZEROTRIE_EXTENDED_CAPACITY"
 
--- a type of the library
+-- a type of the library, and of the package of plain Rust
 abbrev pub rattle_type : TrieKind → List ℕ
 rattle_type Simple = codes "ZeroTrieSimpleAscii"
 rattle_type Ignore = codes "ZeroAsciiIgnoreCaseTrie"
@@ -39,14 +32,16 @@ usual_name lang.Rust = codes "TRIE"
 usual_name lang.C = codes "trie"
 usual_name lang.CAlone = codes "trie"
 usual_name lang.Rattle = codes "get"
+usual_name lang.JavaScript = codes "trie"
 
--- what Rust has in front of the bytes, for a kind and a name
+-- what Rust has before the bytes, for a kind and a name
 abbrev pub rust_front : TrieKind → List ℕ → List ℕ
 rust_front kind name =
     codes "/// The trie: `" ++ (name
     ++ (codes ".get(key)` is the value of a key.\npub static " ++ (name
-    ++ (codes ": zerotrie_proved::ZeroTrie<&'static [u8]> =\n    zerotrie_proved::ZeroTrie::from_bytes(zerotrie_proved::Kind::" ++ (rust_kind kind
-    ++ codes ", &[")))))
+    ++ (codes ": zerotrie::" ++ (rattle_type kind
+    ++ (codes "<&'static [u8]> =\n    zerotrie::" ++ (rattle_type kind
+    ++ codes "::from_store(&[")))))))
 
 -- what C has, with the text of the kind
 abbrev pub c_constants : List ℕ → List ℕ → List ℕ
@@ -65,6 +60,13 @@ abbrev pub rattle_front : List ℕ → List ℕ
 rattle_front name =
     codes "/// The value of a key. `None` if the trie has no such key.\npub fn " ++ (name
     ++ codes "(key: &[u8]) -> Option<usize> {\n    static BYTES: &[u8] = &[")
+
+-- what JavaScript has
+abbrev pub js_front : List ℕ → List ℕ
+js_front name =
+    codes "import { ZeroTrie } from \"./zerotrie_read.mjs\";\n\n/** The trie: `" ++ (name
+    ++ (codes ".get(key)` is the value of a key. */\nexport const " ++ (name
+    ++ codes " = new ZeroTrie(new Uint8Array([")))
 
 -- what C has right after the bytes: a zero, and their number
 abbrev pub c_len : List ℕ → List ℕ
@@ -98,16 +100,22 @@ c_end call name = c_len name ++ c_get call name
 abbrev pub rattle_end : TrieKind → List ℕ
 rattle_end kind = codes "\n    ];\n    zerotrie::" ++ (rattle_type kind ++ codes "::from_bytes(BYTES).get(key)\n}\n")
 
--- what stands in front of the bytes
+-- what JavaScript has
+abbrev pub js_end : TrieKind → List ℕ
+js_end kind = codes "\n]), " ++ (kind_number kind ++ codes ");\n")
+
+-- what is before the bytes
 abbrev pub front : Language → TrieKind → List ℕ → List ℕ
 front lang.Rust kind name = rust_front kind name
 front lang.C kind name = c_front kind name
 front lang.CAlone kind name = c_constants (kind_number kind) name
 front lang.Rattle kind name = rattle_front name
+front lang.JavaScript kind name = js_front name
 
--- what stands after the bytes
+-- what is after the bytes
 abbrev pub end : Language → TrieKind → List ℕ → List ℕ
 end lang.Rust kind name = codes "\n]);\n"
 end lang.C kind name = c_end c_call name
 end lang.CAlone kind name = c_end alone_call name
 end lang.Rattle kind name = rattle_end kind
+end lang.JavaScript kind name = js_end kind

@@ -2,7 +2,7 @@
 use Rattle.std.specs.Prelude.{ℕ, List}
 use Rattle.zerotrie_queries.specs.reports.Lines.{report_lines}
 use Rattle.zerotrie_queries.specs.reports.Json.{report_object}
-use Rattle.zerotrie_queries.specs.declared.reports.counting.Report.{Report}
+use Rattle.zerotrie_queries.specs.declared.reports.count.Report.{Report}
 use Rattle.zerotrie_queries.specs.declared.reports.ReportForm.{ReportForm}
 use Rattle.zerotrie_queries.specs.declared.reports.ReportForm.TheVariants.{Lines, Json}
 

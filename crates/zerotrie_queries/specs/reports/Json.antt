@@ -2,7 +2,7 @@
 use Rattle.std.specs.Prelude.{ℕ, ◌+◌, ◌/◌, ◌%◌, ◌^◌, ◌==◌, if◌then◌else◌, Bool, true, false, List, [], ◌∷◌, ◌++◌, codes, decimal, Option, Some, None}
 use Rattle.serde_json.specs.Written.{comma_if}
 use Rattle.zerotrie_core.specs.Kinds.{kind_name}
-use Rattle.zerotrie_queries.specs.declared.reports.counting.Report.{Report}
+use Rattle.zerotrie_queries.specs.declared.reports.count.Report.{Report}
 
 -- a member after another, by its name and the text of its value
 abbrev pub member_after : List ℕ → List ℕ → List ℕ
@@ -29,7 +29,7 @@ abbrev pub cell_object : ℕ → ℕ → List ℕ
 cell_object i count =
     edge_members (i / 8) ++ (member_after (codes "width") (decimal (i % 8 + 1)) ++ (member_after (codes "count") (decimal count) ++ codes "}"))
 
--- the cells that have a branch, of which the first has number i, with a comma before each, but for the first if nothing stands before it
+-- the cells that have a branch, of which the first has number i, with a comma before each, but none before the first if nothing is before it
 abbrev pub cell_objects : Bool → ℕ → List ℕ → List ℕ
 cell_objects later i [] = []
 cell_objects later i (count ∷ cells) =

@@ -1,7 +1,7 @@
 -- The lines of a report.
 use Rattle.std.specs.Prelude.{ℕ, ◌+◌, ◌*◌, ◌/◌, ◌%◌, ◌==◌, if◌then◌else◌, List, [], ◌∷◌, ◌++◌, codes, decimal, Option, Some, None}
 use Rattle.zerotrie_core.specs.Kinds.{kind_name}
-use Rattle.zerotrie_queries.specs.declared.reports.counting.Report.{Report}
+use Rattle.zerotrie_queries.specs.declared.reports.count.Report.{Report}
 
 -- a line: a name, a tab and a text
 abbrev pub text_line : List ℕ → List ℕ → List ℕ

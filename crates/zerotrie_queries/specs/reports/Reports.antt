@@ -6,7 +6,7 @@ use Rattle.zerotrie_core.specs.walk.Visits.{Visit, nodes_of}
 use Rattle.zerotrie_core.specs.Kinds.{kind_of}
 use Rattle.zerotrie_core.specs.declared.TrieKind.{TrieKind}
 use Rattle.zerotrie_queries.specs.reports.Counts.{values, depths, greatest_of, is_literal, is_span, count_of, branches_in}
-use Rattle.zerotrie_queries.specs.declared.reports.counting.Report.{Report}
+use Rattle.zerotrie_queries.specs.declared.reports.count.Report.{Report}
 
 -- the report of this many bytes of a kind, by their nodes
 abbrev pub report_over : TrieKind → ℕ → List Visit → Report
@@ -26,7 +26,7 @@ report_over kind bytes visits = record {
 abbrev pub report_of : TrieKind → List ℕ → Report
 report_of kind bytes = report_over kind (length bytes) (nodes_of (kind_of kind) bytes)
 
--- The report tells how many pairs there are, and the greatest of their values.
+-- The report says how many pairs there are, and the greatest of their values.
 pub record TellsPairs (r : Report) (pairs : Pairs) : Type 0 where
   pub count : r.pairs ≡ length pairs
   pub greatest : r.greatest ≡ greatest_of (map {B = ℕ} (λ e. e.1) pairs)

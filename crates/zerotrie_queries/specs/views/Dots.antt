@@ -5,7 +5,7 @@ use Rattle.zerotrie_core.specs.Nodes.{Shape}
 use Rattle.zerotrie_core.specs.Nodes.Shape.{value, literal, span, branch}
 use Rattle.zerotrie_core.specs.walk.Visits.{Visit}
 
--- a byte of a label: a quotation mark and a backslash with a backslash in front, other printable ones as they are, and the rest as \x and
+-- a byte of a label: a quotation mark and a backslash after a backslash, other printable ones as they are, and the rest as \x and
 -- two digits
 abbrev pub quoted_byte : ℕ → List ℕ
 quoted_byte b =
@@ -23,7 +23,7 @@ shape_text (literal b rest) = codes "ellipse"
 shape_text (span run rest) = codes "ellipse"
 shape_text (branch edges width table behind) = codes "diamond"
 
--- what stands in it
+-- what is in it
 abbrev pub label : Shape → List ℕ
 label (value v rest) = decimal v
 label (literal b rest) = quoted (b ∷ [])

@@ -9,11 +9,11 @@ abbrev pub edge_text : Option ℕ → List ℕ
 edge_text None = []
 edge_text (Some b) = escaped (b ∷ [])
 
--- where a node stands: its place, how many branches stand above it, and the byte of its edge, with tabs between them
+-- where a node is: its place, how many branches are above it, and the byte of its edge, with tabs between them
 abbrev pub stand_text : Part → List ℕ
 stand_text p = decimal p.place ++ (9 ∷ (decimal p.depth ++ (9 ∷ edge_text p.edge)))
 
--- the line of a node: where it stands, what it means, and its bytes
+-- the line of a node: where it is, what it means, and its bytes
 abbrev pub dump_line : Visit → List ℕ
 dump_line v = stand_text v.part ++ (9 ∷ (meaning v.node ++ (9 ∷ (hex (own_bytes v) ++ (10 ∷ [])))))
 

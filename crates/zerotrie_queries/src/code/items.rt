@@ -18,7 +18,7 @@ fn before_item(index: usize) -> &'static str
     if index % 16 == 0 { "\n    " } else { " " }
 }
 
-/// A byte in hexadecimal, and a comma.
+/// Returns a byte in hexadecimal, and a comma.
 fn item_number(byte: u8) -> [u8; 5]
     ensures { result ≡ item_number byte }
 {
@@ -30,8 +30,8 @@ fn item_number(byte: u8) -> [u8; 5]
 pub fn write_items<W: Write>(bytes: &[u8], output: &mut Noted<W>) -> io::Result<()>
     ensures all { OnOk result (Appends (W.contents output.old.inner) (W.contents output.new.inner)
         (items 0 bytes.now)) }
-    ensures part { OnErr result (AppendsPart (W.contents output.old.inner) (W.contents output.new.inner)
-        (items 0 bytes.now)) }
+    ensures part { OnErr result (AppendsPart (W.contents output.old.inner)
+        (W.contents output.new.inner) (items 0 bytes.now)) }
     ensures noted { IsNoted result output.old.failed output.new.failed }
 {
     for (index, byte) in bytes.iter().enumerate() {

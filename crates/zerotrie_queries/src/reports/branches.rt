@@ -16,9 +16,9 @@ pub struct Branches {
 
 impl Branches {
     ghost use Rattle.zerotrie_queries.specs.reports.Counts.{group_of};
-    ghost use Rattle.zerotrie_queries.specs.reports.counting.Steps.{no_branches, with_branch, AreWithin};
+    ghost use Rattle.zerotrie_queries.specs.reports.count.Steps.{no_branches, with_branch, AreWithin};
 
-    /// The group of a number of edges.
+    /// Returns the group of a number of edges.
     fn group_of(edges: usize) -> usize
         ensures group { result ≡ group_of edges }
         ensures few { result < 8 }
@@ -35,7 +35,7 @@ impl Branches {
         }
     }
 
-    /// No branches.
+    /// Returns the count of no branches.
     pub fn new() -> Self
         ensures { result ≡ no_branches }
     {

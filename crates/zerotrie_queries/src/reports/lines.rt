@@ -3,18 +3,11 @@
 ghost use Rattle.std.specs.Prelude.{◌≡◌, ◌++◌, ◌<◌, ◌*◌, ◌/◌, OnOk, codes};
 ghost use Rattle.zerotrie_queries.specs.reports.Lines.{text_line, number_line, option_text, ratio_text, group_text, group_name, cell_name, cell_line, cell_lines, size_lines, key_lines, node_lines, report_lines};
 
-use crate::reports::counting::Report;
+use crate::print::add_text;
+use crate::reports::count::Report;
 use std::alloc::AllocError;
 use zerotrie_lines::write_number;
 
-/// Adds a text.
-pub(crate) fn add_text(lines: &mut Vec<u8>, text: &str) -> Result<(), AllocError>
-    ensures { OnOk result (lines.new.items ≡ lines.old.items ++ text.now) }
-{
-    lines.extend_from_slice(text.as_bytes())
-}
-
-/// Adds a line of a name and a text.
 fn add_text_line(lines: &mut Vec<u8>, name: &str, text: &str) -> Result<(), AllocError>
     ensures { OnOk result (lines.new.items ≡ lines.old.items ++ text_line name.now text.now) }
 {
@@ -25,7 +18,6 @@ fn add_text_line(lines: &mut Vec<u8>, name: &str, text: &str) -> Result<(), Allo
     Ok(())
 }
 
-/// Adds a line of a name and a number.
 fn add_number_line(lines: &mut Vec<u8>, name: &str, number: usize) -> Result<(), AllocError>
     ensures { OnOk result (lines.new.items ≡ lines.old.items ++ number_line name.now number) }
 {
@@ -46,7 +38,7 @@ fn add_option(lines: &mut Vec<u8>, number: Option<usize>) -> Result<(), AllocErr
     }
 }
 
-/// How many hundredths a rest is.
+/// Returns how many hundredths of a key `rest` bytes are.
 fn hundredths(rest: usize, keys: usize) -> usize
     requires { rest < keys }
     ensures part { result ≡ rest * 100 / keys }
@@ -67,7 +59,6 @@ fn add_ratio(lines: &mut Vec<u8>, bytes: usize, keys: usize) -> Result<(), Alloc
     lines.extend_from_slice(&[b'.', b'0' + (rest / 10) as u8, b'0' + (rest % 10) as u8])
 }
 
-/// Adds the line of the greatest value.
 fn add_greatest_line(lines: &mut Vec<u8>, greatest: Option<usize>) -> Result<(), AllocError>
     ensures { OnOk result (lines.new.items
         ≡ lines.old.items ++ text_line (codes "greatest value") (option_text greatest)) }
@@ -78,7 +69,6 @@ fn add_greatest_line(lines: &mut Vec<u8>, greatest: Option<usize>) -> Result<(),
     Ok(())
 }
 
-/// Adds the line of the bytes to a key.
 fn add_ratio_line(lines: &mut Vec<u8>, bytes: usize, keys: usize) -> Result<(), AllocError>
     ensures { OnOk result (lines.new.items
         ≡ lines.old.items ++ text_line (codes "bytes a key") (ratio_text bytes keys)) }
@@ -89,7 +79,7 @@ fn add_ratio_line(lines: &mut Vec<u8>, bytes: usize, keys: usize) -> Result<(), 
     Ok(())
 }
 
-/// The numbers of edges in a group.
+/// Returns the numbers of edges in a group.
 fn group_text(group: usize) -> &'static str
     ensures { result.now ≡ group_text group }
 {
@@ -105,7 +95,6 @@ fn group_text(group: usize) -> &'static str
     }
 }
 
-/// Adds the name of a group.
 fn add_group(lines: &mut Vec<u8>, group: usize) -> Result<(), AllocError>
     ensures { OnOk result (lines.new.items ≡ lines.old.items ++ group_name group) }
 {
@@ -114,7 +103,6 @@ fn add_group(lines: &mut Vec<u8>, group: usize) -> Result<(), AllocError>
     add_text(lines, " edges")
 }
 
-/// Adds the name of a cell.
 fn add_cell_name(lines: &mut Vec<u8>, cell: usize) -> Result<(), AllocError>
     ensures { OnOk result (lines.new.items ≡ lines.old.items ++ cell_name cell) }
 {
@@ -147,7 +135,6 @@ fn add_cells(lines: &mut Vec<u8>, cells: &[usize]) -> Result<(), AllocError>
     Ok(())
 }
 
-/// Adds the lines of how much there is.
 fn add_sizes(lines: &mut Vec<u8>, report: &Report) -> Result<(), AllocError>
     ensures { OnOk result (lines.new.items ≡ lines.old.items ++ size_lines report.now) }
 {
@@ -156,7 +143,6 @@ fn add_sizes(lines: &mut Vec<u8>, report: &Report) -> Result<(), AllocError>
     add_number_line(lines, "pairs", report.pairs)
 }
 
-/// Adds the lines of what keys and values are.
 fn add_keys(lines: &mut Vec<u8>, report: &Report) -> Result<(), AllocError>
     ensures { OnOk result (lines.new.items ≡ lines.old.items ++ key_lines report.now) }
 {
@@ -165,7 +151,6 @@ fn add_keys(lines: &mut Vec<u8>, report: &Report) -> Result<(), AllocError>
     add_number_line(lines, "depth", report.depth)
 }
 
-/// Adds the lines of what nodes are.
 fn add_nodes(lines: &mut Vec<u8>, report: &Report) -> Result<(), AllocError>
     ensures { OnOk result (lines.new.items ≡ lines.old.items ++ node_lines report.now) }
 {
@@ -175,7 +160,6 @@ fn add_nodes(lines: &mut Vec<u8>, report: &Report) -> Result<(), AllocError>
     add_number_line(lines, "branches", report.branches.count)
 }
 
-/// Adds the lines of a report.
 pub(crate) fn add_report(lines: &mut Vec<u8>, report: &Report) -> Result<(), AllocError>
     ensures { OnOk result (lines.new.items ≡ lines.old.items ++ report_lines report.now) }
 {

@@ -4,12 +4,11 @@ ghost use Rattle.std.specs.Prelude.{◌≡◌, ◌++◌, ◌<◌, OnOk, codes, d
 ghost use Rattle.zerotrie_queries.specs.reports.Json.{member_after, number_or_null, least_edges, most_edges, edge_members, cell_object, cell_objects, size_members, key_members, node_members, branch_member, report_object};
 
 use crate::json_text::add_comma;
-use crate::reports::counting::Report;
-use crate::reports::lines::add_text;
+use crate::print::add_text;
+use crate::reports::count::Report;
 use std::alloc::AllocError;
 use zerotrie_lines::write_number;
 
-/// Adds a member that is a number.
 fn add_number_member(text: &mut Vec<u8>, name: &str, number: usize) -> Result<(), AllocError>
     ensures { OnOk result (text.new.items
         ≡ text.old.items ++ member_after name.now (decimal number)) }
@@ -20,7 +19,6 @@ fn add_number_member(text: &mut Vec<u8>, name: &str, number: usize) -> Result<()
     write_number(text, number)
 }
 
-/// Adds the member of the greatest value.
 fn add_greatest_member(text: &mut Vec<u8>, greatest: Option<usize>) -> Result<(), AllocError>
     ensures { OnOk result (text.new.items
         ≡ text.old.items ++ member_after (codes "greatest_value") (number_or_null greatest)) }
@@ -31,7 +29,7 @@ fn add_greatest_member(text: &mut Vec<u8>, greatest: Option<usize>) -> Result<()
     }
 }
 
-/// The least number of edges in a group.
+/// Returns the least number of edges in a group.
 fn least_edges(group: usize) -> usize
     requires { group < 8 }
     ensures { result ≡ least_edges group }
@@ -48,7 +46,7 @@ fn least_edges(group: usize) -> usize
     }
 }
 
-/// The greatest number of edges in a group.
+/// Returns the greatest number of edges in a group.
 fn most_edges(group: usize) -> usize
     requires { group < 8 }
     ensures { result ≡ most_edges group }
@@ -65,7 +63,6 @@ fn most_edges(group: usize) -> usize
     }
 }
 
-/// Adds the numbers of edges in a group.
 fn add_edge_members(text: &mut Vec<u8>, group: usize) -> Result<(), AllocError>
     requires { group < 8 }
     ensures { OnOk result (text.new.items ≡ text.old.items ++ edge_members group) }
@@ -75,7 +72,6 @@ fn add_edge_members(text: &mut Vec<u8>, group: usize) -> Result<(), AllocError>
     add_number_member(text, "most_edges", most_edges(group))
 }
 
-/// Adds a cell.
 fn add_cell_object(text: &mut Vec<u8>, cell: usize, count: usize) -> Result<(), AllocError>
     requires { cell < 64 }
     ensures { OnOk result (text.new.items ≡ text.old.items ++ cell_object cell count) }
@@ -102,7 +98,6 @@ fn add_cell_objects(text: &mut Vec<u8>, cells: &[usize; 64]) -> Result<(), Alloc
     Ok(())
 }
 
-/// Adds the members of how much there is.
 fn add_size_members(text: &mut Vec<u8>, report: &Report) -> Result<(), AllocError>
     ensures { OnOk result (text.new.items ≡ text.old.items ++ size_members report.now) }
 {
@@ -113,7 +108,6 @@ fn add_size_members(text: &mut Vec<u8>, report: &Report) -> Result<(), AllocErro
     add_number_member(text, "pairs", report.pairs)
 }
 
-/// Adds the members of what keys and values are.
 fn add_key_members(text: &mut Vec<u8>, report: &Report) -> Result<(), AllocError>
     ensures { OnOk result (text.new.items ≡ text.old.items ++ key_members report.now) }
 {
@@ -121,7 +115,6 @@ fn add_key_members(text: &mut Vec<u8>, report: &Report) -> Result<(), AllocError
     add_number_member(text, "depth", report.depth)
 }
 
-/// Adds the members of what nodes are.
 fn add_node_members(text: &mut Vec<u8>, report: &Report) -> Result<(), AllocError>
     ensures { OnOk result (text.new.items ≡ text.old.items ++ node_members report.now) }
 {

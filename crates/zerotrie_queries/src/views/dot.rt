@@ -10,16 +10,16 @@ ghost use Rattle.zerotrie_files.specs.Faults.{IsNoted};
 ghost use Rattle.zerotrie_files.specs.Parts.{AppendsPart};
 ghost use Rattle.zerotrie_queries.specs.views.Dots.{quoted_byte, quoted, shape_text, label, edge_label, ends_text, arrow, name_text, dot_node, dot_nodes, drawing};
 
-use crate::trie::Trie;
-use crate::views::meaning::add_text;
+use crate::print::add_text;
 use std::alloc::{AllocError, Global};
 use std::io;
 use std::io::Write;
-use zerotrie_core::{Node, Nodes, Part, Visit};
+use zerotrie_core::{Node, Nodes, Part, Trie, TrieRef, Visit};
 use zerotrie_files::Noted;
 use zerotrie_lines::{hex_digit, write_number};
 
-/// Adds a byte of a label.
+/// Adds a byte to a label: printable ASCII as it is, a quotation mark and a backslash after a
+/// backslash, and any other byte in hexadecimal.
 fn add_quoted_byte(line: &mut Vec<u8>, byte: u8) -> Result<(), AllocError>
     ensures { OnOk result (line.new.items ≡ line.old.items ++ quoted_byte byte) }
 {
@@ -43,7 +43,6 @@ fn add_quoted_byte(line: &mut Vec<u8>, byte: u8) -> Result<(), AllocError>
     }
 }
 
-/// Adds bytes to a label.
 fn add_quoted(line: &mut Vec<u8>, bytes: &[u8]) -> Result<(), AllocError>
     ensures { OnOk result (line.new.items ≡ line.old.items ++ quoted bytes.now) }
 {
@@ -53,7 +52,7 @@ fn add_quoted(line: &mut Vec<u8>, bytes: &[u8]) -> Result<(), AllocError>
     Ok(())
 }
 
-/// The shape of a node in the drawing.
+/// Returns the shape of a node in the drawing.
 fn shape_text(node: &Node<'_>) -> &'static str
     ensures { result.now ≡ shape_text (shape node.now) }
 {
@@ -65,7 +64,6 @@ fn shape_text(node: &Node<'_>) -> &'static str
     }
 }
 
-/// Adds the label of a node.
 fn add_label(line: &mut Vec<u8>, node: &Node<'_>) -> Result<(), AllocError>
     ensures { OnOk result (line.new.items ≡ line.old.items ++ label (shape node.now)) }
 {
@@ -114,7 +112,6 @@ fn add_arrow(line: &mut Vec<u8>, part: &Part<'_>) -> Result<(), AllocError>
     add_text(line, "\"];\n")
 }
 
-/// Adds the name of a node and its shape.
 fn add_name(line: &mut Vec<u8>, place: usize, node: &Node<'_>) -> Result<(), AllocError>
     ensures { OnOk result (line.new.items ≡ line.old.items ++ name_text place (shape node.now)) }
 {
@@ -124,7 +121,6 @@ fn add_name(line: &mut Vec<u8>, place: usize, node: &Node<'_>) -> Result<(), All
     add_text(line, shape_text(node))
 }
 
-/// Adds the lines of a node.
 fn add_node(line: &mut Vec<u8>, visit: &Visit<'_>) -> Result<(), AllocError>
     ensures { OnOk result (line.new.items ≡ line.old.items ++ dot_node (visit_of visit.now)) }
 {
@@ -144,8 +140,8 @@ fn write_nodes<W: Write>(
 ) -> io::Result<()>
     ensures all { OnOk result (Appends (W.contents output.old.inner) (W.contents output.new.inner)
         (dot_nodes (take most nodes.old))) }
-    ensures part { OnErr result (AppendsPart (W.contents output.old.inner) (W.contents output.new.inner)
-        (dot_nodes (take most nodes.old))) }
+    ensures part { OnErr result (AppendsPart (W.contents output.old.inner)
+        (W.contents output.new.inner) (dot_nodes (take most nodes.old))) }
     ensures noted { IsNoted result output.old.failed output.new.failed }
 {
     let mut line = Vec::new(alloc);
@@ -171,8 +167,8 @@ fn write_drawing<W: Write>(
 ) -> io::Result<()>
     ensures all { OnOk result (Appends (W.contents output.old.inner) (W.contents output.new.inner)
         (drawing most nodes.old)) }
-    ensures part { OnErr result (AppendsPart (W.contents output.old.inner) (W.contents output.new.inner)
-        (drawing most nodes.old)) }
+    ensures part { OnErr result (AppendsPart (W.contents output.old.inner)
+        (W.contents output.new.inner) (drawing most nodes.old)) }
     ensures noted { IsNoted result output.old.failed output.new.failed }
 {
     output.write_bytes(b"digraph trie {\n  rankdir=LR;\n")?;
@@ -184,14 +180,15 @@ fn write_drawing<W: Write>(
 /// was written.
 pub fn write_dot<W: Write>(
     alloc: Global,
-    trie: &Trie<'_>,
+    trie: &TrieRef<'_>,
     most: usize,
     output: &mut Noted<W>,
 ) -> io::Result<()>
     ensures all { OnOk result (Appends (W.contents output.old.inner) (W.contents output.new.inner)
         (drawing most (nodes_of (kind_of trie.now.kind) trie.now.bytes.now))) }
-    ensures part { OnErr result (AppendsPart (W.contents output.old.inner) (W.contents output.new.inner)
-        (drawing most (nodes_of (kind_of trie.now.kind) trie.now.bytes.now))) }
+    ensures part { OnErr result (AppendsPart (W.contents output.old.inner)
+        (W.contents output.new.inner) (drawing most (nodes_of (kind_of trie.now.kind)
+        trie.now.bytes.now))) }
     ensures noted { IsNoted result output.old.failed output.new.failed }
 {
     let mut nodes = trie.nodes(alloc)?;

@@ -10,12 +10,11 @@ ghost use Rattle.zerotrie_files.specs.Faults.{IsNoted};
 ghost use Rattle.zerotrie_files.specs.Parts.{AppendsPart};
 ghost use Rattle.zerotrie_queries.specs.views.Dumps.{edge_text, stand_text, dump_line, dump_lines};
 
-use crate::trie::Trie;
 use crate::views::meaning::{add_hex, add_meaning};
 use std::alloc::{AllocError, Global};
 use std::io;
 use std::io::Write;
-use zerotrie_core::{Nodes, Part, Visit};
+use zerotrie_core::{Nodes, Part, Trie, TrieRef, Visit};
 use zerotrie_files::Noted;
 use zerotrie_lines::{write_escaped, write_number};
 
@@ -29,7 +28,7 @@ fn add_edge(line: &mut Vec<u8>, edge: Option<u8>) -> Result<(), AllocError>
     }
 }
 
-/// Adds the place of a node.
+/// Adds the place of a node: of its bytes, its depth, and the byte of its edge.
 fn add_stand(line: &mut Vec<u8>, part: &Part<'_>) -> Result<(), AllocError>
     ensures { OnOk result (line.new.items ≡ line.old.items ++ stand_text (part_of part.now)) }
 {
@@ -40,7 +39,6 @@ fn add_stand(line: &mut Vec<u8>, part: &Part<'_>) -> Result<(), AllocError>
     add_edge(line, part.edge)
 }
 
-/// Adds the line of a node.
 fn add_line(line: &mut Vec<u8>, visit: &Visit<'_>) -> Result<(), AllocError>
     ensures { OnOk result (line.new.items ≡ line.old.items ++ dump_line (visit_of visit.now)) }
 {
@@ -61,8 +59,8 @@ fn write_lines<W: Write>(
 ) -> io::Result<()>
     ensures all { OnOk result (Appends (W.contents output.old.inner) (W.contents output.new.inner)
         (dump_lines nodes.old)) }
-    ensures part { OnErr result (AppendsPart (W.contents output.old.inner) (W.contents output.new.inner)
-        (dump_lines nodes.old)) }
+    ensures part { OnErr result (AppendsPart (W.contents output.old.inner)
+        (W.contents output.new.inner) (dump_lines nodes.old)) }
     ensures noted { IsNoted result output.old.failed output.new.failed }
 {
     let mut line = Vec::new(alloc);
@@ -78,11 +76,16 @@ fn write_lines<W: Write>(
 
 /// Writes a line for each node of a trie, in the order of their bytes. If it fails, a beginning of
 /// the lines was written.
-pub fn write_dump<W: Write>(alloc: Global, trie: &Trie<'_>, output: &mut Noted<W>) -> io::Result<()>
+pub fn write_dump<W: Write>(
+    alloc: Global,
+    trie: &TrieRef<'_>,
+    output: &mut Noted<W>,
+) -> io::Result<()>
     ensures all { OnOk result (Appends (W.contents output.old.inner) (W.contents output.new.inner)
         (dump_lines (nodes_of (kind_of trie.now.kind) trie.now.bytes.now))) }
-    ensures part { OnErr result (AppendsPart (W.contents output.old.inner) (W.contents output.new.inner)
-        (dump_lines (nodes_of (kind_of trie.now.kind) trie.now.bytes.now))) }
+    ensures part { OnErr result (AppendsPart (W.contents output.old.inner)
+        (W.contents output.new.inner) (dump_lines (nodes_of (kind_of trie.now.kind)
+        trie.now.bytes.now))) }
     ensures noted { IsNoted result output.old.failed output.new.failed }
 {
     let mut nodes = trie.nodes(alloc)?;

@@ -4,18 +4,11 @@ ghost use Rattle.std.specs.Prelude.{◌≡◌, ◌++◌, OnOk};
 ghost use Rattle.zerotrie_core.specs.Shapes.{shape, branch_shape};
 ghost use Rattle.zerotrie_queries.specs.views.Meanings.{meaning, table_text, edges_text, offsets_text, hex};
 
+use crate::print::add_text;
 use std::alloc::AllocError;
 use zerotrie_core::{Branch, Node};
 use zerotrie_lines::{hex_digit, write_escaped, write_number};
 
-/// Adds a text to a line.
-pub fn add_text(line: &mut Vec<u8>, text: &str) -> Result<(), AllocError>
-    ensures { OnOk result (line.new.items ≡ line.old.items ++ text.now) }
-{
-    line.extend_from_slice(text.as_bytes())
-}
-
-/// Adds bytes in hexadecimal.
 pub fn add_hex(line: &mut Vec<u8>, bytes: &[u8]) -> Result<(), AllocError>
     ensures { OnOk result (line.new.items ≡ line.old.items ++ hex bytes.now) }
 {
@@ -26,7 +19,7 @@ pub fn add_hex(line: &mut Vec<u8>, bytes: &[u8]) -> Result<(), AllocError>
     Ok(())
 }
 
-/// What table a branch has.
+/// Returns the word for the table of a branch.
 fn table_text(branch: &Branch<'_>) -> &'static str
     ensures { result.now ≡ table_text branch.now.edges branch.now.table.now }
 {
@@ -37,7 +30,6 @@ fn table_text(branch: &Branch<'_>) -> &'static str
     }
 }
 
-/// Adds how many edges a branch has, and its table.
 fn add_edges(line: &mut Vec<u8>, branch: &Branch<'_>) -> Result<(), AllocError>
     ensures { OnOk result (line.new.items
         ≡ line.old.items ++ edges_text branch.now.edges branch.now.table.now) }
@@ -48,7 +40,6 @@ fn add_edges(line: &mut Vec<u8>, branch: &Branch<'_>) -> Result<(), AllocError>
     add_text(line, table_text(branch))
 }
 
-/// Adds the width of the offsets of a branch, and its edges.
 fn add_offsets(line: &mut Vec<u8>, width: usize, edges: &[u8]) -> Result<(), AllocError>
     ensures { OnOk result (line.new.items ≡ line.old.items ++ offsets_text width edges.now) }
 {
@@ -58,7 +49,6 @@ fn add_offsets(line: &mut Vec<u8>, width: usize, edges: &[u8]) -> Result<(), All
     write_escaped(line, edges)
 }
 
-/// Adds what a branch means.
 fn add_branch(line: &mut Vec<u8>, branch: &Branch<'_>) -> Result<(), AllocError>
     ensures { OnOk result (line.new.items ≡ line.old.items ++ meaning (branch_shape branch.now)) }
 {

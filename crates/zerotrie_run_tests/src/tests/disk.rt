@@ -2,53 +2,114 @@
 //! names of its own.
 
 use std::fs;
-use std::fs::{File, Permissions};
+use std::fs::Permissions;
+use std::io::ErrorKind;
 use std::os::unix::fs::{PermissionsExt, symlink};
 use std::process::Abort;
-use std::rt::Files;
 use std::test::Fail;
-use zerotrie_files::{Disk, Found, Store, SystemDisk};
+use zerotrie_files::{Disk, Store, SystemDisk};
 
-/// Whether a file holds these bytes.
-fn holds<R: Files<File = File> + AllocGlobal>(rt: &R, path: &str, bytes: &[u8]) -> bool {
-    match SystemDisk::new(rt).read(path) {
+/// Files of a user beside one called `planted`, some of them of a form that the program gives.
+const PLANTED: [&str; 6] = [
+    "planted.0.tmp",
+    "planted.3.tmp",
+    "planted.99.tmp",
+    ".planted.zerotrie-1-1",
+    ".planted.zerotrie-4194304-4294967295",
+    ".planted",
+];
+
+/// Returns the files of the system.
+fn disk_of(rt: &HostRuntime) -> SystemDisk<'_, HostRuntime> {
+    SystemDisk::new(rt, rt.process())
+}
+
+/// Returns whether a file holds these bytes.
+fn holds(rt: &HostRuntime, path: &str, bytes: &[u8]) -> bool {
+    match disk_of(rt).read(path) {
         Ok(held) => held.as_slice() == bytes,
         Err(_) => false,
     }
 }
 
-/// Whether there is nothing at a path.
-fn is_free<R: Files<File = File> + AllocGlobal>(rt: &R, path: &str) -> bool {
-    matches!(SystemDisk::new(rt).find(path), Ok(Found::Nothing))
+/// Returns whether there is nothing at a path.
+fn is_free(rt: &HostRuntime, path: &str) -> bool {
+    fs::symlink_metadata(rt, path).is_err()
 }
 
-/// Whether a file has these bits of a mode.
-fn has_mode<R: Files<File = File> + AllocGlobal>(rt: &R, path: &str, mode: u32) -> bool {
+/// Returns whether a file has these bits of a mode.
+fn has_mode(rt: &HostRuntime, path: &str, mode: u32) -> bool {
     match fs::metadata(rt, path) {
         Ok(found) => found.permissions().mode() & 0o7777 == mode,
         Err(_) => false,
     }
 }
 
+/// Returns how many files of a folder have a name that begins so.
+fn count_of(rt: &HostRuntime, folder: &str, begins: &str) -> Result<usize, Fail> {
+    let mut count = 0;
+    for entry in fs::read_dir(rt, folder)? {
+        if entry?.file_name().starts_with(begins) {
+            count = usize::wrapping_add(count, 1);
+        }
+    }
+    Ok(count)
+}
+
 /// Replaces a file, and returns whether that was done.
-fn replaces<R: Files<File = File> + AllocGlobal>(rt: &R, path: &str, bytes: &[u8]) -> bool {
-    Store::new(SystemDisk::new(rt))
+fn replaces(rt: &HostRuntime, path: &str, bytes: &[u8]) -> bool {
+    Store::new(disk_of(rt))
         .replace(rt.alloc(), path, bytes)
         .is_ok()
+}
+
+/// Returns whether the files of a user hold what they held, and there is no other beside them.
+fn are_planted(rt: &HostRuntime) -> Result<bool, Fail> {
+    for path in PLANTED {
+        if !holds(rt, path, path.as_bytes()) {
+            return Ok(false);
+        }
+    }
+    Ok(count_of(rt, ".", ".planted")? == 3)
 }
 
 #[test]
 fn a_file_is_made_and_replaced(rt: HostRuntime) -> Result<(), Fail> {
     fs::write(&rt, "other", b"kept")?;
-    fs::write(&rt, "made.0.tmp", b"taken")?;
     assert!(rt; replaces(&rt, "made", b"one"));
     assert!(rt; holds(&rt, "made", b"one"));
     assert!(rt; replaces(&rt, "made", b"a second text"));
     assert!(rt; holds(&rt, "made", b"a second text"));
-    // no process holds the file that was there
-    assert!(rt; is_free(&rt, "made.0.tmp"));
-    assert!(rt; is_free(&rt, "made.1.tmp"));
     assert!(rt; holds(&rt, "other", b"kept"));
+    assert!(rt; count_of(&rt, ".", ".made")? == 0);
+    Ok(())
+}
+
+#[test]
+fn files_of_a_user_stay(rt: HostRuntime) -> Result<(), Fail> {
+    for path in PLANTED {
+        fs::write(&rt, path, path.as_bytes())?;
+    }
+    assert!(rt; replaces(&rt, "planted", b"one"));
+    assert!(rt; are_planted(&rt)?);
+    assert!(rt; replaces(&rt, "planted", b"two"));
+    assert!(rt; are_planted(&rt)?);
+    Ok(())
+}
+
+#[test]
+fn a_file_that_cannot_be_written_is_not_replaced(rt: HostRuntime) -> Result<(), Fail> {
+    fs::write(&rt, "fixed", b"old")?;
+    fs::set_permissions(&rt, "fixed", Permissions::from_mode(0o444))?;
+    let replaced = Store::new(disk_of(&rt)).replace(rt.alloc(), "fixed", b"new");
+    // who is root may write it all the same
+    assert!(rt;
+        match replaced {
+            Ok(()) => holds(&rt, "fixed", b"new") && has_mode(&rt, "fixed", 0o444),
+            Err(error) => error.kind() == ErrorKind::PermissionDenied
+                && holds(&rt, "fixed", b"old"),
+        }
+    );
     Ok(())
 }
 
@@ -73,7 +134,7 @@ fn a_link_stays(rt: HostRuntime) -> Result<(), Fail> {
     assert!(rt; replaces(&rt, "link", b"new"));
     assert!(rt; fs::symlink_metadata(&rt, "link")?.is_symlink());
     assert!(rt; holds(&rt, "linked", b"new"));
-    assert!(rt; is_free(&rt, "link.0.tmp") && is_free(&rt, "linked.0.tmp"));
+    assert!(rt; count_of(&rt, ".", ".link")? == 0);
     assert!(rt; !replaces(&rt, "dead", b"new"));
     assert!(rt; is_free(&rt, "nothing"));
     Ok(())
@@ -90,6 +151,6 @@ fn what_cannot_be_replaced_stays(rt: HostRuntime) -> Result<(), Fail> {
     fs::set_permissions(&rt, "folder", Permissions::from_mode(0o755))?;
     // who is root may write there all the same
     assert!(rt; replaced || holds(&rt, "folder/names", b"old"));
-    assert!(rt; is_free(&rt, "folder/names.0.tmp"));
+    assert!(rt; count_of(&rt, "folder", ".names")? == 0);
     Ok(())
 }

@@ -1,20 +1,72 @@
 //! What files in memory hold after one is replaced.
 
+use super::planted::{are_planted, free_path, plant};
 use crate::memory::MemoryDisk;
+use std::alloc::Global;
+use std::io;
+use std::io::ErrorKind;
+use std::process::Abort;
 use std::test::Fail;
-use zerotrie_files::{Disk, Store, replace_beside};
+use zerotrie_files::{Disk, Store, write_output};
+
+/// Returns a disk with a file, and with files of a user beside it.
+fn disk_with(alloc: Global, name: &str) -> io::Result<MemoryDisk> {
+    let mut disk = MemoryDisk::new(alloc);
+    disk.make(name)?;
+    disk.fill(name, None, b"old")?;
+    plant(alloc, &mut disk, name)?;
+    Ok(disk)
+}
+
+/// Returns whether a replacement ends so, and all other files are as they were.
+fn ends_so(alloc: Global, name: &str, wanted: Result<(), ErrorKind>) -> io::Result<bool> {
+    let mut store = Store::new(disk_with(alloc, name)?);
+    let ended = match store.replace(alloc, name, b"new") {
+        Ok(()) => Ok(()),
+        Err(error) => Err(error.kind()),
+    };
+    let held: &[u8] = if ended.is_ok() { b"new" } else { b"old" };
+    Ok(
+        ended == wanted
+            && store.disk().held(name) == Some(held)
+            && are_planted(alloc, store.disk(), name)?,
+    )
+}
 
 #[test]
-fn a_file_is_replaced_beside_a_path_that_is_taken(rt: HostRuntime) {
+fn files_of_a_user_stay(rt: HostRuntime) -> Result<(), Fail> {
+    let alloc = rt.alloc();
+    assert!(rt; ends_so(alloc, "a", Ok(()))?);
+    assert!(rt; ends_so(alloc, "full", Err(ErrorKind::StorageFull))?);
+    assert!(rt; ends_so(alloc, "held", Err(ErrorKind::StorageFull))?);
+    assert!(rt; ends_so(alloc, "locked", Err(ErrorKind::PermissionDenied))?);
+    Ok(())
+}
+
+#[test]
+fn a_file_that_cannot_be_removed_is_left(rt: HostRuntime) -> Result<(), Fail> {
+    let alloc = rt.alloc();
+    let mut disk = disk_with(alloc, "held-on")?;
+    assert!(rt; write_output(alloc, &mut disk, "held-on", b"new").is_err());
+    assert!(rt; disk.held("held-on") == Some(b"old"));
+    let left = free_path(alloc, "held-on")?;
+    assert!(rt; disk.held(left.as_str()) == Some(b"new"));
+    assert!(rt; disk.remove(left.as_str()).is_err());
+    Ok(())
+}
+
+#[test]
+fn a_file_is_made_at_no_path_that_is_taken(rt: HostRuntime) -> Result<(), Fail> {
     let alloc = rt.alloc();
     let mut disk = MemoryDisk::new(alloc);
-    assert!(rt; matches!(disk.write_new("a", None, b"old"), Ok(true)));
-    assert!(rt; matches!(disk.write_new("a.0.tmp", None, b"other"), Ok(true)));
-    assert!(rt; matches!(disk.write_new("a.0.tmp", None, b"new"), Ok(false)));
-    assert!(rt; replace_beside(alloc, &mut disk, "a", None, b"new").is_ok());
-    assert!(rt; disk.held("a") == Some(b"new"));
-    assert!(rt; disk.held("a.0.tmp") == Some(b"other"));
-    assert!(rt; disk.held("a.1.tmp").is_none());
+    for number in 0..100 {
+        let path = format!(in alloc; "folder/.a.zerotrie-1-{number}")?;
+        assert!(rt; disk.make(path.as_str())?);
+        assert!(rt; !disk.make(path.as_str())?);
+    }
+    assert!(rt; write_output(alloc, &mut disk, "folder/a", b"new").is_err());
+    assert!(rt; disk.held("folder/a").is_none());
+    Ok(())
 }
 
 #[test]

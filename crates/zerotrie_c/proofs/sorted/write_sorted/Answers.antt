@@ -1,6 +1,6 @@
 -- On valid bytes a part of what is to come is written. On any bytes, what was found.
 use Rattle.std.proofs.Common.{◌≡◌, ◌+◌, ◌<◌, ◌≤◌, ◌∙◌, ◌∷◌, ◌++◌, ℕ, List, [], ap, sym, inl, refl, subst, arith, rules, length, length-append}
-use Rattle.zerotrie_c.proofs.Parts.{Going, going_start, going_more, going_on, listed_full, placed_len}
+use Rattle.zerotrie_c.proofs.PartLemmas.{Going, going_start, going_more, going_on, listed_full, placed_len}
 use Rattle.zerotrie_c.proofs.sorted.write_sorted.Goals as goal
 use Rattle.zerotrie_c.proofs.sorted.write_sorted.Goals.{then-count-room-via-then-count-room, then-count-room-via-else-count-room+then-key-keys}
 

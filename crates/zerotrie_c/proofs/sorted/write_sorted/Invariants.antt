@@ -1,7 +1,7 @@
 use Rattle.std.proofs.Common.{◌≡◌, ◌-◌, ◌+◌, ◌≤◌, length, []}
 use Rattle.zerotrie_core.specs.Maps.{Pairs}
 use Rattle.zerotrie_core.specs.WellFormed.{IsWellFormed}
-use Rattle.zerotrie_c.proofs.Parts.{Going}
+use Rattle.zerotrie_c.proofs.PartLemmas.{Going}
 use Rattle.zerotrie_c.proofs.sorted.write_sorted.Given as goal
 
 abbrev pub invariant-loop-next_len : goal.invariant-loop-next_len

@@ -1,15 +1,10 @@
-use Rattle.std.proofs.Common.{ap, ◌∙◌, Some}
-use Rattle.zerotrie_core.specs.Kinds.{kind_of as kind_that_is}
+use Rattle.std.specs.Prelude.{◌↔◌, IsTrue}
+use Rattle.std.proofs.Common.{subst}
+use Rattle.zerotrie_core.specs.Kinds.{kind_of}
+use Rattle.zerotrie_core.specs.WellFormed.{IsWellFormed}
 use Rattle.zerotrie_c.proofs.tags.zerotrie_is_well_formed.Goals as goal
 
-pub returns-in-Simple-by_kind-clause-known : goal.returns-in-Simple-by_kind-clause-known
-returns-in-Simple-by_kind-clause-known c = rw (c.in-Some.ensures ∙ ap (λ k. Some (kind_that_is k)) c.in-Simple-by_kind.is) c.by_kind-is_well_formed.ensures
-
-pub returns-in-Ignore-by_kind-clause-known : goal.returns-in-Ignore-by_kind-clause-known
-returns-in-Ignore-by_kind-clause-known c = rw (c.in-Some.ensures ∙ ap (λ k. Some (kind_that_is k)) c.in-Ignore-by_kind.is) c.by_kind-is_well_formed-in-Some.ensures
-
-pub returns-in-Hash-by_kind-clause-known : goal.returns-in-Hash-by_kind-clause-known
-returns-in-Hash-by_kind-clause-known c = rw (c.in-Some.ensures ∙ ap (λ k. Some (kind_that_is k)) c.in-Hash-by_kind.is) c.by_kind-is_well_formed-in-Some-2.ensures
-
-pub returns-in-Ext-by_kind-clause-known : goal.returns-in-Ext-by_kind-clause-known
-returns-in-Ext-by_kind-clause-known c = rw (c.in-Some.ensures ∙ ap (λ k. Some (kind_that_is k)) c.in-Ext-by_kind.is) c.by_kind-is_well_formed-in-Some-3.ensures
+pub returns-in-Some-clause-known : goal.returns-in-Some-clause-known
+returns-in-Some-clause-known c =
+    rw c.in-Some.ensures.kind
+    (subst (λ b. IsTrue c.is_well_formed.result ↔ IsWellFormed (kind_of c.in-Some.trie.kind) b) c.in-Some.ensures.bytes c.is_well_formed.ensures)

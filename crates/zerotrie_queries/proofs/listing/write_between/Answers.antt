@@ -1,7 +1,7 @@
 use Rattle.std.proofs.Common.{rules, ◌≡◌, ◌<◌, ◌^◌, length, true, false}
 use Rattle.std.specs.Range.Bound.{bound_map}
 use Rattle.zerotrie_queries.specs.Sorted.{picked}
-use Rattle.zerotrie_queries.specs.declared.source.Order.TheVariants.{ByBytes}
+use Rattle.zerotrie_queries.specs.declared.question.Order.TheVariants.{ByBytes}
 use Rattle.zerotrie_queries.proofs.ChoiceLemmas.{if_none_weaker, if_some_weaker, on_err_so, listed_all, listed_part, no_text}
 use Rattle.zerotrie_queries.proofs.SortedLemmas.{picked_sorted, lists_none}
 use Rattle.zerotrie_queries.proofs.listing.write_between.Goals as goal

@@ -2,7 +2,7 @@ use Rattle.std.proofs.Common.{sym, subst}
 use Rattle.std.specs.Option.{option_map}
 use Rattle.std.specs.declared.ops.Bound.TheVariants.{Included}
 use Rattle.zerotrie_queries.specs.Sorted.{AreWithin}
-use Rattle.zerotrie_queries.specs.declared.source.Choice.TheVariants.{Prefix}
+use Rattle.zerotrie_queries.specs.declared.question.Choice.TheVariants.{Prefix}
 use Rattle.zerotrie_queries.proofs.SortedLemmas.{prefix_within, if_some_items}
 use Rattle.zerotrie_queries.proofs.listing.write_sorted_prefix.Goals as goal
 

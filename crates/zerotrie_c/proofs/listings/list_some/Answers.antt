@@ -1,7 +1,0 @@
-use Rattle.std.proofs.Common.{[], inr, refl, arith}
-use Rattle.zerotrie_c.proofs.Parts.{nothing_written}
-use Rattle.zerotrie_c.proofs.listings.list_some.Goals as goal
-
-pub returns-in-Err-clause-any : goal.returns-in-Err-clause-any
-returns-in-Err-clause-any g c =
-    ([], omega arith, ([], [], refl, refl, nothing_written c.args.keys.now c.args.ends.now c.args.values.now, inr (inr (refl, refl))))

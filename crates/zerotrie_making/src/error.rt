@@ -1,0 +1,144 @@
+//! Why no file is made.
+
+ghost use Rattle.std.specs.Prelude.{◌≡◌, ◌<◌, ◌^◌, length, IfOk, IfSome};
+ghost use Rattle.zerotrie_core.specs.Items.{pairs_of};
+ghost use Rattle.zerotrie_making.specs.Made.{IsKeyAt, Shows, IsOfReading};
+ghost use Rattle.zerotrie_making.specs.Kept.{number_of};
+ghost use Rattle.zerotrie_making.specs.declared.error.MakeError.TheVariants.{OutOfMemory};
+
+use std::alloc::{AllocError, Global};
+use zerotrie_build::Refusal;
+use zerotrie_core::ZeroTrieBuildError;
+use zerotrie_index::ZeroIndexBuildError;
+use zerotrie_lines::{BadLine, ReadError};
+
+/// A key, and the number of its pair, from 1 on: that of its line, its record, or its member or item
+/// of a JSON value.
+#[derive(PartialEq, Eq, Debug, Drop)]
+pub struct NumberedKey {
+    pub number: usize,
+    pub key: Vec<u8>,
+}
+
+/// Two keys that show why a build fails.
+#[derive(PartialEq, Eq, Debug, Drop)]
+pub struct Shown {
+    /// Why: `Unsorted`, `DuplicateKey`, `NonAsciiError` or `MixedCase`.
+    pub error: ZeroTrieBuildError,
+    /// The first of the two.
+    pub first: NumberedKey,
+    /// The second. For `NonAsciiError`, which one key shows, it is the first again.
+    pub second: NumberedKey,
+}
+
+/// A member or an item of a JSON value that is no pair.
+#[derive(PartialEq, Eq, Debug, Drop)]
+pub enum NoPair {
+    /// Of an object the member with this key: its value is not written as a whole number below
+    /// 2^64.
+    Member(Vec<u8>),
+    /// Of a list the item with this number, from 1 on: it is no list of a key and such a number.
+    Item(usize),
+}
+
+/// Why no file is made.
+///
+/// ```
+/// let read = ReadPlan {
+///     source: Source::Json,
+///     lower_case: false,
+///     duplicates: Duplicates::Refuse,
+/// };
+/// let file = FilePlan { kind: None, sorted: false, form: FileForm::Sealed };
+/// let input = Vec::from_slice(rt.alloc(), b"[\n  [\"ad\", 22}\n]\n")?;
+/// assert_eq!(rt; make(rt.alloc(), Plan { read, file }, input), Err(MakeError::NotJson(2, 12)));
+/// ```
+#[derive(PartialEq, Eq, Debug, Drop)]
+pub enum MakeError {
+    /// The line, or record of comma-separated fields, with this number is no pair, and why.
+    Line(usize, BadLine),
+    /// The input is no JSON value. At this line and column, both from 1 on, a token begins that can't
+    /// be there, or the text ends too early. Columns are characters.
+    NotJson(usize, usize),
+    /// The input is a JSON value, and neither an object nor a list.
+    NotPairs,
+    /// The input is a JSON object or list, and this member or item is the first that is no pair.
+    NotPair(NoPair),
+    /// The build fails, and these keys show why.
+    Keys(Shown),
+    /// The build of a trie fails though no key is at fault: `CapacityExceeded` or
+    /// `CouldNotSolvePerfectHash`.
+    Refused(ZeroTrieBuildError),
+    /// The build of an index fails though no key is at fault: `Crowded` or `CapacityExceeded`.
+    IndexRefused(ZeroIndexBuildError),
+    /// An allocation failed.
+    OutOfMemory,
+}
+
+impl From<AllocError> for MakeError {
+    ghost from_gives = { λ _ e. e ≡ OutOfMemory };
+
+    fn from(_: AllocError) -> Self {
+        MakeError::OutOfMemory
+    }
+}
+
+impl From<ReadError> for MakeError {
+    ghost from_gives = { λ why e. IsOfReading why e };
+
+    fn from(why: ReadError) -> Self {
+        match why {
+            ReadError::Line(number, bad) => MakeError::Line(number, bad),
+            ReadError::OutOfMemory => MakeError::OutOfMemory,
+        }
+    }
+}
+
+/// Returns the number of the pair at this index: one that is given, or else one more.
+fn number_of(numbers: Option<&[usize]>, index: usize) -> usize
+    requires within { index < 2 ^ 60 }
+    requires numbers { IfSome numbers (λ numbers. index < length numbers.now) }
+    ensures { result ≡ number_of numbers.entry index }
+{
+    match numbers {
+        Some(numbers) => numbers[index],
+        None => index + 1,
+    }
+}
+
+/// Returns the key of an item, with the number of its pair.
+fn numbered(
+    alloc: Global,
+    numbers: Option<&[usize]>,
+    items: &[(&[u8], usize)],
+    index: usize,
+) -> Result<NumberedKey, AllocError>
+    requires within { index < length items.now }
+    requires numbers { IfSome numbers (λ numbers. length numbers.now ≡ length items.now) }
+    ensures { IfOk result (IsKeyAt (number_of numbers.entry) (pairs_of items.now) index) }
+{
+    let (key, _) = items[index];
+    Ok(NumberedKey {
+        number: number_of(numbers, index),
+        key: Vec::from_slice(alloc, key)?,
+    })
+}
+
+/// Returns the keys that show a refusal, with the numbers of their pairs.
+pub(crate) fn show(
+    alloc: Global,
+    numbers: Option<&[usize]>,
+    items: &[(&[u8], usize)],
+    refusal: Refusal,
+) -> Result<Shown, AllocError>
+    requires first { refusal.first < length items.now }
+    requires second { refusal.second < length items.now }
+    requires numbers { IfSome numbers (λ numbers. length numbers.now ≡ length items.now) }
+    ensures { IfOk result (Shows (number_of numbers.entry) (pairs_of items.now) refusal) }
+{
+    Ok(Shown {
+        first: numbered(alloc, numbers, items, refusal.first)?,
+        second: numbered(alloc, numbers, items, refusal.second)?,
+        error: refusal.error,
+    })
+}

@@ -1,0 +1,230 @@
+//! Makes the file of a trie or an index from the bytes of an input.
+
+ghost use Rattle.std.specs.Prelude.{◌≡◌, length, IfOk, IfErr, IfSome, Err};
+ghost use Rattle.zerotrie_any.specs.Tagged.{tagged};
+ghost use Rattle.zerotrie_core.specs.Kinds.{kind_of};
+ghost use Rattle.zerotrie_core.specs.Items.{pairs_of};
+ghost use Rattle.zerotrie_core.specs.Routes.{IsRefusal};
+ghost use Rattle.zerotrie_making.specs.Plans.{a_trie, an_index, content_of, route_of, IsFormOf};
+ghost use Rattle.zerotrie_making.specs.Made.{IsIndexed, IsBuiltAs, IsFile, IsFileOf, IsFileOfKept, IsRefusedAs, Explains, ExplainsOf, ExplainsKept};
+ghost use Rattle.zerotrie_making.specs.Kept.{number_in, number_of};
+
+use crate::duplicates::{Duplicates, Kept, firsts, lasts};
+use crate::error::{MakeError, show};
+use crate::input::{items_in, read_input};
+use crate::plan::{FileForm, FilePlan, Plan};
+use crate::tries::{bytes_of, index_bytes_of, kind_for, why_refused, why_unindexed};
+use std::alloc::{AllocError, Global};
+use zerotrie_core::{TrieKind, ZeroTrieBuildError};
+use zerotrie_index::ZeroIndexBuildError;
+use zerotrie_sealed::{seal, seal_index};
+
+/// Returns these bytes with the number of the kind in front.
+fn tag(kind: TrieKind, bytes: Vec<u8>) -> Result<Vec<u8>, AllocError>
+    ensures { IfOk result (λ file. file.items ≡ tagged (kind_of kind) bytes.items) }
+{
+    let mut file = bytes;
+    // a doubled capacity would be a second copy of the trie
+    file.reserve_exact(1)?;
+    file.insert(0, kind.tag())?;
+    Ok(file)
+}
+
+/// Returns the file of a trie or an index with these bytes, in this form.
+pub(crate) fn file_of(
+    alloc: Global,
+    form: FileForm,
+    kind: TrieKind,
+    bytes: Vec<u8>,
+) -> Result<Vec<u8>, AllocError>
+    ensures { IfOk result (λ file. IsFormOf form (kind_of kind) bytes.items file.items) }
+{
+    match form {
+        FileForm::Sealed => seal(alloc, kind, bytes.as_slice()),
+        FileForm::Tagged => tag(kind, bytes),
+        FileForm::Bare => Ok(bytes),
+        FileForm::Index => seal_index(alloc, bytes.as_slice()),
+    }
+}
+
+/// Explains an error of a build of a trie: with the keys that show it, if any do. Without numbers each
+/// pair has that of its place.
+fn explain(
+    alloc: Global,
+    kind: TrieKind,
+    sorted: bool,
+    numbers: Option<&[usize]>,
+    items: &[(&[u8], usize)],
+    error: ZeroTrieBuildError,
+) -> Result<MakeError, AllocError>
+    requires refusal { IsRefusal (route_of sorted) (kind_of kind) (pairs_of items.now) error }
+    requires numbers { IfSome numbers (λ numbers. length numbers.now ≡ length items.now) }
+    ensures { IfOk result (IsRefusedAs (a_trie (kind_of kind)) sorted (number_of numbers.entry)
+        (pairs_of items.now)) }
+{
+    if error == ZeroTrieBuildError::OutOfMemory {
+        return Ok(MakeError::OutOfMemory);
+    }
+    match why_refused(alloc, kind, sorted, items)? {
+        Some(refusal) => Ok(MakeError::Keys(show(alloc, numbers, items, refusal)?)),
+        None => Ok(MakeError::Refused(error)),
+    }
+}
+
+/// Builds a trie of the pairs, or explains why there is none.
+fn trie_of(
+    alloc: Global,
+    kind: TrieKind,
+    sorted: bool,
+    numbers: Option<&[usize]>,
+    items: &[(&[u8], usize)],
+) -> Result<Vec<u8>, MakeError>
+    requires { IfSome numbers (λ numbers. length numbers.now ≡ length items.now) }
+    ensures ok { IfOk result (λ bytes.
+        IsBuiltAs (a_trie (kind_of kind)) sorted (pairs_of items.now) bytes.items) }
+    ensures err { IfErr result (IsRefusedAs (a_trie (kind_of kind)) sorted (number_of numbers.entry)
+        (pairs_of items.now)) }
+{
+    match bytes_of(alloc, kind, sorted, items) {
+        Ok(bytes) => Ok(bytes),
+        Err(error) => Err(explain(alloc, kind, sorted, numbers, items, error)?),
+    }
+}
+
+/// Explains an error of a build of an index, as `explain` does of a trie.
+fn explain_index(
+    alloc: Global,
+    sorted: bool,
+    numbers: Option<&[usize]>,
+    items: &[(&[u8], usize)],
+    error: ZeroIndexBuildError,
+) -> Result<MakeError, AllocError>
+    requires refusal { IsIndexed sorted (λ bytes. bytes) (pairs_of items.now) (Err error) }
+    requires numbers { IfSome numbers (λ numbers. length numbers.now ≡ length items.now) }
+    ensures { IfOk result (IsRefusedAs an_index sorted (number_of numbers.entry)
+        (pairs_of items.now)) }
+{
+    if error == ZeroIndexBuildError::OutOfMemory {
+        return Ok(MakeError::OutOfMemory);
+    }
+    match why_unindexed(alloc, sorted, items)? {
+        Some(refusal) => Ok(MakeError::Keys(show(alloc, numbers, items, refusal)?)),
+        None => Ok(MakeError::IndexRefused(error)),
+    }
+}
+
+/// Builds an index of the pairs, or explains why there is none.
+fn index_of(
+    alloc: Global,
+    sorted: bool,
+    numbers: Option<&[usize]>,
+    items: &[(&[u8], usize)],
+) -> Result<Vec<u8>, MakeError>
+    requires { IfSome numbers (λ numbers. length numbers.now ≡ length items.now) }
+    ensures ok { IfOk result (λ bytes. IsBuiltAs an_index sorted (pairs_of items.now) bytes.items) }
+    ensures err { IfErr result (IsRefusedAs an_index sorted (number_of numbers.entry)
+        (pairs_of items.now)) }
+{
+    match index_bytes_of(alloc, sorted, items) {
+        Ok(bytes) => Ok(bytes),
+        Err(error) => Err(explain_index(alloc, sorted, numbers, items, error)?),
+    }
+}
+
+/// Builds what a file of this form has: a trie of the kind, or an index.
+fn build_of(
+    alloc: Global,
+    form: FileForm,
+    kind: TrieKind,
+    sorted: bool,
+    numbers: Option<&[usize]>,
+    items: &[(&[u8], usize)],
+) -> Result<Vec<u8>, MakeError>
+    requires { IfSome numbers (λ numbers. length numbers.now ≡ length items.now) }
+    ensures ok { IfOk result (λ bytes.
+        IsBuiltAs (content_of form (kind_of kind)) sorted (pairs_of items.now) bytes.items) }
+    ensures err { IfErr result (IsRefusedAs (content_of form (kind_of kind)) sorted
+        (number_of numbers.entry) (pairs_of items.now)) }
+{
+    match form {
+        FileForm::Sealed | FileForm::Tagged | FileForm::Bare => {
+            trie_of(alloc, kind, sorted, numbers, items)
+        }
+        FileForm::Index => index_of(alloc, sorted, numbers, items),
+    }
+}
+
+/// Makes the file of the pairs.
+pub(crate) fn make_of(
+    alloc: Global,
+    plan: FilePlan,
+    numbers: Option<&[usize]>,
+    items: &[(&[u8], usize)],
+) -> Result<Vec<u8>, MakeError>
+    requires { IfSome numbers (λ numbers. length numbers.now ≡ length items.now) }
+    ensures ok { IfOk result (λ file. IsFileOf plan (pairs_of items.now) file.items) }
+    ensures err { IfErr result (λ e. ExplainsOf plan (number_of numbers.entry)
+        (pairs_of items.now) e) }
+{
+    let kind = kind_for(plan.kind, items);
+    let bytes = build_of(alloc, plan.form, kind, plan.sorted, numbers, items)?;
+    Ok(file_of(alloc, plan.form, kind, bytes)?)
+}
+
+/// Makes the file of pairs that are kept.
+fn make_kept(alloc: Global, plan: FilePlan, kept: Kept<'_>) -> Result<Vec<u8>, MakeError>
+    requires { length kept.numbers.items ≡ length kept.items.items }
+    ensures ok { IfOk result (λ file.
+        IsFileOf plan (pairs_of kept.entry.items.items) file.items) }
+    ensures err { IfErr result (λ e. ExplainsOf plan (number_in kept.entry.numbers.items)
+        (pairs_of kept.entry.items.items) e) }
+{
+    make_of(
+        alloc,
+        plan,
+        Some(kept.numbers.as_slice()),
+        kept.items.as_slice(),
+    )
+}
+
+/// Makes the file of those of the pairs that are kept.
+fn make_from(alloc: Global, plan: Plan, items: &[(&[u8], usize)]) -> Result<Vec<u8>, MakeError>
+    ensures ok { IfOk result (λ file. IsFileOfKept plan (pairs_of items.now) file.items) }
+    ensures err { IfErr result (λ e. ExplainsKept plan (pairs_of items.now) e) }
+{
+    match plan.read.duplicates {
+        Duplicates::Refuse => make_of(alloc, plan.file, None, items),
+        Duplicates::First => make_kept(alloc, plan.file, firsts(alloc, items)?),
+        Duplicates::Last => make_kept(alloc, plan.file, lasts(alloc, items)?),
+    }
+}
+
+/// Makes the file of the pairs of an input.
+///
+/// ```
+/// let read = ReadPlan {
+///     source: Source::Text(Format::Tsv, LineEnd::CrLf),
+///     lower_case: false,
+///     duplicates: Duplicates::Refuse,
+/// };
+/// let file = FilePlan { kind: None, sorted: false, form: FileForm::Tagged };
+/// let input = Vec::from_slice(rt.alloc(), b"adef\t33\nad\t22\n")?;
+/// let file = make(rt.alloc(), Plan { read, file }, input).map_err(|_| "refused")?;
+/// assert_eq!(rt; file.as_slice(), b"\x00ad\x90\x06ef\x90\x11".as_slice());
+/// ```
+///
+/// It takes the input. If keys must be copied from it, it is freed before the build. The error is
+/// `Line`, `NotJson`, `NotPairs` or `NotPair` if the input is no pairs, `Keys` if keys show why a
+/// build of the pairs fails, `Refused` or `IndexRefused` if it fails and none do, and `OutOfMemory`.
+pub fn make(alloc: Global, plan: Plan, input: Vec<u8>) -> Result<Vec<u8>, MakeError>
+    ensures ok { IfOk result (λ file. IsFile plan input.items file.items) }
+    ensures err { IfErr result (λ e. Explains plan input.items e) }
+{
+    if let Some(items) = items_in(alloc, plan.read, input.as_slice())? {
+        return make_from(alloc, plan, items.as_slice());
+    }
+    let table = read_input(alloc, plan.read, input.as_slice())?;
+    drop(input);
+    let items = table.items(alloc)?;
+    make_from(alloc, plan, items.as_slice())
+}

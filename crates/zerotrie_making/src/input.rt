@@ -1,0 +1,47 @@
+//! The pairs that an input is.
+
+ghost use Rattle.std.specs.Prelude.{◌≡◌, IfOk, IfErr, IfSome};
+ghost use Rattle.zerotrie_lines.specs.Tables.{Pairs, pairs_of, lowered};
+ghost use Rattle.zerotrie_making.specs.Sources.{IsPairs, NoPairs};
+
+use crate::error::MakeError;
+use crate::json_pairs::read_json;
+use crate::plan::{ReadPlan, Source};
+use std::alloc::{AllocError, Global};
+use zerotrie_lines::{Table, read_items, read_pairs};
+
+/// Reads the pairs of an input, in their order, whose keys borrow it. `None` if `read_input` has to
+/// copy them.
+pub(crate) fn items_in(
+    alloc: Global,
+    read: ReadPlan,
+    input: &[u8],
+) -> Result<Option<Vec<(&[u8], usize)>>, AllocError>
+    ensures { IfOk result (λ items. IfSome items (λ items. (pairs : Pairs)
+        × IsPairs read.source input.now pairs
+        × (pairs_of items.items ≡ lowered read.lower_case pairs))) }
+{
+    match read.source {
+        Source::Text(format, end) if !read.lower_case => read_items(alloc, format, end, input),
+        _ => Ok(None),
+    }
+}
+
+/// Reads the pairs of an input, in their order. If the plan says so, the ASCII letters of their keys
+/// become lower case.
+pub(crate) fn read_input(alloc: Global, read: ReadPlan, input: &[u8]) -> Result<Table, MakeError>
+    ensures ok { IfOk result (λ table. (pairs : Pairs) × IsPairs read.source input.now pairs
+        × (table ≡ lowered read.lower_case pairs)) }
+    ensures err { IfErr result (λ e. NoPairs read.source input.now e) }
+{
+    match read.source {
+        Source::Text(format, end) => Ok(read_pairs(alloc, format, end, read.lower_case, input)?),
+        Source::Json => {
+            let mut table = read_json(alloc, input)?;
+            if read.lower_case {
+                table.lower_case();
+            }
+            Ok(table)
+        }
+    }
+}

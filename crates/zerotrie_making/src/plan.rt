@@ -1,0 +1,61 @@
+//! How the file of a trie or an index is made.
+
+use crate::duplicates::Duplicates;
+use zerotrie_core::TrieKind;
+use zerotrie_lines::{Format, LineEnd};
+
+/// How an input is pairs.
+#[derive(Clone, Copy, PartialEq, Eq, Debug)]
+pub enum Source {
+    /// Lines or records, one a pair, with what ends them.
+    Text(Format, LineEnd),
+    /// A JSON value: an object from keys to numbers, or a list of pairs. A pair is a list of two, a
+    /// key and a number, and a key is a text or a list of bytes. The pairs are in the order of the
+    /// text; a name that comes twice is a key that two pairs have.
+    Json,
+}
+
+/// What a file has: a trie, with what is beside its bytes, or an index.
+#[derive(Clone, Copy, PartialEq, Eq, Debug)]
+pub enum FileForm {
+    /// A trie with a header in front, which has the kind, the length and a checksum.
+    Sealed,
+    /// A trie with the number of its kind in front.
+    Tagged,
+    /// A trie alone.
+    Bare,
+    /// An index for exact look-ups, which has no kind, with such a header in front.
+    Index,
+}
+
+/// How the pairs of an input are read.
+#[derive(Clone, Copy, PartialEq, Eq, Debug)]
+pub struct ReadPlan {
+    /// How the input is pairs.
+    pub source: Source,
+    /// Whether the ASCII letters of the keys become lower case.
+    pub lower_case: bool,
+    /// What is done with pairs that have one key.
+    pub duplicates: Duplicates,
+}
+
+/// What file is made of pairs.
+#[derive(Clone, Copy, PartialEq, Eq, Debug)]
+pub struct FilePlan {
+    /// The kind of the trie. If `None`, it is `Simple` if all keys are ASCII and there are fewer
+    /// than `TrieKind::SIMPLE_LIMIT`, and else `Hash`. An index has none.
+    pub kind: Option<TrieKind>,
+    /// Whether the keys must ascend strictly by their bytes. Else they may have any order.
+    pub sorted: bool,
+    /// What the file has.
+    pub form: FileForm,
+}
+
+/// How a file is made of the pairs of an input.
+#[derive(Clone, Copy, PartialEq, Eq, Debug)]
+pub struct Plan {
+    /// How the pairs are read.
+    pub read: ReadPlan,
+    /// What file is made of them.
+    pub file: FilePlan,
+}

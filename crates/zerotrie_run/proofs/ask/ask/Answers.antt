@@ -1,0 +1,68 @@
+use Rattle.std.proofs.Common.{inr}
+use Rattle.std.proofs.lemmas.Result.{err_from_is_err_and}
+use Rattle.std.specs.Io.Buffered.{writer_contents}
+use Rattle.zerotrie_run.proofs.AskLemmas.{kept_content, same_answer, answer_in_part, same_part, is_not, ends_unanswered, reason_unanswered}
+use Rattle.zerotrie_run.proofs.ask.ask.Goals as goal
+
+pub returns-in-Ok-hand_on-clause-ok : goal.returns-in-Ok-hand_on-clause-ok
+returns-in-Ok-hand_on-clause-ok g c =
+    let contents = writer_contents g.W.Write.contents in
+    let remaining = g.R.Read.remaining in
+    let old = contents c.args.output.now.inner in
+    let now = contents c.answer_held.new.output.inner in
+    let answered = c.in_ok-all.ensures.ok in
+    let kept = kept_content answered.0 c.args.question (remaining c.read_place.new.input.inner) old now (contents c.hand_on.new.self.inner) c.in_ok-all.all answered.2 c.hand_on.ensures.bytes in
+    record {
+      held = c.as_slice-held.result.now;
+      read = rw c.as_slice-held.ensures.value c.in-Ok.ensures.read;
+      content = answered.0;
+      opens = answered.1;
+      answers = same_answer c.args.file.place remaining c.args.input.now c.read_place.new.input answered.0 c.args.question old (contents c.hand_on.new.self.inner) c.in_ok-all.all
+          (λ both. is_not c.reads_twice.result c.if-reads_twice.false (c.reads_twice.ensures.1 both)) c.read_place.ensures.untouched kept;
+    }
+
+pub returns-in-Ok-hand_on-clause-quiet : goal.returns-in-Ok-hand_on-clause-quiet
+returns-in-Ok-hand_on-clause-quiet g c = λ none.
+    c.tell_number.ensures.quiet (λ both. none (c.as_slice-held.result.now, rw c.as_slice-held.ensures.value c.in-Ok.ensures.read, both))
+
+pub returns-clause-quiet : goal.returns-clause-quiet
+returns-clause-quiet g c = λ none.
+    c.tell_number.ensures.quiet (λ both. none (c.as_slice-held.result.now, rw c.as_slice-held.ensures.value c.in-Ok.ensures.read, both))
+
+pub returns-clause-err : goal.returns-clause-err
+returns-clause-err g c =
+    let contents = writer_contents g.W.Write.contents in
+    let remaining = g.R.Read.remaining in
+    let old = contents c.args.output.now.inner in
+    let answered = c.in_ok-all.ensures.ok in
+    let kept = kept_content answered.0 c.args.question (remaining c.read_place.new.input.inner) old (contents c.answer_held.new.output.inner) (contents c.hand_on.new.self.inner) c.in_ok-all.all answered.2 c.hand_on.ensures.bytes in
+    inr (record {
+      held = c.as_slice-held.result.now;
+      read = rw c.as_slice-held.ensures.value c.in-Ok.ensures.read;
+      content = answered.0;
+      opens = answered.1;
+      begun = same_part c.args.file.place remaining c.args.input.now c.read_place.new.input answered.0 c.args.question old (contents c.hand_on.new.self.inner)
+          (λ both. is_not c.reads_twice.result c.if-reads_twice.false (c.reads_twice.ensures.1 both)) c.read_place.ensures.untouched
+          (answer_in_part answered.0 c.args.question (remaining c.read_place.new.input.inner) old (contents c.hand_on.new.self.inner) c.in_ok-all.all kept);
+    })
+
+pub returns-in_err-all-clause-err : goal.returns-in_err-all-clause-err
+returns-in_err-all-clause-err g c =
+    let contents = writer_contents g.W.Write.contents in
+    let remaining = g.R.Read.remaining in
+    let old = contents c.args.output.now.inner in
+    let new = contents c.answer_held.new.output.inner in
+    let same = err_from_is_err_and c.from_residual.result c.from_residual.ensures.1 in
+    rw (same.1, same.2) (ends_unanswered c.args.file c.args.question (remaining c.args.input.now.inner) (remaining c.read_place.new.input.inner) (g.D.Disk.story c.args.files.now.disk) c.as_slice-held.result.now old new
+    c.in_err-all.field-0.0 (rw c.as_slice-held.ensures.value c.in-Ok.ensures.read)
+    (λ x h. same_part c.args.file.place remaining c.args.input.now c.read_place.new.input x c.args.question old new
+    (λ both. is_not c.reads_twice.result c.if-reads_twice.false (c.reads_twice.ensures.1 both)) c.read_place.ensures.untouched h)
+    c.in_err-all.ensures.err)
+
+pub returns-in_err-all-clause-why : goal.returns-in_err-all-clause-why
+returns-in_err-all-clause-why g c =
+    let contents = writer_contents g.W.Write.contents in
+    let remaining = g.R.Read.remaining in
+    let same = err_from_is_err_and c.from_residual.result c.from_residual.ensures.1 in
+    rw (same.1, same.2) (reason_unanswered c.args.file c.args.question (remaining c.args.input.now.inner) (remaining c.read_place.new.input.inner) (g.D.Disk.story c.args.files.now.disk) c.as_slice-held.result.now
+    (contents c.args.output.now.inner) (contents c.answer_held.new.output.inner) c.in_err-all.field-0.0 (rw c.as_slice-held.ensures.value c.in-Ok.ensures.read) c.in_err-all.ensures.err)

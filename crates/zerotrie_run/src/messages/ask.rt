@@ -1,0 +1,255 @@
+//! Messages on a file that is asked.
+
+ghost use Rattle.std.specs.Prelude.{◌≡◌, List, ℕ, true, false, IfOk, IfSome, IfNone, OnOk, codes};
+ghost use Rattle.std.specs.Io.KnownBytes.{Appends};
+ghost use Rattle.zerotrie_core.specs.Faults.{rule_text};
+ghost use Rattle.zerotrie_run.specs.Messages.{BeginsWithNoDigit, IsLine, IsLineOn, Names, Says, TellsAsk, TellsNoTrie, source_name, told_key};
+ghost use Rattle.zerotrie_run.specs.Runs.{HasNumberToo};
+ghost use Rattle.zerotrie_run.specs.Told.{LineTold, TellsMore};
+
+use crate::ask::AskError;
+use crate::command::{Question, TrieFile};
+use crate::messages::key::add_key;
+use crate::messages::line::{
+    STANDARD_INPUT, STANDARD_OUTPUT, add, add_kind, add_number, add_words, begin_line, end_line,
+    fault_on, line_on, source_name, tell, unwritten,
+};
+use crate::stdin_lines::AnswerError;
+use std::alloc::{AllocError, Global};
+use std::io::Write;
+use zerotrie_any::TagError;
+use zerotrie_core::{Fault, TrieKind};
+use zerotrie_files::Noted;
+use zerotrie_queries::{OpenError, of_tagged};
+use zerotrie_sealed::{INDEX_NUMBER, SealError};
+
+const TWO_INPUTS: &str = "zerotrie: standard input can't be both the file and the keys";
+
+/// Returns what the places in a file are counted from.
+fn counted_from(file: TrieFile<'_>) -> &'static str
+    ensures { BeginsWithNoDigit result.now }
+{
+    match file.bare {
+        Some(_) => " of the file",
+        None => " of the trie in it",
+    }
+}
+
+/// Returns a line on the first fault in the bytes of a file.
+#[tactic(auto, using(crate::proofs::MessageLemmas::extends_both, crate::proofs::MessageLemmas::line_here, crate::proofs::MessageLemmas::names_on, crate::proofs::MessageLemmas::says_here, crate::proofs::MessageLemmas::says_on))]
+fn malformed(
+    alloc: Global,
+    file: TrieFile<'_>,
+    kind: TrieKind,
+    fault: Fault,
+) -> Result<Vec<u8>, AllocError>
+    ensures line { IfOk result (λ text. IsLineOn (source_name file.entry.place) text.items) }
+    ensures says { IfOk result (λ text. Says text.items (rule_text fault.cause)) }
+    ensures names { IfOk result (λ text. Names (codes "byte") text.items fault.place) }
+{
+    let mut text = begin_line(alloc, source_name(file.place))?;
+    add_kind(&mut text, "no trie of kind ", kind)?;
+    add_words(&mut text, fault.cause.text())?;
+    add(&mut text, ", at ")?;
+    add_number(&mut text, "byte", fault.place, counted_from(file))?;
+    end_line(&mut text)?;
+    Ok(text)
+}
+
+/// Returns a line that says why the kind of a file is not known: it looks like text, or has no kind.
+fn no_kind(alloc: Global, place: &str, why: &TagError, is_text: bool) -> Result<Vec<u8>, AllocError>
+    ensures line { IfOk result (λ text. IsLineOn place.now text.items) }
+    ensures says { IfOk result (λ text. is_text ≡ true
+        → Says text.items (codes "it looks like text: build it first")) }
+{
+    if is_text {
+        return line_on(alloc, place, "it looks like text: build it first");
+    }
+    match why {
+        TagError::Empty => line_on(alloc, place, "the file is empty"),
+        TagError::InvalidTag => line_on(
+            alloc,
+            place,
+            "no file of zerotrie build: no kind has the number that the file begins with; if it is bare bytes, name their kind by --bare",
+        ),
+    }
+}
+
+/// Returns a line that says that a sealed file is damaged, or holds an index.
+fn damaged(alloc: Global, place: &str, why: SealError) -> Result<Vec<u8>, AllocError>
+    ensures { IfOk result (λ text. IsLineOn place.now text.items) }
+{
+    if why == SealError::UnknownKind(INDEX_NUMBER) {
+        return line_on(
+            alloc,
+            place,
+            "it holds an index, which answers get and verify alone",
+        );
+    }
+    let words = format!(in alloc; "{why}")?;
+    line_on(alloc, place, words.as_str())
+}
+
+/// Returns a line that says why a file has no trie.
+pub fn no_trie(
+    alloc: Global,
+    file: TrieFile<'_>,
+    why: &OpenError,
+    is_text: bool,
+) -> Result<Vec<u8>, AllocError>
+    ensures line { IfOk result (λ text. IsLineOn (source_name file.entry.place) text.items) }
+    ensures tells { IfOk result (λ text. TellsNoTrie why.now is_text text.items) }
+{
+    let path = source_name(file.place);
+    match why {
+        OpenError::BadTag(why) => no_kind(alloc, path, why, is_text),
+        OpenError::Damaged(why) => damaged(alloc, path, *why),
+        OpenError::NotWellFormed(kind, fault) => malformed(alloc, file, *kind, *fault),
+        OpenError::OutOfMemory => line_on(alloc, path, "out of memory"),
+    }
+}
+
+/// Returns the kind whose number a file begins with, if it is read as bare bytes of a kind that was
+/// named.
+fn number_too(file: TrieFile<'_>, held: &[u8]) -> Option<TrieKind>
+    ensures some { IfSome result (λ _. HasNumberToo file.entry.bare held.now) }
+    ensures none { IfNone result (HasNumberToo file.entry.bare held.now → ⊥) }
+{
+    file.bare?;
+    let trie = of_tagged(held).ok()?;
+    Some(trie.kind)
+}
+
+/// Returns a warning if a file that is read as bare bytes begins with the number of a kind. Most often
+/// its kind was named again as for its build, and the number is read as the first byte of every key.
+fn note_on_number(
+    alloc: Global,
+    file: TrieFile<'_>,
+    held: &[u8],
+) -> Result<Option<Vec<u8>>, AllocError>
+    ensures some { IfOk result (λ note. IfSome note (λ text.
+        IsLineOn (source_name file.entry.place) text.items)) }
+    ensures why { IfOk result (λ note. IfSome note (λ _. HasNumberToo file.entry.bare held.now)) }
+    ensures none { IfOk result (λ note. IfNone note (HasNumberToo file.entry.bare held.now → ⊥)) }
+{
+    let Some(kind) = number_too(file, held) else {
+        return Ok(None);
+    };
+    let mut text = begin_line(alloc, source_name(file.place))?;
+    add_kind(
+        &mut text,
+        "read as bare bytes, though its first byte is the number of kind ",
+        kind,
+    )?;
+    add(
+        &mut text,
+        "leave out --bare unless every key begins with that byte",
+    )?;
+    end_line(&mut text)?;
+    Ok(Some(text))
+}
+
+/// Warns if a file that is read as bare bytes begins with the number of a kind. It fails only if it
+/// is out of memory.
+pub fn tell_number<M: Write>(
+    alloc: Global,
+    messages: &mut Noted<M>,
+    file: TrieFile<'_>,
+    held: &[u8],
+) -> Result<(), AllocError>
+    ensures quiet { (HasNumberToo file.entry.bare held.now → ⊥) → messages.new ≡ messages.old }
+    ensures tells { messages.new.failed ≡ false → (messages.old.failed ≡ false)
+        × TellsMore (M.contents messages.old.inner) (M.contents messages.new.inner) }
+    ensures notes { OnOk result (messages.new.failed ≡ false
+        → HasNumberToo file.entry.bare held.now → (text : List ℕ)
+        × IsLineOn (source_name file.entry.place) text
+        × Appends (M.contents messages.old.inner) (M.contents messages.new.inner) text) }
+{
+    match note_on_number(alloc, file, held)? {
+        Some(note) => {
+            tell(messages, note.as_slice());
+            Ok(())
+        }
+        None => Ok(()),
+    }
+}
+
+/// Says that standard input can't be both the file and the keys. Takes no memory.
+pub fn tell_two_inputs<M: Write>(messages: &mut Noted<M>)
+    ensures { messages.new.failed ≡ false → (messages.old.failed ≡ false)
+        × LineTold (M.contents messages.old.inner) (M.contents messages.new.inner) }
+{
+    let words = TWO_INPUTS.as_bytes();
+    tell(messages, words);
+    tell(messages, b"\n");
+}
+
+/// Returns a line that says that standard input can't be both the file and the keys.
+fn two_inputs(alloc: Global) -> Result<Vec<u8>, AllocError>
+    ensures { IfOk result (λ text. IsLine text.items) }
+{
+    let mut text = Vec::new(alloc);
+    add(&mut text, TWO_INPUTS)?;
+    end_line(&mut text)?;
+    Ok(text)
+}
+
+/// Returns a line that says that pairs can't be one JSON value, with the key that shows it.
+#[tactic(auto, using(crate::proofs::MessageLemmas::extends_both, crate::proofs::MessageLemmas::line_here, crate::proofs::MessageLemmas::says_on))]
+fn not_text(alloc: Global, place: &str, key: &[u8]) -> Result<Vec<u8>, AllocError>
+    ensures line { IfOk result (λ text. IsLineOn place.now text.items) }
+    ensures says { IfOk result (λ text. Says text.items (told_key key.now)) }
+{
+    let mut text = begin_line(alloc, place)?;
+    add(&mut text, "a key is not UTF-8, so take --format jsonl: ")?;
+    add_key(&mut text, key)?;
+    end_line(&mut text)?;
+    Ok(text)
+}
+
+/// Returns a line that says why a question has no answer.
+pub fn ask_text(alloc: Global, file: TrieFile<'_>, error: &AskError) -> Result<Vec<u8>, AllocError>
+    ensures { IfOk result (λ text. TellsAsk file.entry.place error.now text.items) }
+{
+    let path = source_name(file.place);
+    match error {
+        AskError::TwoInputs => two_inputs(alloc),
+        AskError::Unread(error) => fault_on(alloc, path, error),
+        AskError::NoTrie(why, is_text) => no_trie(alloc, file, why, *is_text),
+        AskError::NotText(key) => not_text(alloc, path, key.as_slice()),
+        AskError::Unanswered(AnswerError::Input(error)) => fault_on(alloc, STANDARD_INPUT, error),
+        AskError::Unanswered(AnswerError::Output(error)) => unwritten(
+            alloc,
+            STANDARD_OUTPUT,
+            error,
+        ),
+    }
+}
+
+/// Returns whether a file that is tested in full holds an index. Only one that is malformed is an
+/// error of the test.
+fn is_index(question: Question<'_>, why: SealError) -> bool {
+    match question {
+        Question::Verify => why == SealError::UnknownKind(INDEX_NUMBER),
+        _ => false,
+    }
+}
+
+/// Returns a line that says why this question has no answer.
+pub fn question_text(
+    alloc: Global,
+    file: TrieFile<'_>,
+    question: Question<'_>,
+    error: &AskError,
+) -> Result<Vec<u8>, AllocError>
+    ensures { IfOk result (λ text. TellsAsk file.entry.place error.now text.items) }
+{
+    match error {
+        AskError::NoTrie(OpenError::Damaged(why), _) if is_index(question, *why) => line_on(
+            alloc,
+            source_name(file.place),
+            "the index in it is malformed",
+        ),
+        _ => ask_text(alloc, file, error),
+    }
+}

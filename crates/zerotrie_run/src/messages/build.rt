@@ -1,0 +1,133 @@
+//! Messages on a file that is made.
+
+ghost use Rattle.std.specs.Prelude.{◌≡◌, IfOk, OnOk};
+ghost use Rattle.zerotrie_run.specs.Messages.{Extends, IsLineOn, TellsBuild, TellsMade, source_name, target_name, unit_of};
+ghost use Rattle.zerotrie_run.specs.Told.{told_step};
+
+use crate::build::BuildError;
+use crate::command::Build;
+use crate::messages::line::{
+    add, begin_line, end_line, fault_on, line_on, source_name, target_name, unwritten,
+};
+use crate::messages::pairs::{PairUnit, add_bad_line, add_no_pair, add_not_json, add_shown};
+use std::alloc::{AllocError, Global};
+use std::io::Write;
+use zerotrie_core::ZeroTrieBuildError;
+use zerotrie_index::ZeroIndexBuildError;
+use zerotrie_making::MakeError;
+
+/// Returns why the build of a trie fails though no key is at fault.
+fn refused(error: &ZeroTrieBuildError) -> &'static str {
+    match error {
+        ZeroTrieBuildError::CapacityExceeded => {
+            "the trie would be too long for its kind: take --kind ext, or fewer pairs"
+        }
+        ZeroTrieBuildError::CouldNotSolvePerfectHash => {
+            "no hashed table was found for the bytes that keys go on with at some place, as happens if these are random: take --kind simple if all keys are ASCII, or other keys, as their hexadecimal digits"
+        }
+        _ => "the build of the pairs is refused",
+    }
+}
+
+/// Returns why the build of an index fails though no key is at fault.
+fn index_refused(error: &ZeroIndexBuildError) -> &'static str {
+    match error {
+        ZeroIndexBuildError::CapacityExceeded => {
+            "the pairs of the index would have 4 GiB or more: leave out --index, or take fewer pairs"
+        }
+        ZeroIndexBuildError::Crowded => {
+            "more than 16 keys share a bucket of the index, whichever of 8 seeds is taken, as happens if they are chosen for that: leave out --index, or take other keys"
+        }
+        _ => "the build of the pairs is refused",
+    }
+}
+
+/// Adds why no file is made.
+fn add_refusal(text: &mut Vec<u8>, unit: PairUnit, error: &MakeError) -> Result<(), AllocError>
+    ensures tells { OnOk result (TellsMade unit error.now text.new.items) }
+    ensures adds { OnOk result (Extends text.old.items text.new.items) }
+{
+    match error {
+        MakeError::Line(number, bad) => add_bad_line(text, unit, *number, bad),
+        MakeError::NotJson(line, column) => add_not_json(text, *line, *column),
+        MakeError::NotPairs => add(text, "neither an object nor a list"),
+        MakeError::NotPair(bad) => add_no_pair(text, bad),
+        MakeError::Keys(shown) => add_shown(text, unit.word(), shown),
+        MakeError::Refused(error) => add(text, refused(error)),
+        MakeError::IndexRefused(error) => add(text, index_refused(error)),
+        MakeError::OutOfMemory => add(text, "out of memory"),
+    }
+}
+
+/// Returns a line that says why no file is made.
+#[tactic(auto, using(crate::proofs::MessageLemmas::extends_both, crate::proofs::MessageLemmas::line_here, crate::proofs::MessageLemmas::made_on))]
+fn refusal(
+    alloc: Global,
+    place: &str,
+    unit: PairUnit,
+    error: &MakeError,
+) -> Result<Vec<u8>, AllocError>
+    ensures line { IfOk result (λ text. IsLineOn place.now text.items) }
+    ensures tells { IfOk result (λ text. TellsMade unit error.now text.items) }
+{
+    let mut text = begin_line(alloc, place)?;
+    add_refusal(&mut text, unit, error)?;
+    end_line(&mut text)?;
+    Ok(text)
+}
+
+/// Returns a line that says that a step of a build has ended, and how many bytes it read, made or
+/// wrote. It is empty if steps are not told.
+pub fn step_text(
+    alloc: Global,
+    is_told: bool,
+    place: &str,
+    step: &str,
+    len: usize,
+) -> Result<Vec<u8>, AllocError>
+    ensures { IfOk result (λ text. text.items ≡ told_step is_told place.now step.now len) }
+{
+    let mut text = Vec::new(alloc);
+    if is_told {
+        write!(text, "zerotrie: {place}: {step} {len} bytes\n").map_err(|_| AllocError)?;
+    }
+    Ok(text)
+}
+
+/// Returns a line that says why no file is made of pairs, or why it can't be written. The places are
+/// named.
+pub fn unbuilt(
+    alloc: Global,
+    from: &str,
+    unit: PairUnit,
+    to: &str,
+    error: &BuildError,
+) -> Result<Vec<u8>, AllocError>
+    ensures { IfOk result (λ text. TellsBuild from.now to.now unit error.now text.items) }
+{
+    match error {
+        BuildError::Unread(error) => fault_on(alloc, from, error),
+        BuildError::NotMade(error) => refusal(alloc, from, unit, error),
+        BuildError::Unwritten(error) => unwritten(alloc, to, error),
+        BuildError::Taken => line_on(
+            alloc,
+            to,
+            "the file is there already, and --no-clobber leaves it",
+        ),
+        BuildError::Unfound(error) => fault_on(alloc, to, error),
+    }
+}
+
+/// Returns a line that says why no file is made.
+pub fn build_text(
+    alloc: Global,
+    build: Build<'_>,
+    error: &BuildError,
+) -> Result<Vec<u8>, AllocError>
+    ensures { IfOk result (λ text. TellsBuild (source_name build.entry.from)
+        (target_name build.entry.to) (unit_of build.entry.plan.read.source) error.now text.items) }
+{
+    let from = source_name(build.from);
+    let unit = PairUnit::of(build.plan.read.source);
+    unbuilt(alloc, from, unit, target_name(build.to), error)
+}

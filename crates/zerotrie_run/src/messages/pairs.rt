@@ -1,0 +1,256 @@
+//! What messages say of pairs that make no file.
+
+ghost use Rattle.std.specs.Prelude.{◌≡◌, OnOk, codes};
+ghost use Rattle.zerotrie_run.specs.Messages.{BeginsWithNoDigit, Extends, Names, NamesBoth, NamesPairs, Says, SaysField, SaysKeys, TellsNoPair, told_key, unit_of, unit_word};
+
+use crate::messages::key::{add_front, add_key};
+use crate::messages::line::{add, add_first_number, add_number};
+use std::alloc::AllocError;
+use zerotrie_core::ZeroTrieBuildError;
+use zerotrie_lines::{BadLine, Format, ValueFault};
+use zerotrie_making::{NoPair, Shown, Source};
+
+/// What holds one pair.
+#[derive(Clone, Copy, PartialEq, Eq, Debug)]
+pub enum PairUnit {
+    /// A line.
+    Line,
+    /// A record of comma-separated fields.
+    Record,
+    /// A member or an item of a JSON value, or a pair that is in no input.
+    Pair,
+}
+
+impl PairUnit {
+    /// Returns what holds one pair of a source.
+    pub fn of(source: Source) -> Self
+        ensures { result ≡ unit_of source }
+    {
+        match source {
+            Source::Text(Format::Csv, _) => PairUnit::Record,
+            Source::Text(Format::Tsv | Format::TsvRaw | Format::Lines, _) => PairUnit::Line,
+            Source::Json => PairUnit::Pair,
+        }
+    }
+
+    /// Returns the word before its number in messages.
+    pub fn word(self) -> &'static str
+        ensures { result.now ≡ unit_word self }
+    {
+        match self {
+            PairUnit::Line => "line",
+            PairUnit::Record => "record",
+            PairUnit::Pair => "pair",
+        }
+    }
+}
+
+/// Returns whether the keys that show why are the same.
+fn are_same(shown: &Shown) -> bool {
+    shown.first.key.as_slice() == shown.second.key.as_slice()
+}
+
+/// Returns whether they are the same but for the case of letters.
+fn are_same_without_case(shown: &Shown) -> bool {
+    let key = shown.first.key.as_slice();
+    key.eq_ignore_ascii_case(shown.second.key.as_slice())
+}
+
+/// Adds the numbers of two pairs, and what is said of them.
+#[tactic(auto, using(crate::proofs::MessageLemmas::extends_both, crate::proofs::MessageLemmas::names_on))]
+fn add_both(text: &mut Vec<u8>, unit: &str, shown: &Shown, words: &str) -> Result<(), AllocError>
+    requires { BeginsWithNoDigit words.now }
+    ensures names { OnOk result (NamesBoth unit.now text.new.items
+        shown.now.first.number shown.now.second.number) }
+    ensures adds { OnOk result (Extends text.old.items text.new.items) }
+{
+    add_first_number(text, unit, shown.first.number)?;
+    add_number(text, "and", shown.second.number, words)
+}
+
+/// Adds why keys are refused together, and the numbers of their pairs.
+#[tactic(auto, using(crate::proofs::MessageLemmas::extends_both, crate::proofs::MessageLemmas::names_on))]
+fn add_reason(text: &mut Vec<u8>, unit: &str, shown: &Shown) -> Result<(), AllocError>
+    ensures names { OnOk result (NamesPairs unit.now shown.now text.new.items) }
+    ensures adds { OnOk result (Extends text.old.items text.new.items) }
+{
+    match &shown.error {
+        ZeroTrieBuildError::DuplicateKey | ZeroTrieBuildError::Unsorted if are_same(shown) => {
+            add_both(text, unit, shown, " have the same key: ")
+        }
+        ZeroTrieBuildError::Unsorted => {
+            add_number(
+                text,
+                unit,
+                shown.second.number,
+                ": its key is not above that of ",
+            )?;
+            add_number(
+                text,
+                unit,
+                shown.first.number,
+                "; sort the input by the bytes of its keys, or leave out --sorted: ",
+            )
+        }
+        ZeroTrieBuildError::NonAsciiError => add_number(
+            text,
+            unit,
+            shown.first.number,
+            ": its key is not ASCII; take --kind hash or --kind ext: ",
+        ),
+        _ if are_same_without_case(shown) => add_both(
+            text,
+            unit,
+            shown,
+            ": their keys differ only in case, so they are one key to the kind; leave one out: ",
+        ),
+        _ => add_both(
+            text,
+            unit,
+            shown,
+            ": their keys begin alike but for the case of a letter; --lower-case brings all keys into lower case: ",
+        ),
+    }
+}
+
+/// Adds a second key.
+#[tactic(auto, using(crate::proofs::MessageLemmas::extends_both))]
+fn add_next_key(text: &mut Vec<u8>, key: &[u8]) -> Result<(), AllocError>
+    ensures says { OnOk result (Says text.new.items (told_key key.now)) }
+    ensures adds { OnOk result (Extends text.old.items text.new.items) }
+{
+    add(text, " and ")?;
+    add_key(text, key)
+}
+
+/// Adds two keys.
+#[tactic(auto, using(crate::proofs::MessageLemmas::extends_both))]
+fn add_two_keys(text: &mut Vec<u8>, first: &[u8], second: &[u8]) -> Result<(), AllocError>
+    ensures first { OnOk result (Says text.new.items (told_key first.now)) }
+    ensures second { OnOk result (Says text.new.items (told_key second.now)) }
+    ensures adds { OnOk result (Extends text.old.items text.new.items) }
+{
+    add_key(text, first)?;
+    add_next_key(text, second)
+}
+
+/// Adds the keys that show it.
+#[tactic(auto, using(crate::proofs::MessageLemmas::extends_both, crate::proofs::MessageLemmas::says_on))]
+fn add_keys(text: &mut Vec<u8>, shown: &Shown) -> Result<(), AllocError>
+    ensures says { OnOk result (SaysKeys shown.now text.new.items) }
+    ensures adds { OnOk result (Extends text.old.items text.new.items) }
+{
+    let first = shown.first.key.as_slice();
+    let second = shown.second.key.as_slice();
+    match &shown.error {
+        ZeroTrieBuildError::DuplicateKey | ZeroTrieBuildError::NonAsciiError => {
+            add_key(text, first)
+        }
+        ZeroTrieBuildError::Unsorted => add_key(text, second),
+        _ => add_two_keys(text, first, second),
+    }
+}
+
+/// Returns what may help if this line or record is no pair.
+fn hint(unit: PairUnit, number: usize, bad: &BadLine) -> &'static str {
+    match (unit, bad) {
+        (_, BadLine::NoTab) => "; if the input has another form, name it by --format",
+        (PairUnit::Record, BadLine::Value(value))
+            if number == 1 && value.fault == ValueFault::Other => {
+            "; if it is a header, leave it out"
+        }
+        _ => "",
+    }
+}
+
+/// Adds bytes with their escapes, in quotes.
+#[tactic(auto, using(crate::proofs::MessageLemmas::extends_both))]
+fn add_quoted(text: &mut Vec<u8>, bytes: &[u8]) -> Result<(), AllocError>
+    ensures says { OnOk result (Says text.new.items (told_key bytes.now)) }
+    ensures adds { OnOk result (Extends text.old.items text.new.items) }
+{
+    add(text, ": \"")?;
+    add_front(text, bytes)?;
+    add(text, "\"")
+}
+
+/// Adds the field that is no value, in quotes, if it is one that is bad.
+#[tactic(auto, using(crate::proofs::MessageLemmas::extends_both, crate::proofs::MessageLemmas::says_on))]
+fn add_field(text: &mut Vec<u8>, bad: &BadLine) -> Result<(), AllocError>
+    ensures says { OnOk result (SaysField bad.now text.new.items) }
+    ensures adds { OnOk result (Extends text.old.items text.new.items) }
+{
+    match bad {
+        BadLine::Value(value) => add_quoted(text, value.front.as_slice()),
+        _ => Ok(()),
+    }
+}
+
+/// Adds where text is no JSON value.
+#[tactic(auto, using(crate::proofs::MessageLemmas::extends_both, crate::proofs::MessageLemmas::names_on))]
+pub fn add_not_json(text: &mut Vec<u8>, line: usize, column: usize) -> Result<(), AllocError>
+    ensures line { OnOk result (Names (codes "line") text.new.items line) }
+    ensures column { OnOk result (Names (codes "column") text.new.items column) }
+    ensures adds { OnOk result (Extends text.old.items text.new.items) }
+{
+    let hint = if line > 1 && column == 1 {
+        "; if each line is a value, make one of them by jq -s add"
+    } else {
+        ""
+    };
+    add_number(text, "line", line, ", ")?;
+    add_number(text, "column", column, ": no JSON value")?;
+    add(text, hint)
+}
+
+/// Adds which member or item of a JSON value is no pair.
+#[tactic(auto, using(crate::proofs::MessageLemmas::extends_both, crate::proofs::MessageLemmas::says_on))]
+pub fn add_no_pair(text: &mut Vec<u8>, bad: &NoPair) -> Result<(), AllocError>
+    ensures tells { OnOk result (TellsNoPair bad.now text.new.items) }
+    ensures adds { OnOk result (Extends text.old.items text.new.items) }
+{
+    match bad {
+        NoPair::Member(key) => {
+            add(
+                text,
+                "the value of this key is not written as a whole number below 2^64: ",
+            )?;
+            add_key(text, key.as_slice())
+        }
+        NoPair::Item(number) => add_number(
+            text,
+            "pair",
+            *number,
+            ": no list of a key and of a value that is written as a whole number below 2^64",
+        ),
+    }
+}
+
+/// Adds which line is no pair, and why.
+#[tactic(auto, using(crate::proofs::MessageLemmas::extends_both, crate::proofs::MessageLemmas::names_on, crate::proofs::MessageLemmas::field_on))]
+pub fn add_bad_line(
+    text: &mut Vec<u8>,
+    unit: PairUnit,
+    number: usize,
+    bad: &BadLine,
+) -> Result<(), AllocError>
+    ensures names { OnOk result (Names (unit_word unit) text.new.items number) }
+    ensures says { OnOk result (SaysField bad.now text.new.items) }
+    ensures adds { OnOk result (Extends text.old.items text.new.items) }
+{
+    add_number(text, unit.word(), number, ": ")?;
+    add(text, bad.text())?;
+    add_field(text, bad)?;
+    add(text, hint(unit, number, bad))
+}
+
+/// Adds the keys that show a refusal, and the numbers of their pairs.
+#[tactic(auto, using(crate::proofs::MessageLemmas::extends_both, crate::proofs::MessageLemmas::names_on))]
+pub fn add_shown(text: &mut Vec<u8>, unit: &str, shown: &Shown) -> Result<(), AllocError>
+    ensures names { OnOk result (NamesPairs unit.now shown.now text.new.items) }
+    ensures says { OnOk result (SaysKeys shown.now text.new.items) }
+    ensures adds { OnOk result (Extends text.old.items text.new.items) }
+{
+    add_reason(text, unit, shown)?;
+    add_keys(text, shown)
+}

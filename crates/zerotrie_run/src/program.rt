@@ -1,0 +1,171 @@
+//! The program over files and streams.
+
+ghost use Rattle.std.specs.Prelude.{◌≡◌, ◌<◌, ◌⊎◌, false, true, unwrap_or};
+ghost use Rattle.std.specs.Io.KnownBytes.{Appends};
+ghost use Rattle.std.specs.Io.Buffered.{writer_contents};
+ghost use Rattle.zerotrie_files.specs.Notes.{NothingFailed};
+ghost use Rattle.zerotrie_run.specs.Runs.{HandsOn, world};
+ghost use Rattle.zerotrie_run.specs.Failures.{ReadFailed, WasClosed, WriteFailed};
+ghost use Rattle.zerotrie_run.specs.Commands.{Runs, TellsNumber, ReadsTwice, LeavesInput, tells_steps};
+ghost use Rattle.zerotrie_run.specs.Statuses.{failure_of, number_of};
+ghost use Rattle.zerotrie_run.specs.Told.{IsTold, Notes, ended, last_text};
+ghost use Rattle.zerotrie_run.specs.declared.status.Status.TheVariants.{Done, Absent, BadUsage, Unread, Unwritten, Closed};
+
+use crate::ask::ask;
+use crate::build::build;
+use crate::combine::run_combine;
+use crate::command::{Command, reads_twice};
+use crate::diff::run_diff;
+use crate::messages::ask::{question_text, tell_two_inputs};
+use crate::messages::build::build_text;
+use crate::messages::line::{NO_MEMORY, tell};
+use crate::status::Status;
+use std::alloc::{AllocError, Global};
+use std::io::{BufWriter, Read, Write};
+use zerotrie_files::{Disk, Noted, Store};
+
+/// Returns how a run ends in which something failed: by the notes of the files and streams. If none of
+/// them failed, it is out of memory.
+fn failure<D: Disk, R: Read, W: Write + Drop>(
+    files: &Store<D>,
+    input: &Noted<R>,
+    output: &Noted<BufWriter<W>>,
+) -> Status
+    ensures { result ≡ failure_of input.now output.now files.now }
+{
+    if input.failed() || files.unread() {
+        Status::Unread
+    } else if output.failed() || files.unwritten() {
+        if output.closed() || files.closed() {
+            Status::Closed
+        } else {
+            Status::Unwritten
+        }
+    } else {
+        Status::OutOfMemory
+    }
+}
+
+/// Returns how a run ends that is refused so, or in which something failed.
+pub(crate) fn end_of<D: Disk, R: Read, W: Write + Drop>(
+    refusal: Option<Status>,
+    files: &Store<D>,
+    input: &Noted<R>,
+    output: &Noted<BufWriter<W>>,
+) -> Status
+    ensures { result ≡ unwrap_or refusal (failure_of input.now output.now files.now) }
+{
+    match refusal {
+        Some(status) => status,
+        None => failure(files, input, output),
+    }
+}
+
+/// Says why a run ends so, and returns how it ends: without memory for the message it is out of
+/// memory. Says nothing if whoever reads the output has closed it.
+pub(crate) fn end<M: Write>(
+    messages: &mut Noted<M>,
+    status: Status,
+    message: Result<Vec<u8>, AllocError>,
+) -> Status
+    ensures status { result ≡ ended status message }
+    ensures told { messages.new.failed ≡ false → (messages.old.failed ≡ false)
+        × ((result ≡ Closed) ⊎ Appends (M.contents messages.old.inner)
+        (M.contents messages.new.inner) (last_text message)) }
+{
+    match message {
+        Ok(text) => match status {
+            Status::Closed => status,
+            _ => {
+                tell(messages, text.as_slice());
+                status
+            }
+        },
+        Err(_) => {
+            tell(messages, NO_MEMORY);
+            Status::OutOfMemory
+        }
+    }
+}
+
+/// Runs a command, and returns how it ended. A message says what is wrong, after the name of the file
+/// or stream that it is about.
+///
+/// `Runs` defines what is printed and what files hold then, by the command, the files and the
+/// input. After a fault a beginning of it was printed, or nothing.
+///
+/// It ends in `Unread` only if a read of a file or of standard input failed, and in `Unwritten` or
+/// `Closed` only if a replacement of a file or a write to the output did: in `Closed` if it failed
+/// because the reader has closed the pipe. If nothing failed, it ends by itself or in `OutOfMemory`.
+/// If one of these did, its number is 3 or 4: otherwise nothing failed that the files and streams
+/// note. A message that can't be written changes nothing.
+///
+/// After success, or if a key is absent or pairs differ, the buffer is flushed if it was empty
+/// before. The only messages are then the steps of a build, if they were asked for, and a warning
+/// for a file that is read as bare bytes and begins with the number of a kind. If the file and the
+/// keys, or two files, are both standard input, the usage is bad. Standard input is not read unless
+/// the command needs it; keys are not read from it if nothing in the file answers.
+pub fn run<D: Disk, R: Read, W: Write + Drop, M: Write>(
+    alloc: Global,
+    command: Command<'_>,
+    files: &mut Store<D>,
+    input: &mut Noted<R>,
+    output: &mut Noted<BufWriter<W>>,
+    messages: &mut Noted<M>,
+) -> Status
+    ensures runs { Runs command.entry (R.remaining input.old.inner)
+        (world (D.story files.old.disk)
+        (writer_contents W.contents output.old.inner))
+        (world (D.story files.new.disk)
+        (writer_contents W.contents output.new.inner)) result }
+    ensures read_failed { result ≡ Unread → ReadFailed input.new files.new }
+    ensures write_failed { result ≡ Unwritten → WriteFailed output.new files.new }
+    ensures closed { result ≡ Closed → WriteFailed output.new files.new }
+    ensures pipe_closed { result ≡ Closed → WasClosed output.new files.new }
+    ensures not_closed { result ≡ Unwritten → WasClosed output.new files.new → ⊥ }
+    ensures failed { number_of result < 3
+        → NothingFailed input.old input.new output.old output.new files.old files.new }
+    ensures handed { (result ≡ Done) ⊎ (result ≡ Absent)
+        → HandsOn output.old.inner output.new.inner }
+    ensures told { messages.new.failed ≡ false
+        → IsTold command.entry (R.remaining input.old.inner) (D.story files.old.disk)
+        (M.contents messages.old.inner) (M.contents messages.new.inner) result }
+    ensures notes { (result ≡ Done) ⊎ (result ≡ Absent) → messages.new.failed ≡ false
+        → Notes command.entry (R.remaining input.old.inner) (D.story files.old.disk)
+        (M.contents messages.old.inner) (M.contents messages.new.inner) }
+    ensures quiet { tells_steps command.entry ≡ false
+        → (TellsNumber command.entry (R.remaining input.old.inner) (D.story files.old.disk) → ⊥)
+        → (result ≡ Done) ⊎ (result ≡ Absent) → messages.new ≡ messages.old }
+    ensures usage { ReadsTwice command.entry → result ≡ BadUsage }
+    ensures unread { LeavesInput command.entry result → input.new ≡ input.old }
+{
+    match command {
+        Command::Build(plan) => match build(alloc, plan, files, input, output, messages) {
+            Ok(()) => Status::Done,
+            Err(error) => {
+                let status = end_of(error.refusal(), files, input, output);
+                end(messages, status, build_text(alloc, plan, &error))
+            }
+        },
+        Command::Ask(file, question) => {
+            if reads_twice(file.place, question) {
+                tell_two_inputs(messages);
+                return Status::BadUsage;
+            }
+            match ask(alloc, file, question, files, input, output, messages) {
+                Ok(true) => Status::Done,
+                Ok(false) => Status::Absent,
+                Err(error) => {
+                    let status = end_of(error.refusal(), files, input, output);
+                    end(
+                        messages,
+                        status,
+                        question_text(alloc, file, question, &error),
+                    )
+                }
+            }
+        }
+        Command::Diff(diff) => run_diff(alloc, diff, files, input, output, messages),
+        Command::Combine(both) => run_combine(alloc, both, files, input, output, messages),
+    }
+}

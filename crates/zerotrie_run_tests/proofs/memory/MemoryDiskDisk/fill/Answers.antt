@@ -1,0 +1,16 @@
+use Rattle.std.proofs.Common.{reverse, ◌∙◌}
+use Rattle.zerotrie_files.specs.Disks.{SameBeside}
+use Rattle.zerotrie_run_tests.specs.declared.memory.Step.TheVariants.{Wrote}
+use Rattle.zerotrie_run_tests.specs.Steps.{files_after}
+use Rattle.zerotrie_run_tests.proofs.StepLemmas.{one_step, now_after, written}
+use Rattle.zerotrie_run_tests.proofs.memory.MemoryDiskDisk.fill.Goals as goal
+
+pub returns : goal.returns
+returns c =
+    let path = c.args.path.now in
+    let steps = c.args.self.now.steps.items in
+    let step = Wrote c.in_ok-name.name c.in_ok-content.content in
+    let old = files_after (reverse steps) in
+    let done = written c.in_ok-name.name c.in_ok-content.content path old c.in_ok-name.ensures.ok in
+    rw (c.in_ok-push.ensures.items, ← c.in_ok-content.ensures.items)
+    (one_step (SameBeside path old) steps step c.args.self.now.unremoved c.args.self.now.unremoved done.1, now_after steps step path ∙ done.0)
