@@ -1,0 +1,261 @@
+//! The face of the plain package.
+
+use crate::library::{Found, KINDS, Library, Move, Moved, Pair, Search, Status};
+use std::ops::Bound;
+use zerotrie::index::{ZeroIndex, ZeroIndexBuildError};
+use zerotrie::search::{Automaton, BeginsWith, Glob, GlobError, KeyRange, Levenshtein, LevenshteinChars, Subsequence};
+use zerotrie::{
+    FaultCause, SealError, TagError, ZeroAsciiIgnoreCaseTrie, ZeroTrieBuildError, ZeroTrieExtendedCapacity,
+    ZeroTriePerfectHash, ZeroTrieSimpleAscii,
+};
+
+pub struct Plain;
+
+/// Asks the type of a kind.
+macro_rules! of_kind {
+    ($kind:expr, $type:ident => $answer:expr) => {
+        match $kind {
+            0 => {
+                type $type<S> = ZeroTrieSimpleAscii<S>;
+                $answer
+            }
+            3 => {
+                type $type<S> = ZeroTriePerfectHash<S>;
+                $answer
+            }
+            7 => {
+                type $type<S> = ZeroTrieExtendedCapacity<S>;
+                $answer
+            }
+            _ => {
+                type $type<S> = ZeroAsciiIgnoreCaseTrie<S>;
+                $answer
+            }
+        }
+    };
+}
+
+/// Asks a trie of a kind over some bytes.
+macro_rules! ask {
+    ($kind:expr, $bytes:expr, $trie:ident => $answer:expr) => {
+        of_kind!($kind, Trie => { let $trie = Trie::<&[u8]>::from_store($bytes); $answer })
+    };
+}
+
+fn status(error: ZeroTrieBuildError) -> Status {
+    match error {
+        ZeroTrieBuildError::NonAsciiError => 1,
+        ZeroTrieBuildError::CapacityExceeded => 2,
+        ZeroTrieBuildError::CouldNotSolvePerfectHash => 3,
+        ZeroTrieBuildError::MixedCase => 4,
+        ZeroTrieBuildError::IllegalDelimiter => 5,
+        ZeroTrieBuildError::DuplicateKey => 6,
+        ZeroTrieBuildError::Unsorted => 7,
+        other => panic!("{other}"),
+    }
+}
+
+fn fault(cause: FaultCause) -> u32 {
+    match cause {
+        FaultCause::NoNode => 1,
+        FaultCause::NoSpans => 2,
+        FaultCause::UnexpectedEnd => 3,
+        FaultCause::ValueAfterValue => 4,
+        FaultCause::SpanAfterSpan => 5,
+        FaultCause::EmptySpan => 6,
+        FaultCause::AsciiInSpan => 7,
+        FaultCause::WrongTable => 8,
+        FaultCause::WrongWidth => 9,
+        FaultCause::WrongOffsets => 10,
+    }
+}
+
+/// Lists what an automaton accepts, or what begins with such a key.
+fn found<T: Automaton>(kind: u8, bytes: &[u8], prefix: &[u8], automaton: T, beginnings: bool) -> Found {
+    ask!(kind, bytes, trie => if beginnings {
+        trie.search_prefix(prefix, BeginsWith(automaton)).collect()
+    } else {
+        trie.search_prefix(prefix, automaton).collect()
+    })
+}
+
+fn tagged(bytes: &[u8]) -> Result<(u8, Vec<u8>), Status> {
+    for kind in KINDS {
+        match of_kind!(kind, Trie => Trie::try_from_tagged_bytes(bytes).map(|trie| trie.as_bytes().to_vec())) {
+            Ok(bytes) => return Ok((kind, bytes)),
+            Err(TagError::Empty) => return Err(13),
+            Err(TagError::InvalidTag) => {}
+        }
+    }
+    Err(14)
+}
+
+impl Library for Plain {
+    fn build(&self, kind: u8, pairs: &[Pair]) -> Result<Vec<u8>, Status> {
+        let pairs = pairs.iter().copied();
+        of_kind!(kind, Trie => Trie::try_from_iter(pairs).map(|trie| trie.into_store())).map_err(status)
+    }
+
+    fn build_sorted(&self, kind: u8, pairs: &[Pair]) -> Result<Vec<u8>, Status> {
+        of_kind!(kind, Trie => Trie::try_from_sorted_slice(pairs).map(|trie| trie.into_store())).map_err(status)
+    }
+
+    fn encoded_len(&self, kind: u8, pairs: &[Pair]) -> Result<usize, Status> {
+        of_kind!(kind, Trie => Trie::encoded_len(pairs)).map_err(status)
+    }
+
+    fn why_refused(&self, kind: u8, pairs: &[Pair]) -> Option<(Status, usize, usize)> {
+        let why = of_kind!(kind, Trie => Trie::<Vec<u8>>::why_iter_refused(pairs));
+        why.map(|why| (status(why.error), why.first, why.second))
+    }
+
+    fn get(&self, kind: u8, bytes: &[u8], key: &[u8]) -> Option<usize> {
+        ask!(kind, bytes, trie => {
+            let found = trie.get(key);
+            assert_eq!(trie.look_ups().get(key), found);
+            found
+        })
+    }
+
+    fn longest_prefix(&self, kind: u8, bytes: &[u8], text: &[u8]) -> Option<(usize, usize)> {
+        ask!(kind, bytes, trie => trie.longest_prefix(text))
+    }
+
+    fn longest_prefix_at(&self, kind: u8, bytes: &[u8], text: &[u8], delimiters: &[u8]) -> Option<(usize, usize)> {
+        ask!(kind, bytes, trie => trie.longest_prefix_at(text, delimiters))
+    }
+
+    fn common_prefixes(&self, kind: u8, bytes: &[u8], text: &[u8]) -> Vec<(usize, usize)> {
+        ask!(kind, bytes, trie => trie.common_prefixes(text).collect())
+    }
+
+    fn is_well_formed(&self, kind: u8, bytes: &[u8]) -> bool {
+        ask!(kind, bytes, trie => trie.is_well_formed())
+    }
+
+    fn first_fault(&self, kind: u8, bytes: &[u8]) -> Option<(u32, usize)> {
+        ask!(kind, bytes, trie => trie.first_fault()).map(|it| (fault(it.cause), it.place))
+    }
+
+    fn list(&self, kind: u8, bytes: &[u8], prefix: &[u8]) -> Found {
+        ask!(kind, bytes, trie => trie.stream_prefix(prefix).collect())
+    }
+
+    fn sorted(&self, kind: u8, bytes: &[u8], from: Bound<&[u8]>, to: Bound<&[u8]>) -> Found {
+        ask!(kind, bytes, trie => trie.stream_sorted((from, to)).take(bytes.len() + 1).collect())
+    }
+
+    fn search(&self, kind: u8, bytes: &[u8], prefix: &[u8], search: Search, beginnings: bool) -> Result<Found, Status> {
+        Ok(match search {
+            Search::Range(from, to) => found(kind, bytes, prefix, KeyRange { from, to }, beginnings),
+            Search::Glob(pattern) => {
+                let glob = Glob::new(pattern).map_err(|error| if error == GlobError::TooLong { 22 } else { 21u32 })?;
+                found(kind, bytes, prefix, glob, beginnings)
+            }
+            Search::Subsequence(letters) => found(kind, bytes, prefix, Subsequence(letters), beginnings),
+            Search::Edits(word, edits) => found(
+                kind,
+                bytes,
+                prefix,
+                Levenshtein::new(word, edits).ok_or(22u32)?,
+                beginnings,
+            ),
+            Search::CharEdits(word, edits) => {
+                let word = std::str::from_utf8(word).map_err(|_| 21u32)?;
+                found(
+                    kind,
+                    bytes,
+                    prefix,
+                    LevenshteinChars::new(word, edits).ok_or(22u32)?,
+                    beginnings,
+                )
+            }
+        })
+    }
+
+    fn walk(&self, kind: u8, bytes: &[u8], moves: &[Move]) -> Vec<Moved> {
+        // the functions for C have one cursor for all kinds
+        match kind {
+            3 | 7 => {
+                let mut cursor = match kind {
+                    3 => ZeroTriePerfectHash::from_store(bytes).into_zerotrie().into_cursor(),
+                    _ => ZeroTrieExtendedCapacity::from_store(bytes)
+                        .into_zerotrie()
+                        .into_cursor(),
+                };
+                let moved = |it: &Move| match *it {
+                    Move::Step(byte) => Moved::Edge(cursor.step(byte)),
+                    Move::Probe(index) => {
+                        Moved::Sibling(cursor.probe(index).map(|edge| (edge.byte, edge.total_siblings)))
+                    }
+                    Move::Take => Moved::Value(cursor.take_value()),
+                };
+                moves.iter().map(moved).collect()
+            }
+            8 => {
+                let mut cursor = ZeroAsciiIgnoreCaseTrie::from_store(bytes).into_cursor();
+                let moved = |it: &Move| match *it {
+                    Move::Step(byte) => Moved::Edge(cursor.step(byte)),
+                    Move::Probe(index) => Moved::Sibling(
+                        cursor
+                            .probe(index)
+                            .map(|edge| (edge.byte, u16::from(edge.total_siblings))),
+                    ),
+                    Move::Take => Moved::Value(cursor.take_value()),
+                };
+                moves.iter().map(moved).collect()
+            }
+            _ => {
+                let mut cursor = ZeroTrieSimpleAscii::from_store(bytes).into_cursor();
+                let moved = |it: &Move| match *it {
+                    Move::Step(byte) => {
+                        cursor.step(byte);
+                        Moved::Edge(None)
+                    }
+                    Move::Probe(index) => Moved::Sibling(
+                        cursor
+                            .probe(index)
+                            .map(|edge| (edge.byte, u16::from(edge.total_siblings))),
+                    ),
+                    Move::Take => Moved::Value(cursor.take_value()),
+                };
+                moves.iter().map(moved).collect()
+            }
+        }
+    }
+
+    fn seal(&self, kind: u8, bytes: &[u8]) -> Vec<u8> {
+        ask!(kind, bytes, trie => trie.seal())
+    }
+
+    fn open(&self, file: &[u8]) -> Result<(u8, Vec<u8>), Status> {
+        for kind in KINDS {
+            match of_kind!(kind, Trie => Trie::open(file).map(|trie| trie.as_bytes().to_vec())) {
+                Ok(bytes) => return Ok((kind, bytes)),
+                // that of C reads tagged bytes too
+                Err(SealError::NoMagic) => return tagged(file),
+                Err(SealError::UnknownVersion(_)) => return Err(19),
+                Err(_) => {}
+            }
+        }
+        Err(18)
+    }
+
+    fn index_build(&self, seed: u64, pairs: &[Pair]) -> Result<Vec<u8>, Status> {
+        ZeroIndex::try_from_seed(seed, pairs)
+            .map(|index| index.into_store())
+            .map_err(|error| match error {
+                ZeroIndexBuildError::DuplicateKey => 6,
+                ZeroIndexBuildError::Crowded => 23,
+                other => panic!("{other}"),
+            })
+    }
+
+    fn index_get(&self, bytes: &[u8], key: &[u8]) -> Option<usize> {
+        ZeroIndex::from_store(bytes).get(key)
+    }
+
+    fn index_is_valid(&self, bytes: &[u8]) -> bool {
+        ZeroIndex::from_store(bytes).is_well_formed()
+    }
+}

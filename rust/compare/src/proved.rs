@@ -1,0 +1,415 @@
+//! The proved library, by its functions for C.
+
+use crate::library::{Found, Library, Move, Moved, Pair, Search, Status};
+use std::ops::Bound;
+use std::ptr::null;
+
+#[repr(C)]
+struct Bytes(*const u8, usize);
+
+#[repr(C)]
+struct KeyAndValue(Bytes, usize);
+
+#[repr(C)]
+struct Cursor(usize, usize, usize);
+
+#[repr(C)]
+struct SearchBy {
+    by: u32,
+    edits: u32,
+    from_bound: u32,
+    to_bound: u32,
+    text: Bytes,
+    to: Bytes,
+    beginnings: bool,
+}
+
+#[rustfmt::skip]
+#[link(name = "zerotrie", kind = "static")]
+unsafe extern "C" {
+    fn zerotrie_build(kind: u32, pairs: *const KeyAndValue, count: usize, out: *mut u8, room: usize, len: &mut usize) -> u32;
+    fn zerotrie_build_sorted(kind: u32, pairs: *const KeyAndValue, count: usize, out: *mut u8, room: usize, len: &mut usize) -> u32;
+    fn zerotrie_build_bound(count: usize, key_bytes: usize) -> usize;
+    fn zerotrie_encoded_len(kind: u32, pairs: *const KeyAndValue, count: usize, len: &mut usize) -> u32;
+    fn zerotrie_why_refused(kind: u32, pairs: *const KeyAndValue, count: usize, first: &mut usize, second: &mut usize) -> u32;
+    fn zerotrie_get(kind: u32, bytes: *const u8, len: usize, key: *const u8, key_len: usize, value: &mut usize) -> bool;
+    fn zerotrie_longest_prefix(kind: u32, bytes: *const u8, len: usize, text: *const u8, text_len: usize, key_len: &mut usize, value: &mut usize) -> bool;
+    fn zerotrie_longest_prefix_at(kind: u32, bytes: *const u8, len: usize, text: *const u8, text_len: usize, delimiters: *const u8, delimiters_len: usize, key_len: &mut usize, value: &mut usize) -> bool;
+    fn zerotrie_common_prefixes(kind: u32, bytes: *const u8, len: usize, text: *const u8, text_len: usize, lens: *mut usize, lens_room: usize, values: *mut usize, values_room: usize) -> usize;
+    fn zerotrie_is_well_formed(kind: u32, bytes: *const u8, len: usize) -> bool;
+    fn zerotrie_first_fault(kind: u32, bytes: *const u8, len: usize, at: &mut usize) -> u32;
+    fn zerotrie_list(kind: u32, bytes: *const u8, len: usize, prefix: *const u8, prefix_len: usize, keys: *mut u8, keys_room: usize, ends: *mut usize, ends_room: usize, values: *mut usize, values_room: usize, key_bytes: &mut usize, count: &mut usize) -> u32;
+    fn zerotrie_sorted_some(kind: u32, bytes: *const u8, len: usize, from_bound: u32, from: *const u8, from_len: usize, to_bound: u32, to: *const u8, to_len: usize, keys: *mut u8, keys_room: usize, ends: *mut usize, ends_room: usize, values: *mut usize, values_room: usize, count: &mut usize, next_len: &mut usize) -> u32;
+    fn zerotrie_search_some(kind: u32, bytes: *const u8, len: usize, prefix: *const u8, prefix_len: usize, search: &SearchBy, goes_on: bool, last: *const u8, last_len: usize, keys: *mut u8, keys_room: usize, ends: *mut usize, ends_room: usize, values: *mut usize, values_room: usize, count: &mut usize, next_len: &mut usize) -> u32;
+    fn zerotrie_cursor_new(bytes: *const u8, len: usize) -> Cursor;
+    fn zerotrie_cursor_step(kind: u32, bytes: *const u8, len: usize, cursor: &mut Cursor, byte: u8, edge: &mut u8) -> bool;
+    fn zerotrie_cursor_probe(kind: u32, bytes: *const u8, len: usize, cursor: &mut Cursor, index: usize, edge: &mut u8, siblings: &mut u16) -> bool;
+    fn zerotrie_cursor_take_value(bytes: *const u8, len: usize, cursor: &mut Cursor, value: &mut usize) -> bool;
+    fn zerotrie_seal(kind: u32, bytes: *const u8, len: usize, out: *mut u8, room: usize, sealed: &mut usize) -> u32;
+    fn zerotrie_open(file: *const u8, len: usize, kind: &mut u32, at: &mut usize, trie_len: &mut usize) -> u32;
+    fn zerotrie_index_build(seed: u64, pairs: *const KeyAndValue, count: usize, out: *mut u8, room: usize, len: &mut usize) -> u32;
+    fn zerotrie_index_get(bytes: *const u8, len: usize, key: *const u8, key_len: usize, value: &mut usize) -> bool;
+    fn zerotrie_index_is_valid(bytes: *const u8, len: usize) -> bool;
+}
+
+pub struct Proved;
+
+fn all(bytes: &[u8]) -> Bytes {
+    Bytes(bytes.as_ptr(), bytes.len())
+}
+
+fn lent(pairs: &[Pair]) -> Vec<KeyAndValue> {
+    pairs.iter().map(|(key, value)| KeyAndValue(all(key), *value)).collect()
+}
+
+fn bound<'a>(bound: Bound<&'a [u8]>) -> (u32, &'a [u8]) {
+    match bound {
+        Bound::Unbounded => (0, b""),
+        Bound::Included(key) => (1, key),
+        Bound::Excluded(key) => (2, key),
+    }
+}
+
+/// The rooms of a listing.
+struct Rooms {
+    keys: Vec<u8>,
+    ends: Vec<usize>,
+    values: Vec<usize>,
+}
+
+impl Rooms {
+    /// Rooms for all pairs of so many bytes.
+    fn of(len: usize) -> Self {
+        Rooms {
+            keys: vec![0; 16 + len * (len + 1)],
+            ends: vec![0; len + 1],
+            values: vec![0; len + 1],
+        }
+    }
+
+    fn found(&self, count: usize) -> Found {
+        let start = |n: usize| if n == 0 { 0 } else { self.ends[n - 1] };
+        (0..count)
+            .map(|n| (self.keys[start(n)..self.ends[n]].to_vec(), self.values[n]))
+            .collect()
+    }
+}
+
+/// What a build writes into its room.
+fn written(room: usize, build: impl FnOnce(*mut u8, usize, &mut usize) -> u32) -> Result<Vec<u8>, Status> {
+    let (mut out, mut len) = (vec![0; room], 0);
+    match build(out.as_mut_ptr(), room, &mut len) {
+        0 => {
+            out.truncate(len);
+            Ok(out)
+        }
+        status => Err(status),
+    }
+}
+
+fn room_of(pairs: &[Pair]) -> usize {
+    // SAFETY: it takes numbers alone.
+    unsafe { zerotrie_build_bound(pairs.len(), pairs.iter().map(|pair| pair.0.len()).sum()) }
+}
+
+// SAFETY of all below: each pointer is that of a slice, with its length.
+impl Library for Proved {
+    fn build(&self, kind: u8, pairs: &[Pair]) -> Result<Vec<u8>, Status> {
+        let lent = lent(pairs);
+        written(room_of(pairs), |out, room, len| unsafe {
+            zerotrie_build(kind.into(), lent.as_ptr(), lent.len(), out, room, len)
+        })
+    }
+
+    fn build_sorted(&self, kind: u8, pairs: &[Pair]) -> Result<Vec<u8>, Status> {
+        let lent = lent(pairs);
+        written(room_of(pairs), |out, room, len| unsafe {
+            zerotrie_build_sorted(kind.into(), lent.as_ptr(), lent.len(), out, room, len)
+        })
+    }
+
+    fn encoded_len(&self, kind: u8, pairs: &[Pair]) -> Result<usize, Status> {
+        let (lent, mut len) = (lent(pairs), 0);
+        match unsafe { zerotrie_encoded_len(kind.into(), lent.as_ptr(), lent.len(), &mut len) } {
+            0 => Ok(len),
+            status => Err(status),
+        }
+    }
+
+    fn why_refused(&self, kind: u8, pairs: &[Pair]) -> Option<(Status, usize, usize)> {
+        let (lent, mut first, mut second) = (lent(pairs), 0, 0);
+        let status = unsafe { zerotrie_why_refused(kind.into(), lent.as_ptr(), lent.len(), &mut first, &mut second) };
+        (status != 0).then_some((status, first, second))
+    }
+
+    fn get(&self, kind: u8, bytes: &[u8], key: &[u8]) -> Option<usize> {
+        let mut value = 0;
+        unsafe {
+            zerotrie_get(
+                kind.into(),
+                bytes.as_ptr(),
+                bytes.len(),
+                key.as_ptr(),
+                key.len(),
+                &mut value,
+            )
+        }
+        .then_some(value)
+    }
+
+    fn longest_prefix(&self, kind: u8, bytes: &[u8], text: &[u8]) -> Option<(usize, usize)> {
+        let (mut len, mut value) = (0, 0);
+        unsafe {
+            zerotrie_longest_prefix(
+                kind.into(),
+                bytes.as_ptr(),
+                bytes.len(),
+                text.as_ptr(),
+                text.len(),
+                &mut len,
+                &mut value,
+            )
+        }
+        .then_some((len, value))
+    }
+
+    fn longest_prefix_at(&self, kind: u8, bytes: &[u8], text: &[u8], delimiters: &[u8]) -> Option<(usize, usize)> {
+        let (mut len, mut value) = (0, 0);
+        unsafe {
+            zerotrie_longest_prefix_at(
+                kind.into(),
+                bytes.as_ptr(),
+                bytes.len(),
+                text.as_ptr(),
+                text.len(),
+                delimiters.as_ptr(),
+                delimiters.len(),
+                &mut len,
+                &mut value,
+            )
+        }
+        .then_some((len, value))
+    }
+
+    fn common_prefixes(&self, kind: u8, bytes: &[u8], text: &[u8]) -> Vec<(usize, usize)> {
+        let room = text.len() + 1;
+        let (mut lens, mut values) = (vec![0; room], vec![0; room]);
+        let count = unsafe {
+            zerotrie_common_prefixes(
+                kind.into(),
+                bytes.as_ptr(),
+                bytes.len(),
+                text.as_ptr(),
+                text.len(),
+                lens.as_mut_ptr(),
+                room,
+                values.as_mut_ptr(),
+                room,
+            )
+        };
+        lens.into_iter().zip(values).take(count).collect()
+    }
+
+    fn is_well_formed(&self, kind: u8, bytes: &[u8]) -> bool {
+        unsafe { zerotrie_is_well_formed(kind.into(), bytes.as_ptr(), bytes.len()) }
+    }
+
+    fn first_fault(&self, kind: u8, bytes: &[u8]) -> Option<(u32, usize)> {
+        let mut at = 0;
+        let fault = unsafe { zerotrie_first_fault(kind.into(), bytes.as_ptr(), bytes.len(), &mut at) };
+        (fault != 0).then_some((fault, at))
+    }
+
+    fn list(&self, kind: u8, bytes: &[u8], prefix: &[u8]) -> Found {
+        let (mut rooms, mut key_bytes, mut count) = (Rooms::of(bytes.len()), 0, 0);
+        let Rooms { keys, ends, values } = &mut rooms;
+        let status = unsafe {
+            zerotrie_list(
+                kind.into(),
+                bytes.as_ptr(),
+                bytes.len(),
+                prefix.as_ptr(),
+                prefix.len(),
+                keys.as_mut_ptr(),
+                keys.len(),
+                ends.as_mut_ptr(),
+                ends.len(),
+                values.as_mut_ptr(),
+                values.len(),
+                &mut key_bytes,
+                &mut count,
+            )
+        };
+        assert_eq!(status, 0);
+        rooms.found(count)
+    }
+
+    fn sorted(&self, kind: u8, bytes: &[u8], from: Bound<&[u8]>, to: Bound<&[u8]>) -> Found {
+        let (mut rooms, mut count, mut next_len) = (Rooms::of(bytes.len()), 0, 0);
+        let ((from_bound, from), (to_bound, to)) = (bound(from), bound(to));
+        let Rooms { keys, ends, values } = &mut rooms;
+        unsafe {
+            zerotrie_sorted_some(
+                kind.into(),
+                bytes.as_ptr(),
+                bytes.len(),
+                from_bound,
+                from.as_ptr(),
+                from.len(),
+                to_bound,
+                to.as_ptr(),
+                to.len(),
+                keys.as_mut_ptr(),
+                keys.len(),
+                ends.as_mut_ptr(),
+                ends.len(),
+                values.as_mut_ptr(),
+                values.len(),
+                &mut count,
+                &mut next_len,
+            )
+        };
+        rooms.found(count)
+    }
+
+    fn search(&self, kind: u8, bytes: &[u8], prefix: &[u8], search: Search, beginnings: bool) -> Result<Found, Status> {
+        let mut by = SearchBy {
+            by: 0,
+            edits: 0,
+            from_bound: 0,
+            to_bound: 0,
+            text: all(b""),
+            to: all(b""),
+            beginnings,
+        };
+        match search {
+            Search::Range(from, to) => {
+                let ((from_bound, from), (to_bound, to)) = (bound(from), bound(to));
+                by = SearchBy {
+                    from_bound,
+                    to_bound,
+                    text: all(from),
+                    to: all(to),
+                    ..by
+                };
+            }
+            Search::Glob(pattern) => {
+                by = SearchBy {
+                    by: 1,
+                    text: all(pattern),
+                    ..by
+                }
+            }
+            Search::Subsequence(letters) => {
+                by = SearchBy {
+                    by: 2,
+                    text: all(letters),
+                    ..by
+                }
+            }
+            Search::Edits(word, edits) => {
+                by = SearchBy {
+                    by: 3,
+                    edits: edits.into(),
+                    text: all(word),
+                    ..by
+                }
+            }
+            Search::CharEdits(word, edits) => {
+                by = SearchBy {
+                    by: 4,
+                    edits: edits.into(),
+                    text: all(word),
+                    ..by
+                }
+            }
+        }
+        let (mut rooms, mut count, mut next_len) = (Rooms::of(bytes.len()), 0, 0);
+        let Rooms { keys, ends, values } = &mut rooms;
+        let status = unsafe {
+            zerotrie_search_some(
+                kind.into(),
+                bytes.as_ptr(),
+                bytes.len(),
+                prefix.as_ptr(),
+                prefix.len(),
+                &by,
+                false,
+                null(),
+                0,
+                keys.as_mut_ptr(),
+                keys.len(),
+                ends.as_mut_ptr(),
+                ends.len(),
+                values.as_mut_ptr(),
+                values.len(),
+                &mut count,
+                &mut next_len,
+            )
+        };
+        if status == 0 {
+            Ok(rooms.found(count))
+        } else {
+            Err(status)
+        }
+    }
+
+    fn walk(&self, kind: u8, bytes: &[u8], moves: &[Move]) -> Vec<Moved> {
+        let (pointer, len) = (bytes.as_ptr(), bytes.len());
+        let mut cursor = unsafe { zerotrie_cursor_new(pointer, len) };
+        let moved = |it: &Move| match *it {
+            Move::Step(byte) => {
+                let mut edge = 0;
+                let found = unsafe { zerotrie_cursor_step(kind.into(), pointer, len, &mut cursor, byte, &mut edge) };
+                // where case matters the face returns nothing
+                Moved::Edge((found && kind != 0).then_some(edge))
+            }
+            Move::Probe(index) => {
+                let (mut edge, mut siblings) = (0, 0);
+                let found = unsafe {
+                    zerotrie_cursor_probe(kind.into(), pointer, len, &mut cursor, index, &mut edge, &mut siblings)
+                };
+                Moved::Sibling(found.then_some((edge, siblings)))
+            }
+            Move::Take => {
+                let mut value = 0;
+                Moved::Value(
+                    unsafe { zerotrie_cursor_take_value(pointer, len, &mut cursor, &mut value) }.then_some(value),
+                )
+            }
+        };
+        moves.iter().map(moved).collect()
+    }
+
+    fn seal(&self, kind: u8, bytes: &[u8]) -> Vec<u8> {
+        written(bytes.len() + 24, |out, room, len| unsafe {
+            zerotrie_seal(kind.into(), bytes.as_ptr(), bytes.len(), out, room, len)
+        })
+        .unwrap()
+    }
+
+    fn open(&self, file: &[u8]) -> Result<(u8, Vec<u8>), Status> {
+        let (mut kind, mut at, mut len) = (0, 0, 0);
+        match unsafe { zerotrie_open(file.as_ptr(), file.len(), &mut kind, &mut at, &mut len) } {
+            0 => Ok((kind as u8, file[at..at + len].to_vec())),
+            status => Err(status),
+        }
+    }
+
+    fn index_build(&self, seed: u64, pairs: &[Pair]) -> Result<Vec<u8>, Status> {
+        let lent = lent(pairs);
+        let room = 64 + pairs.iter().map(|pair| pair.0.len() + 40).sum::<usize>();
+        written(room, |out, room, len| unsafe {
+            zerotrie_index_build(seed, lent.as_ptr(), lent.len(), out, room, len)
+        })
+    }
+
+    fn index_get(&self, bytes: &[u8], key: &[u8]) -> Option<usize> {
+        let mut value = 0;
+        unsafe { zerotrie_index_get(bytes.as_ptr(), bytes.len(), key.as_ptr(), key.len(), &mut value) }.then_some(value)
+    }
+
+    fn index_is_valid(&self, bytes: &[u8]) -> bool {
+        unsafe { zerotrie_index_is_valid(bytes.as_ptr(), bytes.len()) }
+    }
+}

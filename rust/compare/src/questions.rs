@@ -1,0 +1,211 @@
+//! What is asked: rounds of questions about random pairs, the bytes of their tries, and damaged bytes.
+
+use crate::library::{DUPLICATE_KEY, KINDS, Library, Move, Pair, Search, Status};
+use std::fmt::Debug;
+use std::ops::Bound;
+
+/// Numbers that look random.
+pub struct Random(u64);
+
+impl Random {
+    pub fn new(seed: u64) -> Self {
+        Random(seed.wrapping_mul(0x9e37_79b9_7f4a_7c15) | 1)
+    }
+
+    fn next(&mut self) -> u64 {
+        self.0 ^= self.0 << 13;
+        self.0 ^= self.0 >> 7;
+        self.0 ^= self.0 << 17;
+        self.0
+    }
+
+    fn below(&mut self, n: usize) -> usize {
+        (self.next() >> 11) as usize % n
+    }
+
+    fn one<T: Copy>(&mut self, of: &[T]) -> T {
+        of[self.below(of.len())]
+    }
+
+    fn bytes(&mut self, letters: &[u8], longest: usize) -> Vec<u8> {
+        let len = self.below(longest + 1);
+        (0..len)
+            .map(|_| {
+                if letters.is_empty() {
+                    self.next() as u8
+                } else {
+                    self.one(letters)
+                }
+            })
+            .collect()
+    }
+
+    fn value(&mut self) -> usize {
+        let most = self.one(&[16, 3000, 1 << 20, 1 << 40]);
+        if self.below(20) == 0 {
+            usize::MAX
+        } else {
+            self.below(most)
+        }
+    }
+}
+
+/// The pairs and the bytes of a round, and what is asked about them.
+#[derive(Debug)]
+pub struct Round {
+    kind: u8,
+    pairs: Vec<(Vec<u8>, usize)>,
+    damage: Vec<(usize, u8)>,
+    bytes: Vec<u8>,
+    keys: Vec<Vec<u8>>,
+    moves: Vec<Move>,
+    edits: u8,
+    seed: u64,
+}
+
+const LETTERS: [&[u8]; 7] = [
+    b"ab",
+    b"abcdefgh",
+    b"abcAB",
+    b"\x80\xc3\xa9a",
+    b"abcdefghijklmnopqrstuvwxyz0123456789-",
+    b"",
+    b"a*?[]-",
+];
+
+impl Round {
+    pub fn new(random: &mut Random) -> Self {
+        let letters = random.one(&LETTERS);
+        let (most, longest) = (random.one(&[3, 12, 12, 60, 400]), random.one(&[2, 8, 8, 40]));
+        let count = random.below(most);
+        let mut pairs: Vec<_> = (0..count)
+            .map(|_| (random.bytes(letters, longest), random.value()))
+            .collect();
+        // most rounds have distinct keys, so that their builds succeed
+        if random.below(8) > 0 {
+            pairs.sort();
+            pairs.dedup_by(|a, b| a.0 == b.0);
+        }
+        let mut keys: Vec<_> = (0..6).map(|_| random.bytes(letters, longest)).collect();
+        keys.extend((0..6.min(pairs.len())).map(|_| pairs[random.below(pairs.len())].0.clone()));
+        Round {
+            kind: random.one(&KINDS),
+            damage: (0..random.below(4))
+                .map(|_| (random.below(1 << 16), random.next() as u8))
+                .collect(),
+            bytes: random.bytes(&[], 60),
+            moves: (0..12)
+                .map(|_| match random.below(8) {
+                    0 => Move::Take,
+                    1 | 2 => Move::Probe(random.below(3)),
+                    _ if letters.is_empty() => Move::Step(random.next() as u8),
+                    _ => Move::Step(random.one(letters)),
+                })
+                .collect(),
+            edits: random.below(3) as u8,
+            seed: random.next(),
+            pairs,
+            keys,
+        }
+    }
+
+    /// Asks a library everything. Each answer is a line.
+    pub fn ask(&self, library: &impl Library) -> Vec<String> {
+        let mut answers = Answers(Vec::new());
+        let pairs: Vec<(&[u8], usize)> = self.pairs.iter().map(|(key, value)| (key.as_slice(), *value)).collect();
+        let built = library.build(self.kind, &pairs);
+        answers.add("build", &built);
+        answers.add("build_sorted", library.build_sorted(self.kind, &pairs));
+        answers.add("encoded_len", library.encoded_len(self.kind, &pairs));
+        let why = library.why_refused(self.kind, &pairs);
+        answers.add("why_refused", why.map(|why| why_shown(why, &pairs)));
+        let trie = built.unwrap_or_default();
+        self.ask_trie(library, &trie, &mut answers);
+        let mut damaged = trie;
+        for (at, byte) in &self.damage {
+            let len = damaged.len();
+            if len > 0 {
+                damaged[at % len] = *byte;
+            }
+        }
+        self.ask_trie(library, &damaged, &mut answers);
+        self.ask_trie(library, &self.bytes, &mut answers);
+        self.ask_index(library, &pairs, &mut answers);
+        answers.0
+    }
+
+    fn ask_trie(&self, library: &impl Library, bytes: &[u8], answers: &mut Answers) {
+        answers.add("is_well_formed", library.is_well_formed(self.kind, bytes));
+        answers.add("first_fault", library.first_fault(self.kind, bytes));
+        answers.add("walk", library.walk(self.kind, bytes, &self.moves));
+        for key in &self.keys {
+            answers.add("get", library.get(self.kind, bytes, key));
+            answers.add("longest_prefix", library.longest_prefix(self.kind, bytes, key));
+            answers.add(
+                "longest_prefix_at",
+                library.longest_prefix_at(self.kind, bytes, key, b"-b"),
+            );
+            answers.add("common_prefixes", library.common_prefixes(self.kind, bytes, key));
+        }
+        let (one, two) = (self.keys[0].as_slice(), self.keys[1].as_slice());
+        answers.add("list", library.list(self.kind, bytes, b""));
+        answers.add("list", library.list(self.kind, bytes, &one[..one.len() / 2]));
+        answers.add(
+            "sorted",
+            library.sorted(self.kind, bytes, Bound::Unbounded, Bound::Unbounded),
+        );
+        answers.add(
+            "sorted",
+            library.sorted(self.kind, bytes, Bound::Excluded(one), Bound::Included(two)),
+        );
+        let searches = [
+            Search::Range(Bound::Included(one), Bound::Excluded(two)),
+            Search::Glob(one),
+            Search::Subsequence(two),
+            Search::Edits(one, self.edits),
+            Search::CharEdits(two, self.edits),
+        ];
+        let by = searches[self.seed as usize % searches.len()];
+        answers.add("search", library.search(self.kind, bytes, b"", by, self.seed & 64 == 0));
+        answers.add(
+            "search",
+            library.search(self.kind, bytes, &one[..one.len() / 2], by, self.seed & 128 == 0),
+        );
+        let mut file = library.seal(self.kind, bytes);
+        answers.add("open", library.open(&file));
+        let at = self.seed as usize % file.len();
+        file[at] ^= 1 << (self.seed >> 61);
+        answers.add("open", library.open(&file));
+        answers.add("seal", file);
+    }
+
+    fn ask_index(&self, library: &impl Library, pairs: &[(&[u8], usize)], answers: &mut Answers) {
+        let built = library.index_build(self.seed, pairs);
+        answers.add("index_build", &built);
+        let index = built.unwrap_or_default();
+        answers.add("index_is_valid", library.index_is_valid(&index));
+        answers.add("index_is_valid", library.index_is_valid(&self.bytes));
+        for key in &self.keys {
+            answers.add("index_get", library.index_get(&index, key));
+            answers.add("index_get", library.index_get(&self.bytes, key));
+        }
+    }
+}
+
+/// Which keys show an error. If a key comes more than twice any two of its places do: they follow from the order in which a sort
+/// leaves equal keys.
+fn why_shown((status, first, second): (Status, usize, usize), pairs: &[Pair]) -> (Status, Option<(usize, usize)>) {
+    if status == DUPLICATE_KEY {
+        assert!(first < second && pairs[first].0 == pairs[second].0);
+        return (status, None);
+    }
+    (status, Some((first, second)))
+}
+
+struct Answers(Vec<String>);
+
+impl Answers {
+    fn add(&mut self, question: &str, answer: impl Debug) {
+        self.0.push(format!("{question}: {answer:?}"));
+    }
+}

@@ -1,0 +1,236 @@
+//! An index: exact look-ups alone, faster than in a trie and over more bytes.
+
+pub use crate::zerotrie_index::{NotAnIndex, ZeroIndexBuildError};
+
+use crate::Trie;
+use crate::any::lent;
+use crate::by_kind;
+use crate::listing::allocated;
+use crate::rstd::alloc::Global;
+use crate::sealed::Sealed;
+use crate::zerotrie_core::ZeroTrieWithOptions;
+use crate::zerotrie_index;
+use crate::zerotrie_sealed::{SealError, seal_index};
+use alloc::vec::Vec;
+
+/// A map from byte strings to numbers for exact look-ups.
+///
+/// ```
+/// use zerotrie::index::ZeroIndex;
+///
+/// let index = ZeroIndex::try_from_iter([("in", 1), ("on", 2)])?;
+/// assert_eq!(index.get("on"), Some(2));
+/// assert_eq!(index.get("o"), None);
+/// # Ok::<(), zerotrie::index::ZeroIndexBuildError>(())
+/// ```
+#[derive(Debug, Clone, Copy, PartialEq, Eq)]
+pub struct ZeroIndex<Store> {
+    store: Store,
+}
+
+impl<Store: AsRef<[u8]>> ZeroIndex<Store> {
+    /// Makes an index of a store, whose bytes are not validated.
+    ///
+    /// ```
+    /// use zerotrie::index::ZeroIndex;
+    ///
+    /// let bytes = ZeroIndex::try_from_iter([("in", 1)])?.into_store();
+    /// assert_eq!(ZeroIndex::from_store(&bytes).get("in"), Some(1));
+    /// # Ok::<(), zerotrie::index::ZeroIndexBuildError>(())
+    /// ```
+    ///
+    /// On malformed bytes each call returns, and its result is unspecified.
+    pub const fn from_store(store: Store) -> Self {
+        ZeroIndex { store }
+    }
+
+    /// Makes an index of a store whose bytes are validated.
+    ///
+    /// ```
+    /// use zerotrie::index::{NotAnIndex, ZeroIndex};
+    ///
+    /// assert_eq!(ZeroIndex::try_from_store(b"no index"), Err(NotAnIndex));
+    /// ```
+    pub fn try_from_store(store: Store) -> Result<Self, NotAnIndex> {
+        let index = ZeroIndex { store };
+        if index.is_well_formed() {
+            Ok(index)
+        } else {
+            Err(NotAnIndex)
+        }
+    }
+
+    /// Returns whether the bytes are an index.
+    ///
+    /// ```
+    /// use zerotrie::index::ZeroIndex;
+    ///
+    /// assert!(!ZeroIndex::from_store(b"no index").is_well_formed());
+    /// ```
+    pub fn is_well_formed(&self) -> bool {
+        zerotrie_index::is_well_formed(self.as_bytes())
+    }
+
+    /// Returns the value of a key.
+    ///
+    /// ```
+    /// use zerotrie::index::ZeroIndex;
+    ///
+    /// let index = ZeroIndex::try_from_iter([("in", 1)])?;
+    /// assert_eq!(index.get("in"), Some(1));
+    /// # Ok::<(), zerotrie::index::ZeroIndexBuildError>(())
+    /// ```
+    #[inline]
+    pub fn get<K: AsRef<[u8]>>(&self, key: K) -> Option<usize> {
+        zerotrie_index::get(self.as_bytes(), key.as_ref())
+    }
+
+    /// Returns whether the index has a key.
+    ///
+    /// ```
+    /// use zerotrie::index::ZeroIndex;
+    ///
+    /// let index = ZeroIndex::try_from_iter([("in", 1)])?;
+    /// assert!(!index.contains_key("on"));
+    /// # Ok::<(), zerotrie::index::ZeroIndexBuildError>(())
+    /// ```
+    pub fn contains_key<K: AsRef<[u8]>>(&self, key: K) -> bool {
+        self.get(key).is_some()
+    }
+
+    /// Returns the bytes.
+    ///
+    /// ```
+    /// use zerotrie::index::ZeroIndex;
+    ///
+    /// let index = ZeroIndex::try_from_iter([("in", 1)])?;
+    /// assert!(ZeroIndex::try_from_store(index.as_bytes()).is_ok());
+    /// # Ok::<(), zerotrie::index::ZeroIndexBuildError>(())
+    /// ```
+    #[inline]
+    pub fn as_bytes(&self) -> &[u8] {
+        self.store.as_ref()
+    }
+
+    /// Returns a sealed file: a header with the length and a checksum, followed by the bytes.
+    ///
+    /// ```
+    /// use zerotrie::index::ZeroIndex;
+    ///
+    /// let file = ZeroIndex::try_from_iter([("in", 1)])?.seal();
+    /// assert_eq!(ZeroIndex::open(file).unwrap().get("in"), Some(1));
+    /// # Ok::<(), zerotrie::index::ZeroIndexBuildError>(())
+    /// ```
+    pub fn seal(&self) -> Vec<u8> {
+        allocated(seal_index(Global, self.as_bytes())).into_inner()
+    }
+}
+
+impl<Store> ZeroIndex<Store> {
+    /// Returns the store.
+    ///
+    /// ```
+    /// use zerotrie::index::ZeroIndex;
+    ///
+    /// assert_eq!(ZeroIndex::from_store([1, 2]).into_store(), [1, 2]);
+    /// ```
+    pub fn into_store(self) -> Store {
+        self.store
+    }
+}
+
+impl<File: AsRef<[u8]>> ZeroIndex<Sealed<File>> {
+    /// Returns the index in a sealed file, whose checksum is compared. No byte is copied.
+    ///
+    /// ```
+    /// use zerotrie::SealError;
+    /// use zerotrie::index::ZeroIndex;
+    ///
+    /// assert_eq!(ZeroIndex::open("no file"), Err(SealError::NoMagic));
+    /// ```
+    pub fn open(file: File) -> Result<Self, SealError> {
+        Sealed::open_index(file).map(Self::from_store)
+    }
+}
+
+impl ZeroIndex<Vec<u8>> {
+    /// Builds an index of pairs in any order.
+    ///
+    /// ```
+    /// use zerotrie::index::{ZeroIndex, ZeroIndexBuildError};
+    ///
+    /// let index = ZeroIndex::try_from_iter([("in", 1), ("in", 2)]);
+    /// assert_eq!(index, Err(ZeroIndexBuildError::DuplicateKey));
+    /// ```
+    pub fn try_from_iter<K: AsRef<[u8]>>(
+        pairs: impl IntoIterator<Item = (K, usize)>,
+    ) -> Result<Self, ZeroIndexBuildError> {
+        let pairs: Vec<(K, usize)> = pairs.into_iter().collect();
+        Self::try_from_seed(0, &pairs)
+    }
+
+    /// Builds an index of pairs whose keys ascend by their bytes.
+    ///
+    /// ```
+    /// use zerotrie::index::{ZeroIndex, ZeroIndexBuildError};
+    ///
+    /// let index = ZeroIndex::try_from_sorted_slice(&[("on", 1), ("in", 2)]);
+    /// assert_eq!(index, Err(ZeroIndexBuildError::Unsorted));
+    /// ```
+    pub fn try_from_sorted_slice<K: AsRef<[u8]>>(
+        pairs: &[(K, usize)],
+    ) -> Result<Self, ZeroIndexBuildError> {
+        let index = zerotrie_index::build_sorted(Global, 0, &lent(pairs))?;
+        Ok(Self::from_store(index.into_inner()))
+    }
+
+    /// Builds an index of pairs in any order by a seed. Take a random one if keys come from elsewhere:
+    /// who does not know it can't choose keys that make the build fail.
+    ///
+    /// ```
+    /// use zerotrie::index::ZeroIndex;
+    ///
+    /// let index = ZeroIndex::try_from_seed(17, &[("on", 1), ("in", 2)])?;
+    /// assert_eq!(index.get("in"), Some(2));
+    /// # Ok::<(), zerotrie::index::ZeroIndexBuildError>(())
+    /// ```
+    pub fn try_from_seed<K: AsRef<[u8]>>(
+        seed: u64,
+        pairs: &[(K, usize)],
+    ) -> Result<Self, ZeroIndexBuildError> {
+        let index = zerotrie_index::build(Global, seed, &lent(pairs))?;
+        Ok(Self::from_store(index.into_inner()))
+    }
+
+    /// Builds the index of a trie. If it ignores case, the keys of the index are in lower case.
+    ///
+    /// ```
+    /// use zerotrie::ZeroTrieSimpleAscii;
+    /// use zerotrie::index::ZeroIndex;
+    ///
+    /// let trie = ZeroTrieSimpleAscii::try_from_iter([("in", 1)]).unwrap();
+    /// assert_eq!(ZeroIndex::from_trie(&trie)?.get("in"), Some(1));
+    /// # Ok::<(), zerotrie::index::ZeroIndexBuildError>(())
+    /// ```
+    pub fn from_trie<T: Trie + ?Sized>(trie: &T) -> Result<Self, ZeroIndexBuildError> {
+        by_kind!(trie.kind(), index_of::<_>(trie.as_bytes()))
+    }
+}
+
+fn index_of<K: ZeroTrieWithOptions>(
+    trie: &[u8],
+) -> Result<ZeroIndex<Vec<u8>>, ZeroIndexBuildError> {
+    let index = zerotrie_index::ZeroIndex::from_trie::<K>(Global, trie)?;
+    Ok(ZeroIndex::from_store(index.store.into_inner()))
+}
+
+impl<K: AsRef<[u8]>> FromIterator<(K, usize)> for ZeroIndex<Vec<u8>> {
+    /// Builds an index of pairs in any order.
+    ///
+    /// # Panics
+    ///
+    /// Where `try_from_iter` returns an error.
+    fn from_iter<T: IntoIterator<Item = (K, usize)>>(pairs: T) -> Self {
+        Self::try_from_iter(pairs).expect("the pairs should be those of an index")
+    }
+}

@@ -1,0 +1,83 @@
+#![doc = include_str!("../README.md")]
+#![no_std]
+#![deny(missing_docs, unsafe_code)]
+
+extern crate alloc;
+
+#[cfg(not(target_pointer_width = "64"))]
+compile_error!("zerotrie needs 64 bits: what is proved of its sources is proved for a `usize` of 64 bits");
+
+mod any;
+mod calls;
+pub mod cursor;
+pub mod dense;
+mod error;
+pub mod index;
+#[cfg(feature = "json")]
+mod json;
+mod konst;
+mod listing;
+mod look_ups;
+mod reverse;
+mod sealed;
+pub mod search;
+#[cfg(feature = "serde")]
+mod serde;
+pub mod sets;
+mod trie;
+
+// What the sources stand on, and what rust/make makes of them.
+#[doc(hidden)]
+pub mod rstd;
+#[doc(hidden)]
+#[allow(clippy::all)]
+pub mod zerotrie_all;
+#[doc(hidden)]
+#[allow(clippy::all)]
+pub mod zerotrie_any;
+#[doc(hidden)]
+#[allow(clippy::all)]
+pub mod zerotrie_ascii;
+#[doc(hidden)]
+#[allow(clippy::all)]
+pub mod zerotrie_base;
+#[doc(hidden)]
+#[allow(clippy::all)]
+pub mod zerotrie_build;
+#[doc(hidden)]
+#[allow(clippy::all)]
+pub mod zerotrie_core;
+#[doc(hidden)]
+#[allow(clippy::all)]
+pub mod zerotrie_hashed;
+#[doc(hidden)]
+#[allow(clippy::all)]
+pub mod zerotrie_index;
+#[doc(hidden)]
+#[allow(clippy::all)]
+pub mod zerotrie_reverse;
+#[doc(hidden)]
+#[allow(clippy::all)]
+pub mod zerotrie_sealed;
+#[doc(hidden)]
+#[allow(clippy::all)]
+pub mod zerotrie_search;
+#[doc(hidden)]
+#[allow(clippy::all)]
+pub mod zerotrie_sets;
+
+pub use any::{Trie, ZeroTrie};
+pub use listing::{
+    Matches, Pairs, Sorted, Values, ZeroTrieIterator, ZeroTrieKeys, ZeroTrieStringIterator, ZeroTrieStringKeys,
+    ZeroTrieValues,
+};
+pub use look_ups::LookUps;
+pub use reverse::KeysByValue;
+pub use sealed::Sealed;
+pub use trie::{ZeroAsciiIgnoreCaseTrie, ZeroTrieExtendedCapacity, ZeroTriePerfectHash, ZeroTrieSimpleAscii};
+#[cfg(feature = "json")]
+pub use zerotrie_any::JsonError;
+pub use zerotrie_any::{LoadError, NotWellFormed, TagError};
+pub use zerotrie_build::Refusal;
+pub use zerotrie_core::{CommonPrefixes, Fault, FaultCause, TrieKind, ZeroTrieBuildError};
+pub use zerotrie_sealed::SealError;

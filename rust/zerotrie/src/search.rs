@@ -1,0 +1,141 @@
+//! Searches: automata, which decide byte by byte which keys a search lists.
+//!
+//! ```
+//! use zerotrie::ZeroTrieSimpleAscii;
+//! use zerotrie::search::{BeginsWith, Both, Levenshtein, Not, StartsWith};
+//!
+//! let trie = ZeroTrieSimpleAscii::try_from_iter([("trail", 1), ("tree", 2), ("trie", 3), ("tries", 4)])?;
+//! let one_edit = Levenshtein::new(b"trie", 1).unwrap();
+//! assert_eq!(trie.search(one_edit).values().collect::<Vec<_>>(), [2, 3, 4]);
+//!
+//! // Completions that forgive a mistake, but for those that begin with "tri".
+//! let completions = BeginsWith(Levenshtein::new(b"trai", 1).unwrap());
+//! let some = Both(completions, Not(StartsWith(b"tri")));
+//! assert_eq!(trie.search(some).values().collect::<Vec<_>>(), [1]);
+//! # Ok::<(), zerotrie::ZeroTrieBuildError>(())
+//! ```
+//!
+//! An automaton of your own is a type with the trait [`Automaton`].
+
+pub use crate::zerotrie_search::{
+    AnyCase, Automaton, BeginsWith, Both, CharsState, Either, Glob, GlobError, KeyRange,
+    Levenshtein, LevenshteinChars, Not, StartsWith, Subsequence, WORD_LIMIT,
+};
+
+use crate::Trie;
+use crate::by_kind;
+use crate::zerotrie_core::CursorPlace;
+use crate::zerotrie_search;
+use core::fmt;
+use core::ops::{Bound, Range, RangeFrom, RangeFull, RangeInclusive, RangeTo, RangeToInclusive};
+
+/// Accepts the keys of another trie, of any type.
+///
+/// ```
+/// use zerotrie::{ZeroTriePerfectHash, ZeroTrieSimpleAscii};
+/// use zerotrie::search::{KeysOf, Not};
+///
+/// let trie = ZeroTrieSimpleAscii::try_from_iter([("in", 1), ("on", 2)])?;
+/// let other = ZeroTriePerfectHash::try_from_iter([("on", 5)])?;
+/// assert_eq!(trie.search(KeysOf::new(&other)).values().collect::<Vec<_>>(), [2]);
+/// assert_eq!(trie.search(Not(KeysOf::new(&other))).values().collect::<Vec<_>>(), [1]);
+/// # Ok::<(), zerotrie::ZeroTrieBuildError>(())
+/// ```
+pub struct KeysOf<'a>(zerotrie_search::KeysOf<'a>);
+
+impl<'a> KeysOf<'a> {
+    /// Makes an automaton of a trie.
+    ///
+    /// ```
+    /// use zerotrie::ZeroTrieSimpleAscii;
+    /// use zerotrie::search::KeysOf;
+    ///
+    /// let trie = ZeroTrieSimpleAscii::try_from_iter([("in", 1)])?;
+    /// assert_eq!(trie.search(KeysOf::new(&trie)).count(), 1);
+    /// # Ok::<(), zerotrie::ZeroTrieBuildError>(())
+    /// ```
+    pub fn new<T: Trie + ?Sized>(trie: &'a T) -> Self {
+        KeysOf(by_kind!(
+            trie.kind(),
+            zerotrie_search::KeysOf::new::<_>(trie.as_bytes())
+        ))
+    }
+
+    /// Returns the value that the other trie has for the key before a state.
+    ///
+    /// ```
+    /// use zerotrie::ZeroTrieSimpleAscii;
+    /// use zerotrie::search::KeysOf;
+    ///
+    /// let trie = ZeroTrieSimpleAscii::try_from_iter([("in", 1)])?;
+    /// let other = ZeroTrieSimpleAscii::try_from_iter([("in", 5)])?;
+    /// let mut matches = trie.search(KeysOf::new(&other));
+    /// matches.advance();
+    /// assert_eq!(matches.automaton().value(matches.state()), Some(5));
+    /// # Ok::<(), zerotrie::ZeroTrieBuildError>(())
+    /// ```
+    pub fn value(&self, state: CursorPlace) -> Option<usize> {
+        self.0.value(state)
+    }
+}
+
+impl Automaton for KeysOf<'_> {
+    type State = CursorPlace;
+
+    fn start(&self) -> CursorPlace {
+        self.0.start()
+    }
+
+    fn step(&self, state: CursorPlace, byte: u8) -> CursorPlace {
+        self.0.step(state, byte)
+    }
+
+    fn is_match(&self, state: CursorPlace) -> bool {
+        self.0.is_match(state)
+    }
+
+    fn can_match(&self, state: CursorPlace) -> bool {
+        self.0.can_match(state)
+    }
+}
+
+/// Converts a range to bounds.
+macro_rules! bounds {
+    ($range:ident, $bounds:ident => $from:expr, $to:expr) => {
+        impl<'p, K: AsRef<[u8]> + ?Sized> From<$range<&'p K>> for KeyRange<'p> {
+            fn from($bounds: $range<&'p K>) -> Self {
+                KeyRange {
+                    from: $from,
+                    to: $to,
+                }
+            }
+        }
+    };
+}
+
+bounds!(Range, it => Bound::Included(it.start.as_ref()), Bound::Excluded(it.end.as_ref()));
+bounds!(RangeFrom, it => Bound::Included(it.start.as_ref()), Bound::Unbounded);
+bounds!(RangeTo, it => Bound::Unbounded, Bound::Excluded(it.end.as_ref()));
+bounds!(RangeToInclusive, it => Bound::Unbounded, Bound::Included(it.end.as_ref()));
+bounds!(RangeInclusive, it => Bound::Included((*it.start()).as_ref()), Bound::Included((*it.end()).as_ref()));
+
+impl From<RangeFull> for KeyRange<'_> {
+    fn from(_all: RangeFull) -> Self {
+        KeyRange {
+            from: Bound::Unbounded,
+            to: Bound::Unbounded,
+        }
+    }
+}
+
+impl<'p> From<(Bound<&'p [u8]>, Bound<&'p [u8]>)> for KeyRange<'p> {
+    fn from((from, to): (Bound<&'p [u8]>, Bound<&'p [u8]>)) -> Self {
+        KeyRange { from, to }
+    }
+}
+
+impl fmt::Debug for KeysOf<'_> {
+    fn fmt(&self, f: &mut fmt::Formatter<'_>) -> fmt::Result {
+        f.debug_struct("KeysOf").finish_non_exhaustive()
+    }
+}

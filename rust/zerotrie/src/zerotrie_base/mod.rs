@@ -1,0 +1,29 @@
+// Made from crates/zerotrie_base/src/lib.rt by rust/make: edit that.
+//! What readers and builders share: the kinds, the grammar of the bytes with its laws, numbers,
+//! errors, stores, keys, and the perfect hash of bytes.
+#![forbid(unsafe_code)]
+#![allow(dead_code, unused_imports, unused_variables)]
+
+use crate::rstd::prelude::*;
+
+mod byte_phf;
+mod error;
+mod fold;
+mod kind;
+pub mod laws;
+mod options;
+mod pairs;
+mod store;
+mod varint;
+mod width;
+
+pub use byte_phf::{PerfectByteHashMap, PerfectByteHashMapCacheOwned, are_distinct, f1, f2};
+pub use error::ZeroTrieBuildError;
+pub use fold::{both_cases, folded};
+pub use kind::TrieKind;
+pub use options::{Ext, Hash, Ignore, Simple, ZeroTrieBuilderOptions, ZeroTrieWithOptions};
+pub use pairs::{TriePair, are_ascii};
+pub use store::{ConvertStore, TrieKey, TrieStore};
+pub use varint::{read_varint_meta2, read_varint_meta3, write_varint_meta2, write_varint_meta3};
+pub use width::least_width;
+pub use crate::by_kind;

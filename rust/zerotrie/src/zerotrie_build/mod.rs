@@ -1,0 +1,29 @@
+// Made from crates/zerotrie_build/src/lib.rt by rust/make: edit that.
+//! The builders of a trie's bytes. `ZeroTrieBuilder` measures them first, which `encoded_len` does
+//! alone, and then writes them from the first to the last into memory of their length, which a
+//! `VecDeque` takes over. `ZeroTrieBuilderConst` and `fill_from_end` do not allocate: they write
+//! them from the last to the first into an array or a buffer.
+#![forbid(unsafe_code)]
+#![allow(dead_code, unused_imports, unused_variables)]
+
+use crate::rstd::prelude::*;
+
+mod array;
+mod blocks;
+mod branch;
+mod builder;
+mod items;
+mod measure;
+mod number;
+mod order;
+mod refusal;
+mod sort;
+mod store;
+mod windows;
+mod write;
+
+pub use array::{ZeroTrieBuilderConst, bytes_within, fill_from_end};
+pub use builder::{ZeroTrieBuilder, build_slice, encoded_len};
+pub use items::ByteSliceWithIndices;
+pub use refusal::{Refusal, why_iter_refused, why_slice_refused};
+pub use store::TrieBuilderStore;

@@ -1,0 +1,179 @@
+// Made from crates/zerotrie_core/src/branch.rt by rust/make: edit that.
+//! A branch in the bytes of a trie.
+//!
+//! After its head a branch has its search table, its offsets and its targets, one after another. A
+//! sorted search table is the edges; a hashed one is the parameters of a perfect hash, then the
+//! edges. Each target but the first has an offset, which is where it begins. The highest bytes of
+//! all offsets come first, then the next bytes, and so on.
+
+use crate::rstd::prelude::*;
+use crate::zerotrie_core::offsets::{end_at, offset_at, offsets_and_targets, short_offset_at};
+use crate::zerotrie_core::simd::edge_search::{before_end, place_in};
+use crate::zerotrie_core::simd::lanes::{first_in_16, first_in_32, first_in_64};
+use crate::zerotrie_base::{PerfectByteHashMap, ZeroTrieWithOptions, both_cases, folded};
+
+/// A branch.
+#[derive(Clone, Copy, Debug)]
+pub struct Branch<'a> {
+    /// The number of edges, from 2 to 256.
+    pub edges: usize,
+    /// The bytes of one offset, from 1 to 8.
+    pub width: usize,
+    /// The search table. Its last bytes are the edges.
+    pub table: &'a [u8],
+    /// All bytes from the edges on: edges, offsets, targets.
+    pub behind: &'a [u8],
+}
+
+impl<'a> Branch<'a> {
+    /// Returns the targets, one after another.
+    #[inline(always)]
+    pub(in crate::zerotrie_core) fn targets(&self) -> &'a [u8] {
+        let (_, targets) = offsets_and_targets(self.behind, self.edges, self.width);
+        targets
+    }
+
+    /// Returns the byte of an edge.
+    #[inline(always)]
+    pub fn edge_at(&self, index: usize) -> u8 {
+        self.behind[index]
+    }
+
+    /// Like `place_of`, for two edges.
+    #[inline(always)]
+    fn place_of_two<K: ZeroTrieWithOptions>(&self, byte: u8) -> Option<usize> {
+        let sought = folded::<K>(byte);
+        let place = (folded::<K>(self.behind[1]) == sought) as usize;
+        (folded::<K>(self.behind[place]) == sought).then_some(place)
+    }
+
+    /// Like `place_of`, by the perfect hash of the table or by binary search.
+    #[inline(always)]
+    fn place_by_table<K: ZeroTrieWithOptions>(&self, byte: u8) -> Option<usize> {
+        if K::USE_PHF && self.table.len() > self.edges {
+            return PerfectByteHashMap::from_bytes(self.table).get(byte);
+        }
+        let (edges, _) = self.behind.split_at(self.edges);
+        place_in::<K>(edges, byte)
+    }
+
+    /// Returns the place of the edge that equals the byte in this kind.
+    ///
+    /// Compares two edges one by one, and up to 64 at once, in any order, if enough bytes follow.
+    /// Otherwise uses the search table.
+    #[inline(always)]
+    pub fn place_of<K: ZeroTrieWithOptions>(&self, byte: u8) -> Option<usize> {
+        if self.edges == 2 {
+            return self.place_of_two::<K>(byte);
+        }
+        let (low, high) = both_cases::<K>(byte);
+        if self.edges <= 16 && self.behind.len() >= 16 {
+            return before_end(first_in_16(self.behind, low, high), self.edges);
+        }
+        if self.edges <= 32 && self.behind.len() >= 32 {
+            return before_end(first_in_32(self.behind, low, high), self.edges);
+        }
+        if self.edges <= 64 && self.behind.len() >= 64 {
+            return before_end(first_in_64(self.behind, low, high), self.edges);
+        }
+        self.place_by_table::<K>(byte)
+    }
+
+    /// Like `target_within`, for two edges. The offset is read in any case, so as not to wait for
+    /// the place.
+    #[inline(always)]
+    fn target_of_two(&self, index: usize) -> Option<(&'a [u8], usize)> {
+        let (table, targets) = offsets_and_targets(self.behind, 2, self.width);
+        let middle = offset_at(table, 0, 1, self.width);
+        let begin = if index == 0 { 0 } else { middle };
+        let end = if index == 0 { middle } else { targets.len() };
+        let target = targets.get(begin..end)?;
+        Some((target, targets.len() - end))
+    }
+
+    /// Returns where the target of an edge begins and ends, by offsets of up to three bytes. Where
+    /// there is no offset, the result is unspecified: the byte before the offsets is read as if it
+    /// were one, so that no place waits for a test of the edge.
+    #[inline(always)]
+    fn short_offsets(&self, index: usize, width: usize) -> (usize, usize) {
+        let count = self.edges - 1;
+        let (_, last_edge_on) = self.behind.split_at(count);
+        let (_, table) = self.behind.split_at(self.edges);
+        let before = short_offset_at(last_edge_on, index, count, width);
+        let next = short_offset_at(table, index.min(count - 1), count, width);
+        (before, next)
+    }
+
+    /// Like `short_offsets`, for wider ones. Where there is no offset, returns that of the nearest
+    /// edge.
+    #[inline(always)]
+    fn long_offsets(&self, index: usize) -> (usize, usize) {
+        let count = self.edges - 1;
+        let (table, _) = offsets_and_targets(self.behind, self.edges, self.width);
+        let before = offset_at(table, index.saturating_sub(1), count, self.width);
+        let next = offset_at(table, index.min(count - 1), count, self.width);
+        (before, next)
+    }
+
+    /// Like `short_offsets`, for offsets of any width.
+    #[inline(always)]
+    fn offsets_at(&self, index: usize) -> (usize, usize) {
+        match self.width {
+            1 => self.short_offsets(index, 1),
+            2 => self.short_offsets(index, 2),
+            3 => self.short_offsets(index, 3),
+            _ => self.long_offsets(index),
+        }
+    }
+
+    /// Returns the target of an edge, and how many bytes of the targets follow it, or `None` if its
+    /// offsets fall or are beyond the last target.
+    #[inline(always)]
+    pub(in crate::zerotrie_core) fn target_within(&self, index: usize) -> Option<(&'a [u8], usize)> {
+        if self.edges == 2 {
+            return self.target_of_two(index);
+        }
+        let targets = self.targets();
+        let (before, next) = self.offsets_at(index);
+        let from = if index == 0 { 0 } else { before };
+        let to = if index == self.edges - 1 {
+            targets.len()
+        } else {
+            next
+        };
+        let target = targets.get(from..to)?;
+        Some((target, targets.len() - to))
+    }
+
+    /// Returns the target of an edge, or `None` if its offsets fall or are beyond the last target.
+    #[inline(always)]
+    pub fn target_at(&self, index: usize) -> Option<&'a [u8]> {
+        let (target, _) = self.target_within(index)?;
+        Some(target)
+    }
+
+    /// Returns where the target of an edge ends among the targets, by its offset.
+    #[inline(always)]
+    pub fn end_at(&self, index: usize) -> usize {
+        end_at(self.behind, self.edges, self.width, index)
+    }
+
+    /// Returns the edge that equals the byte in this kind, its target, and how many bytes of the
+    /// targets follow it.
+    #[inline(always)]
+    pub(in crate::zerotrie_core) fn follow_within<K: ZeroTrieWithOptions>(
+        &self,
+        byte: u8,
+    ) -> Option<(u8, &'a [u8], usize)> {
+        let place = self.place_of::<K>(byte)?;
+        let (target, after) = self.target_within(place)?;
+        Some((self.edge_at(place), target, after))
+    }
+
+    /// Returns the edge that equals the byte in this kind, and its target.
+    #[inline(always)]
+    pub fn follow<K: ZeroTrieWithOptions>(&self, byte: u8) -> Option<(u8, &'a [u8])> {
+        let (edge, target, _) = self.follow_within::<K>(byte)?;
+        Some((edge, target))
+    }
+}

@@ -1,0 +1,15 @@
+// Made from crates/zerotrie_hashed/src/lib.rt by rust/make: edit that.
+//! Tries over keys of any bytes, whose wide branches have perfect hashes.
+#![forbid(unsafe_code)]
+#![allow(dead_code, unused_imports, unused_variables)]
+
+use crate::rstd::prelude::*;
+
+mod bytes;
+mod cursor;
+mod json;
+mod list;
+mod trie;
+
+pub use cursor::{HashedCursor, ZeroTrieExtendedCapacityCursor, ZeroTriePerfectHashCursor};
+pub use trie::{HashedKind, HashedTrie, ZeroTrieExtendedCapacity, ZeroTriePerfectHash};

@@ -1,0 +1,10 @@
+// Made from crates/zerotrie_index/src/laws.rt by rust/make: edit that.
+//! Laws of the definitions alone, as contracts that a caller's proof can cite.
+
+use crate::rstd::prelude::*;
+
+/// Pairs with distinct keys return the same in each order.
+pub fn built_answers_as_given() {}
+
+/// Pairs that have an index have no cause of `DuplicateKey` and none of `CapacityExceeded`.
+pub fn index_excludes_causes() {}

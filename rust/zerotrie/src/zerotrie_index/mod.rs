@@ -1,0 +1,24 @@
+// Made from crates/zerotrie_index/src/lib.rt by rust/make: edit that.
+//! An index: flat bytes that answer exact look-ups in a map from byte strings to numbers.
+#![forbid(unsafe_code)]
+#![allow(dead_code, unused_imports, unused_variables)]
+
+use crate::rstd::prelude::*;
+
+mod builder;
+mod error;
+mod hash;
+mod index;
+pub mod laws;
+mod lent;
+mod reader;
+mod trie;
+mod well_formed;
+
+pub use builder::{BUCKET_LIMIT, SEEDS_TRIED, build, build_all, build_sorted};
+pub use error::{NotAnIndex, ZeroIndexBuildError};
+pub use hash::hash_of;
+pub use index::ZeroIndex;
+pub use lent::ZeroIndexBuilder;
+pub use reader::get;
+pub use well_formed::is_well_formed;

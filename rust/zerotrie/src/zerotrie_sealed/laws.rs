@@ -1,0 +1,20 @@
+// Made from crates/zerotrie_sealed/src/laws.rt by rust/make: edit that.
+//! Laws of the definitions alone, as contracts that a caller's proof can cite.
+//!
+//! Each function does nothing: a call brings its law into a proof.
+
+use crate::rstd::prelude::*;
+
+/// A file is the seal of one trie at most, in one kind.
+pub fn one_trie() {}
+
+/// A file is the seal of one list of bytes at most, by one number. So no file is that of a trie and
+/// of an index.
+pub fn one_content() {}
+
+/// No sealed file is the beginning of a longer one: neither a cut file nor one with bytes behind it
+/// is sealed.
+pub fn none_longer() {}
+
+/// A sealed file in which one byte is replaced by another is no sealed file.
+pub fn one_byte_shows() {}

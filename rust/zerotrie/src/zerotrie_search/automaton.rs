@@ -1,0 +1,43 @@
+// Made from crates/zerotrie_search/src/automaton.rt by rust/make: edit that.
+//! What reads a key byte by byte, and accepts it or not.
+
+use crate::rstd::prelude::*;
+
+/// A set of keys that is decided byte by byte.
+///
+/// ```
+/// # use zerotrie::{rstd::examples::*, zerotrie_search::*, zerotrie_base::*, zerotrie_core::*, zerotrie_any::*, zerotrie_ascii::*, zerotrie_hashed::*};
+/// let automaton = StartsWith(b"in");
+/// let mut state = automaton.start();
+/// assert!(!automaton.is_match(state));
+/// for byte in b"into" {
+///     state = automaton.step(state, *byte);
+///     assert!(automaton.can_match(state));
+/// }
+/// assert!(automaton.is_match(state));
+/// # Ok::<(), Fail>(())
+/// ```
+///
+/// A state is the set of what may follow, and `accepts_from` says which do. So the first
+/// state accepts the keys themselves, and a step takes its byte off the front of what follows.
+pub trait Automaton {
+    type State: Copy;
+
+    // Says whether a key is accepted.
+
+    // Says whether a key is accepted that goes on with these bytes after the state.
+
+    // Holds of the states that the automaton may be in after these bytes.
+
+    /// Returns the state before the first byte.
+    fn start(&self) -> Self::State;
+
+    /// Returns the state after one more byte.
+    fn step(&self, state: Self::State, byte: u8) -> Self::State;
+
+    /// Returns whether the bytes before the state are an accepted key.
+    fn is_match(&self, state: Self::State) -> bool;
+
+    /// Returns `false` only if no accepted key begins with the bytes before the state.
+    fn can_match(&self, state: Self::State) -> bool;
+}

@@ -1,0 +1,19 @@
+// Made from crates/zerotrie_search/src/laws.rt by rust/make: edit that.
+//! Laws of the definitions alone, as contracts that a caller's proof can cite.
+//!
+//! Each function does nothing: a call brings its law into a proof.
+
+use crate::rstd::prelude::*;
+use crate::zerotrie_core::laws::listing_is_the_map;
+
+/// The distance of two words, which is defined by a recursion over both, is what the crate strsim
+/// computes: the last cell of the table of distances.
+pub fn distance_is_table() {}
+
+/// The pairs of a sorted listing ascend by the bytes of their keys.
+pub fn sorted_listing_ascends() {}
+
+/// In a `ZeroTrieSimpleAscii` the sorted listing is the plain one.
+pub fn sorted_listing_is_the_plain() {
+    listing_is_the_map();
+}

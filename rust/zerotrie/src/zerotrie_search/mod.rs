@@ -1,0 +1,42 @@
+// Made from crates/zerotrie_search/src/lib.rt by rust/make: edit that.
+//! Searches: the pairs of a trie whose keys an automaton accepts.
+#![forbid(unsafe_code)]
+#![allow(dead_code, unused_imports, unused_variables)]
+
+use crate::rstd::prelude::*;
+
+mod any;
+mod automaton;
+mod beginning;
+mod combination;
+mod cursors;
+mod glob;
+mod keys_of;
+pub mod laws;
+mod levenshtein;
+mod prefix;
+mod range;
+mod search;
+mod sorted;
+mod subsequence;
+mod trail;
+mod tries;
+
+pub use any::{AnyAutomaton, SearchBy, WordError};
+pub use automaton::Automaton;
+pub use beginning::BeginsWith;
+pub use combination::{AnyCase, Both, Either, Not};
+pub use cursors::SearchBelow;
+pub use glob::{Glob, GlobError};
+pub use keys_of::KeysOf;
+pub use levenshtein::{CharsState, Levenshtein, LevenshteinChars};
+pub use prefix::StartsWith;
+pub use range::KeyRange;
+pub use search::ZeroTrieSearch;
+pub use sorted::{ZeroTrieSorted, ZeroTrieSortedIterator};
+pub use subsequence::Subsequence;
+pub use tries::Search;
+
+/// The most letters that a word of a fuzzy search has, and the most items of a pattern.
+pub const WORD_LIMIT: usize = 63;
+pub use crate::by_automaton;

@@ -1,0 +1,47 @@
+// Made from crates/zerotrie_search/src/prefix.rt by rust/make: edit that.
+//! Keys that begin with given bytes.
+
+use crate::rstd::prelude::*;
+use crate::zerotrie_search::automaton::Automaton;
+
+/// Accepts the keys that begin with these bytes, byte by byte.
+///
+/// ```
+/// # use zerotrie::{rstd::examples::*, zerotrie_search::*, zerotrie_base::*, zerotrie_core::*, zerotrie_any::*, zerotrie_ascii::*, zerotrie_hashed::*};
+/// let automaton = StartsWith(b"in");
+/// let state = automaton.step(automaton.start(), b'i');
+/// assert!(automaton.is_match(automaton.step(state, b'n')));
+/// assert!(!automaton.can_match(automaton.step(state, b't')));
+/// # Ok::<(), Fail>(())
+/// ```
+///
+/// A state is what is left of the bytes, or `None` once another byte came.
+#[derive(Clone, Copy, Debug)]
+pub struct StartsWith<'p>(pub &'p [u8]);
+
+impl<'p> Automaton for StartsWith<'p> {
+    type State = Option<&'p [u8]>;
+
+    fn start(&self) -> Option<&'p [u8]> {
+        Some(self.0)
+    }
+
+    fn step(&self, state: Option<&'p [u8]>, byte: u8) -> Option<&'p [u8]> {
+        let left = state?;
+        match left.split_first() {
+            None => Some(left),
+            Some((first, more)) => (*first == byte).then_some(more),
+        }
+    }
+
+    fn is_match(&self, state: Option<&'p [u8]>) -> bool {
+        match state {
+            None => false,
+            Some(left) => left.is_empty(),
+        }
+    }
+
+    fn can_match(&self, state: Option<&'p [u8]>) -> bool {
+        state.is_some()
+    }
+}

@@ -1,0 +1,172 @@
+// Made from crates/zerotrie_sets/src/merge_all.rt by rust/make: edit that.
+//! Any number of streams merged: a row for each key of any of them.
+
+use crate::rstd::prelude::*;
+use crate::zerotrie_sets::input::Input;
+use crate::rstd::alloc::{AllocError, Allocator, Global};
+use crate::rstd::cmp::Ordering;
+use crate::zerotrie_core::PairStream;
+
+/// Lists the keys of any number of streams in the order of bytes, each key once, with the value
+/// that each stream has for it.
+///
+/// ```
+/// # use zerotrie::{rstd::examples::*, zerotrie_sets::*, zerotrie_base::*, zerotrie_core::*, zerotrie_search::*};
+/// let mut streams = Vec::new(Global);
+/// streams.push(SortedSlice::new(&[(b"a", 1), (b"c", 2)]).ok_or("not sorted")?)?;
+/// streams.push(SortedSlice::new(&[(b"b", 3)]).ok_or("not sorted")?)?;
+/// streams.push(SortedSlice::new(&[(b"a", 4)]).ok_or("not sorted")?)?;
+/// let mut rows = MergeAll::new(Global, streams)?;
+/// assert!(rows.advance()?);
+/// assert_eq!(rows.key(), b"a".as_slice());
+/// assert_eq!((rows.value(0), rows.value(1), rows.value(2)), (Some(1), None, Some(4)));
+/// assert_eq!((rows.first(), rows.last()), (Some(1), Some(4)));
+/// # Ok::<(), Fail>(())
+/// ```
+///
+/// It allocates for the streams at first, and then for the longest key alone. A step costs a
+/// comparison of keys for each stream.
+pub struct MergeAll<S: PairStream, A: Allocator = Global> {
+    inputs: Vec<Input<S>, A>,
+    key: Vec<u8, A>,
+    ended: bool,
+}
+
+impl<S: PairStream, A: Allocator + Copy> MergeAll<S, A> {
+    /// Merges streams. Does not advance them before the first call of `advance`.
+    pub fn new(alloc: A, streams: Vec<S, A>) -> Result<Self, AllocError> {
+        crate::zerotrie_sets::laws::rows_of_all_are_of_maps();
+        let mut inputs = Vec::new(alloc);
+        for stream in streams {
+            inputs.push(Input::new(stream))?;
+        }
+        Ok(MergeAll {
+            inputs,
+            key: Vec::new(alloc),
+            ended: false,
+        })
+    }
+}
+
+impl<S: PairStream, A: Allocator> MergeAll<S, A> {
+    /// Moves to the next key, and returns whether there is one. An error ends the merge. The only
+    /// error is a failed allocation for a longer key or in a stream.
+    pub fn advance(&mut self) -> Result<bool, AllocError> {
+        if self.ended {
+            return Ok(false);
+        }
+        self.ended = true;
+        let found = next_row(&mut self.inputs, &mut self.key)?;
+        self.ended = !found;
+        Ok(found)
+    }
+
+    /// Returns the current key, the one that the last call of `advance` moved to. Before the first
+    /// call and after the end, it is not a key of the streams.
+    pub fn key(&self) -> &[u8] {
+        self.key.as_slice()
+    }
+
+    /// Returns the value that a stream has for the current key, if it has the key. The streams are
+    /// numbered from 0 on.
+    pub fn value(&self, stream: usize) -> Option<usize> {
+        match self.inputs.get(stream) {
+            Some(input) => input.listed(),
+            None => None,
+        }
+    }
+
+    /// Returns the value of the first stream that has the current key, as in a union that keeps the
+    /// first.
+    pub fn first(&self) -> Option<usize> {
+        first_listed(&self.inputs)
+    }
+
+    /// Returns the value of the last stream that has the current key, as in a union that keeps the
+    /// last.
+    pub fn last(&self) -> Option<usize> {
+        last_listed(&self.inputs)
+    }
+}
+
+/// Returns the first value that was listed.
+fn first_listed<S: PairStream>(inputs: &[Input<S>]) -> Option<usize> {
+    for input in inputs {
+        let value = input.listed();
+        if value.is_some() {
+            return value;
+        }
+    }
+    None
+}
+
+/// Returns the last value that was listed.
+fn last_listed<S: PairStream>(inputs: &[Input<S>]) -> Option<usize> {
+    let mut last = None;
+    for input in inputs {
+        last = input.listed().or(last);
+    }
+    last
+}
+
+/// Moves each input to its first pair that is still to be listed.
+fn fetch_all<S: PairStream>(inputs: &mut [Input<S>]) -> Result<(), AllocError> {
+    for input in inputs.iter_mut() {
+        input.fetch()?;
+    }
+    Ok(())
+}
+
+/// Returns the lesser of two keys, by their bytes.
+fn lesser_key<'k>(least: Option<&'k [u8]>, waiting: Option<&'k [u8]>) -> Option<&'k [u8]> {
+    match (least, waiting) {
+        (Some(key), Some(other)) => match other.cmp(key) {
+            Ordering::Less => waiting,
+            Ordering::Equal | Ordering::Greater => least,
+        },
+        (Some(_key), None) => least,
+        (None, _) => waiting,
+    }
+}
+
+/// Returns the least key that waits.
+fn least<S: PairStream>(inputs: &[Input<S>]) -> Option<&[u8]> {
+    let mut least: Option<&[u8]> = None;
+    for input in inputs {
+        least = lesser_key(least, input.waiting());
+    }
+    least
+}
+
+/// Copies the least key that waits, and returns whether there is one.
+fn take_least<S: PairStream, A: Allocator>(
+    inputs: &[Input<S>],
+    key: &mut Vec<u8, A>,
+) -> Result<bool, AllocError> {
+    let Some(least) = least(inputs) else {
+        return Ok(false);
+    };
+    key.clear();
+    key.extend_from_slice(least)?;
+    Ok(true)
+}
+
+/// Lists the pairs that wait with this key.
+fn list_all<S: PairStream>(inputs: &mut [Input<S>], key: &[u8]) {
+    for input in inputs.iter_mut() {
+        input.list_key(key);
+    }
+}
+
+/// Moves to the next row, and returns whether there is one.
+fn next_row<S: PairStream, A: Allocator>(
+    inputs: &mut [Input<S>],
+    key: &mut Vec<u8, A>,
+) -> Result<bool, AllocError> {
+    fetch_all(inputs)?;
+    if !take_least(inputs, key)? {
+        return Ok(false);
+    }
+    list_all(inputs, key.as_slice());
+    Ok(true)
+}

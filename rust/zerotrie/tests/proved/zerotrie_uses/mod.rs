@@ -1,0 +1,25 @@
+// Made from crates/zerotrie_uses/src/lib.rt by rust/make: edit that.
+//! Functions over `zerotrie` to copy, each proved from the contracts of the library's calls.
+//!
+//! Copy a function, the words of `specs/` that its contract cites, and the folder of its name in
+//! `proofs/`. They use `zerotrie` alone: the definitions of `Rattle.zerotrie.specs` and the lemmas of
+//! `Rattle.zerotrie.proofs`.
+use crate::rstd::prelude::*;
+
+mod completion;
+mod constants;
+mod cursors;
+mod fallbacks;
+mod keyword;
+mod keywords;
+mod listings;
+mod stored;
+
+pub use completion::complete;
+pub use constants::{HEADERS, header_bytes, header_number, header_trie, method_number};
+pub use cursors::{find_behind, find_written, suffixes_of};
+pub use fallbacks::{fall_back, fall_back_in_hashed, longest_key};
+pub use keyword::find_keyword;
+pub use keywords::{find_header, find_owned, find_word, record_of, second_of_three};
+pub use listings::{listed_again, walk_over};
+pub use stored::{entry_in_record, find_in_bytes, find_in_json, find_in_json_of_any};

@@ -1,0 +1,141 @@
+// Made from crates/zerotrie_c/src/listings.rt by rust/make: edit that.
+//! Whole listings.
+
+use crate::rstd::prelude::*;
+use crate::zerotrie_c::numbers::{BUFFER_TOO_SMALL, DONE, OUT_OF_MEMORY, UNKNOWN_KIND, trie_of};
+use crate::rstd::alloc::Global;
+use crate::zerotrie_core::{ListError, Trie, ZeroTrieStream};
+
+/// Keys one after another, where each ends, and their values.
+struct Flat {
+    keys: Vec<u8>,
+    ends: Vec<usize>,
+    values: Vec<usize>,
+}
+
+/// Returns the pairs of a stream.
+fn flat_of(alloc: Global, mut pairs: ZeroTrieStream<'_>) -> Result<Flat, ListError> {
+    let mut keys = Vec::new(alloc);
+    let mut ends = Vec::new(alloc);
+    let mut values = Vec::new(alloc);
+    while pairs.advance()? {
+        keys.extend_from_slice(pairs.key())?;
+        ends.push(keys.len())?;
+        values.push(pairs.value())?;
+    }
+    Ok(Flat { keys, ends, values })
+}
+
+/// Copies numbers to the beginning of the room, if there is enough.
+fn put(numbers: &[usize], room: &mut [usize]) -> bool {
+    if room.len() < numbers.len() {
+        return false;
+    }
+    let (front, _) = room.split_at_mut(numbers.len());
+    front.copy_from_slice(numbers);
+    true
+}
+
+/// Copies bytes to the beginning of the room, if there is enough.
+fn put_bytes(bytes: &[u8], room: &mut [u8]) -> bool {
+    if room.len() < bytes.len() {
+        return false;
+    }
+    let (front, _) = room.split_at_mut(bytes.len());
+    front.copy_from_slice(bytes);
+    true
+}
+
+/// Returns the status of three copies.
+fn status_of_rooms(keys: bool, ends: bool, values: bool) -> u32 {
+    if keys && ends && values {
+        DONE
+    } else {
+        BUFFER_TOO_SMALL
+    }
+}
+
+/// Copies the pairs out, and sets their lengths.
+fn give(
+    listed: &Flat,
+    keys: &mut [u8],
+    ends: &mut [usize],
+    values: &mut [usize],
+    key_bytes: &mut usize,
+    count: &mut usize,
+) -> u32 {
+    *key_bytes = listed.keys.len();
+    *count = listed.values.len();
+    let whole_keys = put_bytes(listed.keys.as_slice(), keys);
+    let whole_ends = put(listed.ends.as_slice(), ends);
+    let whole_values = put(listed.values.as_slice(), values);
+    status_of_rooms(whole_keys, whole_ends, whole_values)
+}
+
+/// Writes the pairs of a trie whose keys begin with a prefix, with the empty prefix all pairs: the
+/// keys one after another, where each ends, and the values.
+///
+/// It sets `key_bytes` and `count` even if some room is too small. A room that is too small stays
+/// as it is. If no kind has the number, or an allocation fails, nothing is written.
+///
+/// On malformed bytes it does the same for some pairs, at most as many as there are bytes.
+pub fn zerotrie_list(
+    alloc: Global,
+    kind: u32,
+    bytes: &[u8],
+    prefix: &[u8],
+    keys: &mut [u8],
+    ends: &mut [usize],
+    values: &mut [usize],
+    key_bytes: &mut usize,
+    count: &mut usize,
+) -> u32 {
+    let Some(trie) = trie_of(kind, bytes) else {
+        return UNKNOWN_KIND;
+    };
+    let Ok(pairs) = trie.stream_prefix(alloc, prefix) else {
+        return OUT_OF_MEMORY;
+    };
+    match flat_of(alloc, pairs) {
+        Ok(listed) => give(&listed, keys, ends, values, key_bytes, count),
+        Err(_) => OUT_OF_MEMORY,
+    }
+}
+
+/// The functions as C calls them: a slice is a pointer and a number of items.
+#[allow(unsafe_code)]
+mod exports {
+    use super::*;
+
+    #[unsafe(no_mangle)]
+    unsafe extern "C" fn zerotrie_list(
+        kind: u32,
+        bytes: *const u8,
+        bytes_len: usize,
+        prefix: *const u8,
+        prefix_len: usize,
+        keys: *mut u8,
+        keys_len: usize,
+        ends: *mut usize,
+        ends_len: usize,
+        values: *mut usize,
+        values_len: usize,
+        key_bytes: *mut usize,
+        count: *mut usize,
+    ) -> u32 {
+        // SAFETY: a caller keeps to what zerotrie.h says.
+        unsafe {
+            super::zerotrie_list(
+                Global,
+                kind,
+                crate::slice(bytes, bytes_len),
+                crate::slice(prefix, prefix_len),
+                crate::slice_mut(keys, keys_len),
+                crate::slice_mut(ends, ends_len),
+                crate::slice_mut(values, values_len),
+                &mut *key_bytes,
+                &mut *count,
+            )
+        }
+    }
+}

@@ -1,0 +1,29 @@
+// Made from crates/zerotrie_c/src/lib.rt by rust/make: edit that.
+//! The library for C, and for the languages that call C.
+//!
+//! Each export is a call of the library, with the clauses of that call. `bindings/c/zerotrie.h`
+//! declares the exports, and says what a caller must keep to: nothing checks it.
+#![allow(dead_code, unused_imports, unused_variables)]
+
+use crate::rstd::prelude::*;
+
+mod answers;
+pub mod bounds;
+pub mod builds;
+pub mod cursors;
+pub mod dense;
+mod entries;
+pub mod faults;
+pub mod files;
+pub mod flat;
+pub mod fronts;
+pub mod indexes;
+pub mod listings;
+pub mod look_up;
+pub mod numbers;
+pub mod parts;
+pub mod refusals;
+pub mod searches;
+pub mod sorted;
+pub mod tags;
+pub mod version;
