@@ -9,7 +9,7 @@
  *     uint8_t trie[64];
  *     size_t len, value;
  *     if (zerotrie_build(ZEROTRIE_SIMPLE_ASCII, pairs, 3, trie, sizeof trie, &len) == ZEROTRIE_DONE
- *         && zerotrie_get(ZEROTRIE_SIMPLE_ASCII, trie, len, (const uint8_t *)"bar", 3, &value))
+ *         && zerotrie_get(ZEROTRIE_SIMPLE_ASCII, trie, len, "bar", 3, &value))
  *         printf("bar is %zu, in %zu bytes\n", value, len);
  *
  * A file that the program `zerotrie build` wrote is sealed, or tagged bytes: its kind stands before
@@ -19,7 +19,7 @@
  *     zerotrie_trie trie;
  *     if (zerotrie_trie_open(file, file_len, &trie) == ZEROTRIE_DONE
  *         && zerotrie_trie_is_well_formed(trie)
- *         && zerotrie_trie_get(trie, (const uint8_t *)"bar", 3, &value))
+ *         && zerotrie_trie_gets(trie, "bar", &value))
  *         printf("bar is %zu\n", value);
  *
  * `bindings/make` makes libzerotrie.a and libzerotrie.so in bindings/build, for 64-bit Linux.
@@ -36,10 +36,11 @@
  *     which nobody writes during the call. What a function writes can be written, and overlaps
  *     nothing else that the call is given. A pointer is aligned for its type. A length is at most
  *     PTRDIFF_MAX bytes.
- *   - NULL. A pointer with the length 0 may be NULL. No other pointer may: not that of a key in a
- *     zerotrie_pair, for which zerotrie_bytes_of() exists, and not a place for a result. The
- *     address of a function of the library, as in `f = zerotrie_get`, is the library's own
- *     function, to which NULL may not be passed at all.
+ *   - NULL. A pointer that a length follows may be NULL, and the length then counts as 0. So a room
+ *     of NULL is too small, and bytes of NULL are no bytes. No other pointer may be NULL: not that
+ *     of a key in a zerotrie_pair, for which zerotrie_bytes_of() exists, and not a place for a
+ *     result. The address of a function of the library, as in `f = zerotrie_get`, is the library's
+ *     own function, to which NULL may not be passed at all.
  *   - Lifetimes. A trie is only your bytes: there is nothing to close or free. A zerotrie_trie,
  *     zerotrie_untagged(), zerotrie_cursor_run() and zerotrie_cursor_trie() point into them: use
  *     the result only while the bytes stay where they are and unchanged. A cursor has no pointer. A
@@ -71,6 +72,7 @@
 #include <stdbool.h>
 #include <stddef.h>
 #include <stdint.h>
+#include <string.h>
 
 /** The version of this header. zerotrie_version() returns that of the library. */
 #define ZEROTRIE_VERSION_MAJOR 0
@@ -297,12 +299,18 @@ ZEROTRIE_INLINE zerotrie_bytes zerotrie_bytes_of(const void *ptr, size_t len) {
     return made;
 }
 
+/** Returns the bytes of a C string, without its end. */
+ZEROTRIE_NONNULL
+ZEROTRIE_INLINE zerotrie_bytes zerotrie_bytes_of_string(const char *string) {
+    return zerotrie_bytes_of(string, strlen(string));
+}
+
 /** The bytes of a string literal, without its end, as an initializer. */
 #define ZEROTRIE_TEXT(literal)                                                                     \
     { ZEROTRIE_POINTER(const uint8_t *, "" literal), sizeof("" literal) - 1 }
 
 /** Returns a search of one text, without edits and bounds; see zerotrie_search_by. */
-ZEROTRIE_INLINE zerotrie_search zerotrie_search_for(zerotrie_search_by by, const uint8_t *text,
+ZEROTRIE_INLINE zerotrie_search zerotrie_search_for(zerotrie_search_by by, const void *text,
                                                     size_t text_len) {
     zerotrie_search made;
     made.by = by;
@@ -316,13 +324,13 @@ ZEROTRIE_INLINE zerotrie_search zerotrie_search_for(zerotrie_search_by by, const
 
 /**
  * Returns a search for the keys between two bounds; see ZEROTRIE_BY_RANGE. A key that bounds
- * nothing may be NULL with the length 0.
+ * nothing may be NULL.
  *
- *     zerotrie_range(ZEROTRIE_INCLUDED, (const uint8_t *)"b", 1, ZEROTRIE_UNBOUNDED, NULL, 0)
+ *     zerotrie_range(ZEROTRIE_INCLUDED, "b", 1, ZEROTRIE_UNBOUNDED, NULL, 0)
  */
-ZEROTRIE_INLINE zerotrie_search zerotrie_range(zerotrie_bound from_bound, const uint8_t *from,
+ZEROTRIE_INLINE zerotrie_search zerotrie_range(zerotrie_bound from_bound, const void *from,
                                                size_t from_len, zerotrie_bound to_bound,
-                                               const uint8_t *to, size_t to_len) {
+                                               const void *to, size_t to_len) {
     zerotrie_search made = zerotrie_search_for(ZEROTRIE_BY_RANGE, from, from_len);
     made.from_bound = from_bound;
     made.to_bound = to_bound;
@@ -331,27 +339,26 @@ ZEROTRIE_INLINE zerotrie_search zerotrie_range(zerotrie_bound from_bound, const 
 }
 
 /** Returns a search for the keys that a pattern matches, as "s*ing"; see ZEROTRIE_BY_GLOB. */
-ZEROTRIE_INLINE zerotrie_search zerotrie_glob(const uint8_t *pattern, size_t pattern_len) {
+ZEROTRIE_INLINE zerotrie_search zerotrie_glob(const void *pattern, size_t pattern_len) {
     return zerotrie_search_for(ZEROTRIE_BY_GLOB, pattern, pattern_len);
 }
 
 /** Returns a search for the keys that have these bytes in this order; see
  * ZEROTRIE_BY_SUBSEQUENCE. */
-ZEROTRIE_INLINE zerotrie_search zerotrie_subsequence(const uint8_t *letters, size_t letters_len) {
+ZEROTRIE_INLINE zerotrie_search zerotrie_subsequence(const void *letters, size_t letters_len) {
     return zerotrie_search_for(ZEROTRIE_BY_SUBSEQUENCE, letters, letters_len);
 }
 
 /** Returns a search for the keys that at most `edits` edits of bytes make of a word; see
  * ZEROTRIE_BY_EDITS. */
-ZEROTRIE_INLINE zerotrie_search zerotrie_fuzzy(const uint8_t *word, size_t word_len,
-                                               uint32_t edits) {
+ZEROTRIE_INLINE zerotrie_search zerotrie_fuzzy(const void *word, size_t word_len, uint32_t edits) {
     zerotrie_search made = zerotrie_search_for(ZEROTRIE_BY_EDITS, word, word_len);
     made.edits = edits;
     return made;
 }
 
 /** The same by characters of UTF-8; see ZEROTRIE_BY_CHAR_EDITS. */
-ZEROTRIE_INLINE zerotrie_search zerotrie_fuzzy_chars(const uint8_t *word, size_t word_len,
+ZEROTRIE_INLINE zerotrie_search zerotrie_fuzzy_chars(const void *word, size_t word_len,
                                                      uint32_t edits) {
     zerotrie_search made = zerotrie_search_for(ZEROTRIE_BY_CHAR_EDITS, word, word_len);
     made.edits = edits;
@@ -468,20 +475,21 @@ ZEROTRIE_INLINE bool zerotrie_cursor_is_empty(zerotrie_cursor cursor) {
 
 /** Returns the bytes from one number up to another, in place; none if the numbers don't ascend or
  * leave the bytes. */
-ZEROTRIE_INLINE zerotrie_bytes zerotrie_between(const uint8_t *bytes, size_t len, size_t from,
+ZEROTRIE_INLINE zerotrie_bytes zerotrie_between(const void *bytes, size_t len, size_t from,
                                                 size_t to) {
+    const uint8_t *const first = ZEROTRIE_POINTER(const uint8_t *, bytes);
     const bool inside = bytes && from <= to && to <= len;
-    return inside ? zerotrie_bytes_of(bytes + from, to - from) : zerotrie_bytes_of(bytes, 0);
+    return inside ? zerotrie_bytes_of(first + from, to - from) : zerotrie_bytes_of(bytes, 0);
 }
 
 /** Returns what is left of the span that a cursor is in; no bytes outside of spans. */
-ZEROTRIE_INLINE zerotrie_bytes zerotrie_cursor_run(const uint8_t *bytes, size_t len,
+ZEROTRIE_INLINE zerotrie_bytes zerotrie_cursor_run(const void *bytes, size_t len,
                                                    zerotrie_cursor cursor) {
     return zerotrie_between(bytes, len, cursor.run, cursor.trie);
 }
 
 /** Returns the trie after it: outside of spans, that of what the keys have from here on. */
-ZEROTRIE_INLINE zerotrie_bytes zerotrie_cursor_trie(const uint8_t *bytes, size_t len,
+ZEROTRIE_INLINE zerotrie_bytes zerotrie_cursor_trie(const void *bytes, size_t len,
                                                     zerotrie_cursor cursor) {
     return zerotrie_between(bytes, len, cursor.trie, cursor.end);
 }
@@ -634,7 +642,7 @@ zerotrie_status zerotrie_dense_get(const uint8_t *record, size_t len, const uint
  * `prefix_ends`, `suffix_ends` and `values` has. Allocates.
  *
  *     const size_t prefix_ends[] = { 2, 4, 6 }, suffix_ends[] = { 2, 4, 6 }, values[] = { 8, 9, 5
- * }; zerotrie_dense_build((const uint8_t *)"dedeen", 6, prefix_ends, 3, (const uint8_t *)"ATCHUS",
+ * }; zerotrie_dense_build("dedeen", 6, prefix_ends, 3, "ATCHUS",
  * 6, suffix_ends, 3, values, 3, '/', record, sizeof record, &len);
  *
  * ZEROTRIE_DONE: the record is the first *len bytes of `out`, and the rest stays.
@@ -713,7 +721,7 @@ zerotrie_status zerotrie_list_some(zerotrie_kind_number kind, const uint8_t *byt
  * pattern of more than 63 items, or of a word of more than 63 bytes or characters, or of more than
  * 254 edits.
  *
- *     zerotrie_search near = zerotrie_fuzzy((const uint8_t *)"exampel", 7, 1);
+ *     zerotrie_search near = zerotrie_fuzzy("exampel", 7, 1);
  *     status = zerotrie_search_some(kind, trie, len, NULL, 0, &near, false, NULL, 0, keys,
  *                                   sizeof keys, ends, 10, values, 10, &count, &next_len);
  *
@@ -740,7 +748,7 @@ zerotrie_status zerotrie_search_some(zerotrie_kind_number kind, const uint8_t *b
  * in `keys`: zerotrie_listing_sorted() takes care of it. With one place this is the first key from
  * a key on, or after it:
  *
- *     status = zerotrie_sorted_some(kind, trie, len, ZEROTRIE_INCLUDED, (const uint8_t *)"b", 1,
+ *     status = zerotrie_sorted_some(kind, trie, len, ZEROTRIE_INCLUDED, "b", 1,
  *                                   ZEROTRIE_UNBOUNDED, NULL, 0, key, sizeof key, &key_len, 1,
  *                                   &value, 1, &count, &next_len);
  *
@@ -810,157 +818,144 @@ typedef char zerotrie_enums_have_32_bits[sizeof(zerotrie_kind) == 4 &&
                                              ? 1
                                              : -1];
 
-/* NULL with the length 0. The library itself takes no null pointer, so a call of one of its
- * functions that has such pointers passes the address of an object in place of NULL. */
-#define ZEROTRIE_SOME(pointer, some) ((pointer) ? (pointer) : (some))
+/* A pointer and its length, as two arguments. The library itself takes no null pointer, so in place
+ * of NULL it gets the address of an object, always with the length 0: it reads and writes nothing
+ * of that object. */
+#define ZEROTRIE_ARRAY(pointer, len, object)                                                       \
+    (pointer) ? (pointer) : (object), (pointer) ? (len) : 0
+/* The same of a pointer to bytes of any type, which are read. */
+#define ZEROTRIE_READS(pointer, len)                                                               \
+    ZEROTRIE_POINTER(const uint8_t *, (pointer) ? (pointer) : ""), (pointer) ? (len) : 0
 
 ZEROTRIE_MUST_USE
-ZEROTRIE_INLINE bool zerotrie_is_well_formed_or_null(zerotrie_kind_number kind,
-                                                     const uint8_t *bytes, size_t len) {
-    const uint8_t no_byte = 0;
-    return zerotrie_is_well_formed(kind, ZEROTRIE_SOME(bytes, &no_byte), len);
+ZEROTRIE_INLINE bool zerotrie_is_well_formed_or_null(zerotrie_kind_number kind, const void *bytes,
+                                                     size_t len) {
+    return zerotrie_is_well_formed(kind, ZEROTRIE_READS(bytes, len));
 }
 #define zerotrie_is_well_formed(...) zerotrie_is_well_formed_or_null(__VA_ARGS__)
 
 ZEROTRIE_MUST_USE
 ZEROTRIE_NEEDS((6))
-ZEROTRIE_INLINE bool zerotrie_get_or_null(zerotrie_kind_number kind, const uint8_t *bytes,
-                                          size_t len, const uint8_t *key, size_t key_len,
-                                          size_t *value) {
-    const uint8_t no_byte = 0;
-    return zerotrie_get(kind, ZEROTRIE_SOME(bytes, &no_byte), len, ZEROTRIE_SOME(key, &no_byte),
-                        key_len, value);
+ZEROTRIE_INLINE bool zerotrie_get_or_null(zerotrie_kind_number kind, const void *bytes, size_t len,
+                                          const void *key, size_t key_len, size_t *value) {
+    return zerotrie_get(kind, ZEROTRIE_READS(bytes, len), ZEROTRIE_READS(key, key_len), value);
 }
 #define zerotrie_get(...) zerotrie_get_or_null(__VA_ARGS__)
 
 ZEROTRIE_INLINE zerotrie_status zerotrie_get_many_or_null(zerotrie_kind_number kind,
-                                                          const uint8_t *bytes, size_t len,
-                                                          const uint8_t *keys, size_t keys_len,
+                                                          const void *bytes, size_t len,
+                                                          const void *keys, size_t keys_len,
                                                           const size_t *ends, size_t ends_len,
                                                           size_t missing, size_t *values,
                                                           size_t values_len) {
-    const uint8_t no_byte = 0;
     const size_t no_number = 0;
     size_t number;
-    return zerotrie_get_many(kind, ZEROTRIE_SOME(bytes, &no_byte), len,
-                             ZEROTRIE_SOME(keys, &no_byte), keys_len,
-                             ZEROTRIE_SOME(ends, &no_number), ends_len, missing,
-                             ZEROTRIE_SOME(values, &number), values_len);
+    return zerotrie_get_many(kind, ZEROTRIE_READS(bytes, len), ZEROTRIE_READS(keys, keys_len),
+                             ZEROTRIE_ARRAY(ends, ends_len, &no_number), missing,
+                             ZEROTRIE_ARRAY(values, values_len, &number));
 }
 #define zerotrie_get_many(...) zerotrie_get_many_or_null(__VA_ARGS__)
 
 ZEROTRIE_MUST_USE
 ZEROTRIE_NEEDS((6, 7))
-ZEROTRIE_INLINE bool zerotrie_longest_prefix_or_null(zerotrie_kind_number kind,
-                                                     const uint8_t *bytes, size_t len,
-                                                     const uint8_t *text, size_t text_len,
+ZEROTRIE_INLINE bool zerotrie_longest_prefix_or_null(zerotrie_kind_number kind, const void *bytes,
+                                                     size_t len, const void *text, size_t text_len,
                                                      size_t *key_len, size_t *value) {
-    const uint8_t no_byte = 0;
-    return zerotrie_longest_prefix(kind, ZEROTRIE_SOME(bytes, &no_byte), len,
-                                   ZEROTRIE_SOME(text, &no_byte), text_len, key_len, value);
+    return zerotrie_longest_prefix(kind, ZEROTRIE_READS(bytes, len), ZEROTRIE_READS(text, text_len),
+                                   key_len, value);
 }
 #define zerotrie_longest_prefix(...) zerotrie_longest_prefix_or_null(__VA_ARGS__)
 
 ZEROTRIE_MUST_USE
 ZEROTRIE_NEEDS((8, 9))
 ZEROTRIE_INLINE bool zerotrie_longest_prefix_at_or_null(zerotrie_kind_number kind,
-                                                        const uint8_t *bytes, size_t len,
-                                                        const uint8_t *text, size_t text_len,
-                                                        const uint8_t *delimiters,
+                                                        const void *bytes, size_t len,
+                                                        const void *text, size_t text_len,
+                                                        const void *delimiters,
                                                         size_t delimiters_len, size_t *prefix_len,
                                                         size_t *value) {
-    const uint8_t no_byte = 0;
-    return zerotrie_longest_prefix_at(
-        kind, ZEROTRIE_SOME(bytes, &no_byte), len, ZEROTRIE_SOME(text, &no_byte), text_len,
-        ZEROTRIE_SOME(delimiters, &no_byte), delimiters_len, prefix_len, value);
+    return zerotrie_longest_prefix_at(kind, ZEROTRIE_READS(bytes, len),
+                                      ZEROTRIE_READS(text, text_len),
+                                      ZEROTRIE_READS(delimiters, delimiters_len), prefix_len,
+                                      value);
 }
 #define zerotrie_longest_prefix_at(...) zerotrie_longest_prefix_at_or_null(__VA_ARGS__)
 
 ZEROTRIE_INLINE size_t zerotrie_common_prefixes_or_null(zerotrie_kind_number kind,
-                                                        const uint8_t *bytes, size_t len,
-                                                        const uint8_t *text, size_t text_len,
+                                                        const void *bytes, size_t len,
+                                                        const void *text, size_t text_len,
                                                         size_t *lens, size_t lens_room,
                                                         size_t *values, size_t values_room) {
-    const uint8_t no_byte = 0;
     size_t number;
-    return zerotrie_common_prefixes(
-        kind, ZEROTRIE_SOME(bytes, &no_byte), len, ZEROTRIE_SOME(text, &no_byte), text_len,
-        ZEROTRIE_SOME(lens, &number), lens_room, ZEROTRIE_SOME(values, &number), values_room);
+    return zerotrie_common_prefixes(kind, ZEROTRIE_READS(bytes, len),
+                                    ZEROTRIE_READS(text, text_len),
+                                    ZEROTRIE_ARRAY(lens, lens_room, &number),
+                                    ZEROTRIE_ARRAY(values, values_room, &number));
 }
 #define zerotrie_common_prefixes(...) zerotrie_common_prefixes_or_null(__VA_ARGS__)
 
 ZEROTRIE_MUST_USE
-ZEROTRIE_INLINE zerotrie_cursor zerotrie_cursor_new_or_null(const uint8_t *bytes, size_t len) {
-    const uint8_t no_byte = 0;
-    return zerotrie_cursor_new(ZEROTRIE_SOME(bytes, &no_byte), len);
+ZEROTRIE_INLINE zerotrie_cursor zerotrie_cursor_new_or_null(const void *bytes, size_t len) {
+    return zerotrie_cursor_new(ZEROTRIE_READS(bytes, len));
 }
 #define zerotrie_cursor_new(...) zerotrie_cursor_new_or_null(__VA_ARGS__)
 
 ZEROTRIE_MUST_USE
 ZEROTRIE_INLINE zerotrie_cursor zerotrie_with_prefix_or_null(zerotrie_kind_number kind,
-                                                             const uint8_t *bytes, size_t len,
-                                                             const uint8_t *prefix,
+                                                             const void *bytes, size_t len,
+                                                             const void *prefix,
                                                              size_t prefix_len) {
-    const uint8_t no_byte = 0;
-    return zerotrie_with_prefix(kind, ZEROTRIE_SOME(bytes, &no_byte), len,
-                                ZEROTRIE_SOME(prefix, &no_byte), prefix_len);
+    return zerotrie_with_prefix(kind, ZEROTRIE_READS(bytes, len),
+                                ZEROTRIE_READS(prefix, prefix_len));
 }
 #define zerotrie_with_prefix(...) zerotrie_with_prefix_or_null(__VA_ARGS__)
 
 ZEROTRIE_NEEDS((4, 6))
-ZEROTRIE_INLINE bool zerotrie_cursor_step_or_null(zerotrie_kind_number kind, const uint8_t *bytes,
+ZEROTRIE_INLINE bool zerotrie_cursor_step_or_null(zerotrie_kind_number kind, const void *bytes,
                                                   size_t len, zerotrie_cursor *cursor, uint8_t byte,
                                                   uint8_t *edge) {
-    const uint8_t no_byte = 0;
-    return zerotrie_cursor_step(kind, ZEROTRIE_SOME(bytes, &no_byte), len, cursor, byte, edge);
+    return zerotrie_cursor_step(kind, ZEROTRIE_READS(bytes, len), cursor, byte, edge);
 }
 #define zerotrie_cursor_step(...) zerotrie_cursor_step_or_null(__VA_ARGS__)
 
 ZEROTRIE_NEEDS((3, 4))
-ZEROTRIE_INLINE bool zerotrie_cursor_take_value_or_null(const uint8_t *bytes, size_t len,
+ZEROTRIE_INLINE bool zerotrie_cursor_take_value_or_null(const void *bytes, size_t len,
                                                         zerotrie_cursor *cursor, size_t *value) {
-    const uint8_t no_byte = 0;
-    return zerotrie_cursor_take_value(ZEROTRIE_SOME(bytes, &no_byte), len, cursor, value);
+    return zerotrie_cursor_take_value(ZEROTRIE_READS(bytes, len), cursor, value);
 }
 #define zerotrie_cursor_take_value(...) zerotrie_cursor_take_value_or_null(__VA_ARGS__)
 
 ZEROTRIE_NEEDS((4, 6, 7))
-ZEROTRIE_INLINE bool zerotrie_cursor_probe_or_null(zerotrie_kind_number kind, const uint8_t *bytes,
+ZEROTRIE_INLINE bool zerotrie_cursor_probe_or_null(zerotrie_kind_number kind, const void *bytes,
                                                    size_t len, zerotrie_cursor *cursor,
                                                    size_t index, uint8_t *edge,
                                                    uint16_t *siblings) {
-    const uint8_t no_byte = 0;
-    return zerotrie_cursor_probe(kind, ZEROTRIE_SOME(bytes, &no_byte), len, cursor, index, edge,
-                                 siblings);
+    return zerotrie_cursor_probe(kind, ZEROTRIE_READS(bytes, len), cursor, index, edge, siblings);
 }
 #define zerotrie_cursor_probe(...) zerotrie_cursor_probe_or_null(__VA_ARGS__)
 
 ZEROTRIE_MUST_USE
 ZEROTRIE_NEEDS((3))
-ZEROTRIE_INLINE zerotrie_status zerotrie_tagged_kind_or_null(const uint8_t *tagged, size_t len,
+ZEROTRIE_INLINE zerotrie_status zerotrie_tagged_kind_or_null(const void *tagged, size_t len,
                                                              uint32_t *kind) {
-    const uint8_t no_byte = 0;
-    return zerotrie_tagged_kind(ZEROTRIE_SOME(tagged, &no_byte), len, kind);
+    return zerotrie_tagged_kind(ZEROTRIE_READS(tagged, len), kind);
 }
 #define zerotrie_tagged_kind(...) zerotrie_tagged_kind_or_null(__VA_ARGS__)
 
 ZEROTRIE_MUST_USE
 ZEROTRIE_NEEDS((3, 4, 5))
-ZEROTRIE_INLINE zerotrie_status zerotrie_open_or_null(const uint8_t *file, size_t len,
-                                                      uint32_t *kind, size_t *at,
-                                                      size_t *trie_len) {
-    const uint8_t no_byte = 0;
-    return zerotrie_open(ZEROTRIE_SOME(file, &no_byte), len, kind, at, trie_len);
+ZEROTRIE_INLINE zerotrie_status zerotrie_open_or_null(const void *file, size_t len, uint32_t *kind,
+                                                      size_t *at, size_t *trie_len) {
+    return zerotrie_open(ZEROTRIE_READS(file, len), kind, at, trie_len);
 }
 #define zerotrie_open(...) zerotrie_open_or_null(__VA_ARGS__)
 
 ZEROTRIE_MUST_USE
 ZEROTRIE_NEEDS((4))
 ZEROTRIE_INLINE zerotrie_fault zerotrie_first_fault_or_null(zerotrie_kind_number kind,
-                                                            const uint8_t *bytes, size_t len,
+                                                            const void *bytes, size_t len,
                                                             size_t *at) {
-    const uint8_t no_byte = 0;
-    return zerotrie_first_fault(kind, ZEROTRIE_SOME(bytes, &no_byte), len, at);
+    return zerotrie_first_fault(kind, ZEROTRIE_READS(bytes, len), at);
 }
 #define zerotrie_first_fault(...) zerotrie_first_fault_or_null(__VA_ARGS__)
 
@@ -972,8 +967,8 @@ ZEROTRIE_INLINE zerotrie_status zerotrie_build_or_null(zerotrie_kind_number kind
     const uint8_t no_byte = 0;
     const zerotrie_pair no_pair = { { &no_byte, 0 }, 0 };
     uint8_t byte;
-    return zerotrie_build(kind, ZEROTRIE_SOME(pairs, &no_pair), count, ZEROTRIE_SOME(out, &byte),
-                          out_len, len);
+    return zerotrie_build(kind, ZEROTRIE_ARRAY(pairs, count, &no_pair),
+                          ZEROTRIE_ARRAY(out, out_len, &byte), len);
 }
 #define zerotrie_build(...) zerotrie_build_or_null(__VA_ARGS__)
 
@@ -986,25 +981,25 @@ ZEROTRIE_INLINE zerotrie_status zerotrie_build_sorted_or_null(zerotrie_kind_numb
     const uint8_t no_byte = 0;
     const zerotrie_pair no_pair = { { &no_byte, 0 }, 0 };
     uint8_t byte;
-    return zerotrie_build_sorted(kind, ZEROTRIE_SOME(pairs, &no_pair), count,
-                                 ZEROTRIE_SOME(out, &byte), out_len, len);
+    return zerotrie_build_sorted(kind, ZEROTRIE_ARRAY(pairs, count, &no_pair),
+                                 ZEROTRIE_ARRAY(out, out_len, &byte), len);
 }
 #define zerotrie_build_sorted(...) zerotrie_build_sorted_or_null(__VA_ARGS__)
 
 ZEROTRIE_MUST_USE
 ZEROTRIE_NEEDS((10))
 ZEROTRIE_INLINE zerotrie_status zerotrie_build_many_or_null(zerotrie_kind_number kind,
-                                                            const uint8_t *keys, size_t keys_len,
+                                                            const void *keys, size_t keys_len,
                                                             const size_t *ends, size_t ends_len,
                                                             const size_t *values, size_t values_len,
                                                             uint8_t *out, size_t out_len,
                                                             size_t *len) {
-    const uint8_t no_byte = 0;
     const size_t no_number = 0;
     uint8_t byte;
-    return zerotrie_build_many(
-        kind, ZEROTRIE_SOME(keys, &no_byte), keys_len, ZEROTRIE_SOME(ends, &no_number), ends_len,
-        ZEROTRIE_SOME(values, &no_number), values_len, ZEROTRIE_SOME(out, &byte), out_len, len);
+    return zerotrie_build_many(kind, ZEROTRIE_READS(keys, keys_len),
+                               ZEROTRIE_ARRAY(ends, ends_len, &no_number),
+                               ZEROTRIE_ARRAY(values, values_len, &no_number),
+                               ZEROTRIE_ARRAY(out, out_len, &byte), len);
 }
 #define zerotrie_build_many(...) zerotrie_build_many_or_null(__VA_ARGS__)
 
@@ -1015,7 +1010,7 @@ ZEROTRIE_INLINE zerotrie_status zerotrie_encoded_len_or_null(zerotrie_kind_numbe
                                                              size_t count, size_t *len) {
     const uint8_t no_byte = 0;
     const zerotrie_pair no_pair = { { &no_byte, 0 }, 0 };
-    return zerotrie_encoded_len(kind, ZEROTRIE_SOME(pairs, &no_pair), count, len);
+    return zerotrie_encoded_len(kind, ZEROTRIE_ARRAY(pairs, count, &no_pair), len);
 }
 #define zerotrie_encoded_len(...) zerotrie_encoded_len_or_null(__VA_ARGS__)
 
@@ -1027,7 +1022,7 @@ ZEROTRIE_INLINE zerotrie_status zerotrie_why_refused_or_null(zerotrie_kind_numbe
                                                              size_t *second) {
     const uint8_t no_byte = 0;
     const zerotrie_pair no_pair = { { &no_byte, 0 }, 0 };
-    return zerotrie_why_refused(kind, ZEROTRIE_SOME(pairs, &no_pair), count, first, second);
+    return zerotrie_why_refused(kind, ZEROTRIE_ARRAY(pairs, count, &no_pair), first, second);
 }
 #define zerotrie_why_refused(...) zerotrie_why_refused_or_null(__VA_ARGS__)
 
@@ -1035,150 +1030,163 @@ ZEROTRIE_MUST_USE
 ZEROTRIE_INLINE zerotrie_kind zerotrie_auto_kind_or_null(const zerotrie_pair *pairs, size_t count) {
     const uint8_t no_byte = 0;
     const zerotrie_pair no_pair = { { &no_byte, 0 }, 0 };
-    return zerotrie_auto_kind(ZEROTRIE_SOME(pairs, &no_pair), count);
+    return zerotrie_auto_kind(ZEROTRIE_ARRAY(pairs, count, &no_pair));
 }
 #define zerotrie_auto_kind(...) zerotrie_auto_kind_or_null(__VA_ARGS__)
 
 ZEROTRIE_MUST_USE
 ZEROTRIE_NEEDS((6))
 ZEROTRIE_INLINE zerotrie_status zerotrie_tagged_or_null(zerotrie_kind_number kind,
-                                                        const uint8_t *bytes, size_t len,
-                                                        uint8_t *out, size_t out_len,
-                                                        size_t *tagged_len) {
-    const uint8_t no_byte = 0;
+                                                        const void *bytes, size_t len, uint8_t *out,
+                                                        size_t out_len, size_t *tagged_len) {
     uint8_t byte;
-    return zerotrie_tagged(kind, ZEROTRIE_SOME(bytes, &no_byte), len, ZEROTRIE_SOME(out, &byte),
-                           out_len, tagged_len);
+    return zerotrie_tagged(kind, ZEROTRIE_READS(bytes, len), ZEROTRIE_ARRAY(out, out_len, &byte),
+                           tagged_len);
 }
 #define zerotrie_tagged(...) zerotrie_tagged_or_null(__VA_ARGS__)
 
 ZEROTRIE_MUST_USE
 ZEROTRIE_NEEDS((6))
-ZEROTRIE_INLINE zerotrie_status zerotrie_seal_or_null(zerotrie_kind_number kind,
-                                                      const uint8_t *bytes, size_t len,
-                                                      uint8_t *out, size_t out_len,
+ZEROTRIE_INLINE zerotrie_status zerotrie_seal_or_null(zerotrie_kind_number kind, const void *bytes,
+                                                      size_t len, uint8_t *out, size_t out_len,
                                                       size_t *sealed_len) {
-    const uint8_t no_byte = 0;
     uint8_t byte;
-    return zerotrie_seal(kind, ZEROTRIE_SOME(bytes, &no_byte), len, ZEROTRIE_SOME(out, &byte),
-                         out_len, sealed_len);
+    return zerotrie_seal(kind, ZEROTRIE_READS(bytes, len), ZEROTRIE_ARRAY(out, out_len, &byte),
+                         sealed_len);
 }
 #define zerotrie_seal(...) zerotrie_seal_or_null(__VA_ARGS__)
 
 ZEROTRIE_MUST_USE
 ZEROTRIE_NEEDS((7))
-ZEROTRIE_INLINE zerotrie_status zerotrie_dense_get_or_null(const uint8_t *record, size_t len,
-                                                           const uint8_t *prefix, size_t prefix_len,
-                                                           const uint8_t *suffix, size_t suffix_len,
+ZEROTRIE_INLINE zerotrie_status zerotrie_dense_get_or_null(const void *record, size_t len,
+                                                           const void *prefix, size_t prefix_len,
+                                                           const void *suffix, size_t suffix_len,
                                                            size_t *value) {
-    const uint8_t no_byte = 0;
-    return zerotrie_dense_get(ZEROTRIE_SOME(record, &no_byte), len, ZEROTRIE_SOME(prefix, &no_byte),
-                              prefix_len, ZEROTRIE_SOME(suffix, &no_byte), suffix_len, value);
+    return zerotrie_dense_get(ZEROTRIE_READS(record, len), ZEROTRIE_READS(prefix, prefix_len),
+                              ZEROTRIE_READS(suffix, suffix_len), value);
 }
 #define zerotrie_dense_get(...) zerotrie_dense_get_or_null(__VA_ARGS__)
 
 ZEROTRIE_MUST_USE
 ZEROTRIE_NEEDS((14))
-ZEROTRIE_INLINE zerotrie_status zerotrie_dense_build_or_null(
-    const uint8_t *prefixes, size_t prefixes_len, const size_t *prefix_ends, size_t prefix_count,
-    const uint8_t *suffixes, size_t suffixes_len, const size_t *suffix_ends, size_t suffix_count,
-    const size_t *values, size_t value_count, uint8_t delimiter, uint8_t *out, size_t out_len,
-    size_t *len) {
-    const uint8_t no_byte = 0;
+ZEROTRIE_INLINE zerotrie_status zerotrie_dense_build_or_null(const void *prefixes,
+                                                             size_t prefixes_len,
+                                                             const size_t *prefix_ends,
+                                                             size_t prefix_count,
+                                                             const void *suffixes,
+                                                             size_t suffixes_len,
+                                                             const size_t *suffix_ends,
+                                                             size_t suffix_count,
+                                                             const size_t *values,
+                                                             size_t value_count, uint8_t delimiter,
+                                                             uint8_t *out, size_t out_len,
+                                                             size_t *len) {
     const size_t no_number = 0;
     uint8_t byte;
-    return zerotrie_dense_build(
-        ZEROTRIE_SOME(prefixes, &no_byte), prefixes_len, ZEROTRIE_SOME(prefix_ends, &no_number),
-        prefix_count, ZEROTRIE_SOME(suffixes, &no_byte), suffixes_len,
-        ZEROTRIE_SOME(suffix_ends, &no_number), suffix_count, ZEROTRIE_SOME(values, &no_number),
-        value_count, delimiter, ZEROTRIE_SOME(out, &byte), out_len, len);
+    return zerotrie_dense_build(ZEROTRIE_READS(prefixes, prefixes_len),
+                                ZEROTRIE_ARRAY(prefix_ends, prefix_count, &no_number),
+                                ZEROTRIE_READS(suffixes, suffixes_len),
+                                ZEROTRIE_ARRAY(suffix_ends, suffix_count, &no_number),
+                                ZEROTRIE_ARRAY(values, value_count, &no_number), delimiter,
+                                ZEROTRIE_ARRAY(out, out_len, &byte), len);
 }
 #define zerotrie_dense_build(...) zerotrie_dense_build_or_null(__VA_ARGS__)
 
 ZEROTRIE_MUST_USE
 ZEROTRIE_NEEDS((12, 13))
-ZEROTRIE_INLINE zerotrie_status zerotrie_list_or_null(
-    zerotrie_kind_number kind, const uint8_t *bytes, size_t len, const uint8_t *prefix,
-    size_t prefix_len, uint8_t *keys, size_t keys_len, size_t *ends, size_t ends_len,
-    size_t *values, size_t values_len, size_t *key_bytes, size_t *count) {
-    const uint8_t no_byte = 0;
+ZEROTRIE_INLINE zerotrie_status zerotrie_list_or_null(zerotrie_kind_number kind, const void *bytes,
+                                                      size_t len, const void *prefix,
+                                                      size_t prefix_len, uint8_t *keys,
+                                                      size_t keys_len, size_t *ends,
+                                                      size_t ends_len, size_t *values,
+                                                      size_t values_len, size_t *key_bytes,
+                                                      size_t *count) {
     uint8_t byte;
     size_t number;
-    return zerotrie_list(kind, ZEROTRIE_SOME(bytes, &no_byte), len, ZEROTRIE_SOME(prefix, &no_byte),
-                         prefix_len, ZEROTRIE_SOME(keys, &byte), keys_len,
-                         ZEROTRIE_SOME(ends, &number), ends_len, ZEROTRIE_SOME(values, &number),
-                         values_len, key_bytes, count);
+    return zerotrie_list(kind, ZEROTRIE_READS(bytes, len), ZEROTRIE_READS(prefix, prefix_len),
+                         ZEROTRIE_ARRAY(keys, keys_len, &byte),
+                         ZEROTRIE_ARRAY(ends, ends_len, &number),
+                         ZEROTRIE_ARRAY(values, values_len, &number), key_bytes, count);
 }
 #define zerotrie_list(...) zerotrie_list_or_null(__VA_ARGS__)
 
 ZEROTRIE_MUST_USE
 ZEROTRIE_NEEDS((15, 16))
-ZEROTRIE_INLINE zerotrie_status zerotrie_list_some_or_null(
-    zerotrie_kind_number kind, const uint8_t *bytes, size_t len, const uint8_t *prefix,
-    size_t prefix_len, bool goes_on, const uint8_t *last, size_t last_len, uint8_t *keys,
-    size_t keys_len, size_t *ends, size_t ends_len, size_t *values, size_t values_len,
-    size_t *count, size_t *next_len) {
-    const uint8_t no_byte = 0;
+ZEROTRIE_INLINE zerotrie_status zerotrie_list_some_or_null(zerotrie_kind_number kind,
+                                                           const void *bytes, size_t len,
+                                                           const void *prefix, size_t prefix_len,
+                                                           bool goes_on, const void *last,
+                                                           size_t last_len, uint8_t *keys,
+                                                           size_t keys_len, size_t *ends,
+                                                           size_t ends_len, size_t *values,
+                                                           size_t values_len, size_t *count,
+                                                           size_t *next_len) {
     uint8_t byte;
     size_t number;
-    return zerotrie_list_some(kind, ZEROTRIE_SOME(bytes, &no_byte), len,
-                              ZEROTRIE_SOME(prefix, &no_byte), prefix_len, goes_on,
-                              ZEROTRIE_SOME(last, &no_byte), last_len, ZEROTRIE_SOME(keys, &byte),
-                              keys_len, ZEROTRIE_SOME(ends, &number), ends_len,
-                              ZEROTRIE_SOME(values, &number), values_len, count, next_len);
+    return zerotrie_list_some(kind, ZEROTRIE_READS(bytes, len), ZEROTRIE_READS(prefix, prefix_len),
+                              goes_on, ZEROTRIE_READS(last, last_len),
+                              ZEROTRIE_ARRAY(keys, keys_len, &byte),
+                              ZEROTRIE_ARRAY(ends, ends_len, &number),
+                              ZEROTRIE_ARRAY(values, values_len, &number), count, next_len);
 }
 #define zerotrie_list_some(...) zerotrie_list_some_or_null(__VA_ARGS__)
 
 ZEROTRIE_MUST_USE
 ZEROTRIE_NEEDS((6, 16, 17))
-ZEROTRIE_INLINE zerotrie_status zerotrie_search_some_or_null(
-    zerotrie_kind_number kind, const uint8_t *bytes, size_t len, const uint8_t *prefix,
-    size_t prefix_len, const zerotrie_search *search, bool goes_on, const uint8_t *last,
-    size_t last_len, uint8_t *keys, size_t keys_len, size_t *ends, size_t ends_len, size_t *values,
-    size_t values_len, size_t *count, size_t *next_len) {
-    const uint8_t no_byte = 0;
+ZEROTRIE_INLINE zerotrie_status zerotrie_search_some_or_null(zerotrie_kind_number kind,
+                                                             const void *bytes, size_t len,
+                                                             const void *prefix, size_t prefix_len,
+                                                             const zerotrie_search *search,
+                                                             bool goes_on, const void *last,
+                                                             size_t last_len, uint8_t *keys,
+                                                             size_t keys_len, size_t *ends,
+                                                             size_t ends_len, size_t *values,
+                                                             size_t values_len, size_t *count,
+                                                             size_t *next_len) {
     uint8_t byte;
     size_t number;
-    return zerotrie_search_some(kind, ZEROTRIE_SOME(bytes, &no_byte), len,
-                                ZEROTRIE_SOME(prefix, &no_byte), prefix_len, search, goes_on,
-                                ZEROTRIE_SOME(last, &no_byte), last_len, ZEROTRIE_SOME(keys, &byte),
-                                keys_len, ZEROTRIE_SOME(ends, &number), ends_len,
-                                ZEROTRIE_SOME(values, &number), values_len, count, next_len);
+    return zerotrie_search_some(kind, ZEROTRIE_READS(bytes, len),
+                                ZEROTRIE_READS(prefix, prefix_len), search, goes_on,
+                                ZEROTRIE_READS(last, last_len),
+                                ZEROTRIE_ARRAY(keys, keys_len, &byte),
+                                ZEROTRIE_ARRAY(ends, ends_len, &number),
+                                ZEROTRIE_ARRAY(values, values_len, &number), count, next_len);
 }
 #define zerotrie_search_some(...) zerotrie_search_some_or_null(__VA_ARGS__)
 
 ZEROTRIE_MUST_USE
 ZEROTRIE_NEEDS((16, 17))
-ZEROTRIE_INLINE zerotrie_status zerotrie_sorted_some_or_null(
-    zerotrie_kind_number kind, const uint8_t *bytes, size_t len, zerotrie_bound from_bound,
-    const uint8_t *from, size_t from_len, zerotrie_bound to_bound, const uint8_t *to, size_t to_len,
-    uint8_t *keys, size_t keys_len, size_t *ends, size_t ends_len, size_t *values,
-    size_t values_len, size_t *count, size_t *next_len) {
-    const uint8_t no_byte = 0;
+ZEROTRIE_INLINE zerotrie_status zerotrie_sorted_some_or_null(zerotrie_kind_number kind,
+                                                             const void *bytes, size_t len,
+                                                             zerotrie_bound from_bound,
+                                                             const void *from, size_t from_len,
+                                                             zerotrie_bound to_bound,
+                                                             const void *to, size_t to_len,
+                                                             uint8_t *keys, size_t keys_len,
+                                                             size_t *ends, size_t ends_len,
+                                                             size_t *values, size_t values_len,
+                                                             size_t *count, size_t *next_len) {
     uint8_t byte;
     size_t number;
-    return zerotrie_sorted_some(
-        kind, ZEROTRIE_SOME(bytes, &no_byte), len, from_bound, ZEROTRIE_SOME(from, &no_byte),
-        from_len, to_bound, ZEROTRIE_SOME(to, &no_byte), to_len, ZEROTRIE_SOME(keys, &byte),
-        keys_len, ZEROTRIE_SOME(ends, &number), ends_len, ZEROTRIE_SOME(values, &number),
-        values_len, count, next_len);
+    return zerotrie_sorted_some(kind, ZEROTRIE_READS(bytes, len), from_bound,
+                                ZEROTRIE_READS(from, from_len), to_bound,
+                                ZEROTRIE_READS(to, to_len), ZEROTRIE_ARRAY(keys, keys_len, &byte),
+                                ZEROTRIE_ARRAY(ends, ends_len, &number),
+                                ZEROTRIE_ARRAY(values, values_len, &number), count, next_len);
 }
 #define zerotrie_sorted_some(...) zerotrie_sorted_some_or_null(__VA_ARGS__)
 
 ZEROTRIE_MUST_USE
 ZEROTRIE_NEEDS((5))
-ZEROTRIE_INLINE bool zerotrie_index_get_or_null(const uint8_t *bytes, size_t len,
-                                                const uint8_t *key, size_t key_len, size_t *value) {
-    const uint8_t no_byte = 0;
-    return zerotrie_index_get(ZEROTRIE_SOME(bytes, &no_byte), len, ZEROTRIE_SOME(key, &no_byte),
-                              key_len, value);
+ZEROTRIE_INLINE bool zerotrie_index_get_or_null(const void *bytes, size_t len, const void *key,
+                                                size_t key_len, size_t *value) {
+    return zerotrie_index_get(ZEROTRIE_READS(bytes, len), ZEROTRIE_READS(key, key_len), value);
 }
 #define zerotrie_index_get(...) zerotrie_index_get_or_null(__VA_ARGS__)
 
 ZEROTRIE_MUST_USE
-ZEROTRIE_INLINE bool zerotrie_index_is_valid_or_null(const uint8_t *bytes, size_t len) {
-    const uint8_t no_byte = 0;
-    return zerotrie_index_is_valid(ZEROTRIE_SOME(bytes, &no_byte), len);
+ZEROTRIE_INLINE bool zerotrie_index_is_valid_or_null(const void *bytes, size_t len) {
+    return zerotrie_index_is_valid(ZEROTRIE_READS(bytes, len));
 }
 #define zerotrie_index_is_valid(...) zerotrie_index_is_valid_or_null(__VA_ARGS__)
 
@@ -1191,23 +1199,26 @@ ZEROTRIE_INLINE zerotrie_status zerotrie_index_build_or_null(uint64_t seed,
     const uint8_t no_byte = 0;
     const zerotrie_pair no_pair = { { &no_byte, 0 }, 0 };
     uint8_t byte;
-    return zerotrie_index_build(seed, ZEROTRIE_SOME(pairs, &no_pair), count,
-                                ZEROTRIE_SOME(out, &byte), out_len, len);
+    return zerotrie_index_build(seed, ZEROTRIE_ARRAY(pairs, count, &no_pair),
+                                ZEROTRIE_ARRAY(out, out_len, &byte), len);
 }
 #define zerotrie_index_build(...) zerotrie_index_build_or_null(__VA_ARGS__)
 
 ZEROTRIE_MUST_USE
 ZEROTRIE_NEEDS((10))
-ZEROTRIE_INLINE zerotrie_status zerotrie_index_build_many_or_null(
-    uint64_t seed, const uint8_t *keys, size_t keys_len, const size_t *ends, size_t ends_len,
-    const size_t *values, size_t values_len, uint8_t *out, size_t out_len, size_t *len) {
-    const uint8_t no_byte = 0;
+ZEROTRIE_INLINE zerotrie_status zerotrie_index_build_many_or_null(uint64_t seed, const void *keys,
+                                                                  size_t keys_len,
+                                                                  const size_t *ends,
+                                                                  size_t ends_len,
+                                                                  const size_t *values,
+                                                                  size_t values_len, uint8_t *out,
+                                                                  size_t out_len, size_t *len) {
     const size_t no_number = 0;
     uint8_t byte;
-    return zerotrie_index_build_many(seed, ZEROTRIE_SOME(keys, &no_byte), keys_len,
-                                     ZEROTRIE_SOME(ends, &no_number), ends_len,
-                                     ZEROTRIE_SOME(values, &no_number), values_len,
-                                     ZEROTRIE_SOME(out, &byte), out_len, len);
+    return zerotrie_index_build_many(seed, ZEROTRIE_READS(keys, keys_len),
+                                     ZEROTRIE_ARRAY(ends, ends_len, &no_number),
+                                     ZEROTRIE_ARRAY(values, values_len, &no_number),
+                                     ZEROTRIE_ARRAY(out, out_len, &byte), len);
 }
 #define zerotrie_index_build_many(...) zerotrie_index_build_many_or_null(__VA_ARGS__)
 /** @endcond */
@@ -1222,9 +1233,8 @@ typedef struct zerotrie_trie {
     zerotrie_bytes bytes; /**< the bytes without a tag */
 } zerotrie_trie;
 
-/** Returns a trie of its parts, which are not validated. `bytes` may be NULL if `len` is 0. */
-ZEROTRIE_INLINE zerotrie_trie zerotrie_trie_of(zerotrie_kind kind, const uint8_t *bytes,
-                                               size_t len) {
+/** Returns a trie of its parts, which are not validated. If `bytes` is NULL, it has no bytes. */
+ZEROTRIE_INLINE zerotrie_trie zerotrie_trie_of(zerotrie_kind kind, const void *bytes, size_t len) {
     zerotrie_trie made;
     made.kind = kind;
     made.bytes = zerotrie_bytes_of(bytes, len);
@@ -1235,10 +1245,10 @@ ZEROTRIE_INLINE zerotrie_trie zerotrie_trie_of(zerotrie_kind kind, const uint8_t
  * is not validated. Or returns ZEROTRIE_NO_TAG or ZEROTRIE_INVALID_TAG, and both stay. */
 ZEROTRIE_MUST_USE
 ZEROTRIE_NEEDS((3, 4))
-ZEROTRIE_INLINE zerotrie_status zerotrie_untagged(const uint8_t *tagged, size_t len, uint32_t *kind,
+ZEROTRIE_INLINE zerotrie_status zerotrie_untagged(const void *tagged, size_t len, uint32_t *kind,
                                                   zerotrie_bytes *trie) {
     const zerotrie_status status = zerotrie_tagged_kind(tagged, len, kind);
-    if (status == ZEROTRIE_DONE) *trie = zerotrie_bytes_of(tagged + 1, len - 1);
+    if (status == ZEROTRIE_DONE) *trie = zerotrie_between(tagged, len, 1, len);
     return status;
 }
 
@@ -1246,12 +1256,13 @@ ZEROTRIE_INLINE zerotrie_status zerotrie_untagged(const uint8_t *tagged, size_t 
  * ZEROTRIE_NO_TAG or ZEROTRIE_INVALID_TAG, and *trie stays. */
 ZEROTRIE_MUST_USE
 ZEROTRIE_NEEDS((3))
-ZEROTRIE_INLINE zerotrie_status zerotrie_trie_from_tagged(const uint8_t *tagged, size_t len,
+ZEROTRIE_INLINE zerotrie_status zerotrie_trie_from_tagged(const void *tagged, size_t len,
                                                           zerotrie_trie *trie) {
     uint32_t kind = 0;
     const zerotrie_status status = zerotrie_tagged_kind(tagged, len, &kind);
     if (status == ZEROTRIE_DONE)
-        *trie = zerotrie_trie_of(ZEROTRIE_AS_KIND(kind), tagged + 1, len - 1);
+        *trie = zerotrie_trie_of(ZEROTRIE_AS_KIND(kind),
+                                 ZEROTRIE_POINTER(const uint8_t *, tagged) + 1, len - 1);
     return status;
 }
 
@@ -1259,13 +1270,14 @@ ZEROTRIE_INLINE zerotrie_status zerotrie_trie_from_tagged(const uint8_t *tagged,
  * See zerotrie_open(). With another status than ZEROTRIE_DONE *trie stays. */
 ZEROTRIE_MUST_USE
 ZEROTRIE_NEEDS((3))
-ZEROTRIE_INLINE zerotrie_status zerotrie_trie_open(const uint8_t *file, size_t len,
+ZEROTRIE_INLINE zerotrie_status zerotrie_trie_open(const void *file, size_t len,
                                                    zerotrie_trie *trie) {
     uint32_t kind = 0;
     size_t at = 0, trie_len = 0;
     const zerotrie_status status = zerotrie_open(file, len, &kind, &at, &trie_len);
     if (status == ZEROTRIE_DONE)
-        *trie = zerotrie_trie_of(ZEROTRIE_AS_KIND(kind), file + at, trie_len);
+        *trie = zerotrie_trie_of(ZEROTRIE_AS_KIND(kind),
+                                 ZEROTRIE_POINTER(const uint8_t *, file) + at, trie_len);
     return status;
 }
 
@@ -1285,15 +1297,21 @@ ZEROTRIE_INLINE zerotrie_fault zerotrie_trie_first_fault(zerotrie_trie trie, siz
 /** See zerotrie_get(). */
 ZEROTRIE_MUST_USE
 ZEROTRIE_NEEDS((4))
-ZEROTRIE_INLINE bool zerotrie_trie_get(zerotrie_trie trie, const uint8_t *key, size_t key_len,
+ZEROTRIE_INLINE bool zerotrie_trie_get(zerotrie_trie trie, const void *key, size_t key_len,
                                        size_t *value) {
     return zerotrie_get(trie.kind, trie.bytes.ptr, trie.bytes.len, key, key_len, value);
+}
+
+/** The same of a C string, as zerotrie_trie_gets(trie, "bar", &value). */
+ZEROTRIE_ANSWERS
+ZEROTRIE_INLINE bool zerotrie_trie_gets(zerotrie_trie trie, const char *key, size_t *value) {
+    return zerotrie_trie_get(trie, key, strlen(key), value);
 }
 
 /** See zerotrie_longest_prefix(). */
 ZEROTRIE_MUST_USE
 ZEROTRIE_NEEDS((4, 5))
-ZEROTRIE_INLINE bool zerotrie_trie_longest_prefix(zerotrie_trie trie, const uint8_t *text,
+ZEROTRIE_INLINE bool zerotrie_trie_longest_prefix(zerotrie_trie trie, const void *text,
                                                   size_t text_len, size_t *key_len, size_t *value) {
     return zerotrie_longest_prefix(trie.kind, trie.bytes.ptr, trie.bytes.len, text, text_len,
                                    key_len, value);
@@ -1302,8 +1320,8 @@ ZEROTRIE_INLINE bool zerotrie_trie_longest_prefix(zerotrie_trie trie, const uint
 /** See zerotrie_longest_prefix_at(). */
 ZEROTRIE_MUST_USE
 ZEROTRIE_NEEDS((6, 7))
-ZEROTRIE_INLINE bool zerotrie_trie_longest_prefix_at(zerotrie_trie trie, const uint8_t *text,
-                                                     size_t text_len, const uint8_t *delimiters,
+ZEROTRIE_INLINE bool zerotrie_trie_longest_prefix_at(zerotrie_trie trie, const void *text,
+                                                     size_t text_len, const void *delimiters,
                                                      size_t delimiters_len, size_t *prefix_len,
                                                      size_t *value) {
     return zerotrie_longest_prefix_at(trie.kind, trie.bytes.ptr, trie.bytes.len, text, text_len,
@@ -1311,7 +1329,7 @@ ZEROTRIE_INLINE bool zerotrie_trie_longest_prefix_at(zerotrie_trie trie, const u
 }
 
 /** See zerotrie_common_prefixes(). */
-ZEROTRIE_INLINE size_t zerotrie_trie_common_prefixes(zerotrie_trie trie, const uint8_t *text,
+ZEROTRIE_INLINE size_t zerotrie_trie_common_prefixes(zerotrie_trie trie, const void *text,
                                                      size_t text_len, size_t *lens,
                                                      size_t lens_room, size_t *values,
                                                      size_t values_room) {
@@ -1322,7 +1340,7 @@ ZEROTRIE_INLINE size_t zerotrie_trie_common_prefixes(zerotrie_trie trie, const u
 /** See zerotrie_list(). */
 ZEROTRIE_MUST_USE
 ZEROTRIE_NEEDS((10, 11))
-ZEROTRIE_INLINE zerotrie_status zerotrie_trie_list(zerotrie_trie trie, const uint8_t *prefix,
+ZEROTRIE_INLINE zerotrie_status zerotrie_trie_list(zerotrie_trie trie, const void *prefix,
                                                    size_t prefix_len, uint8_t *keys,
                                                    size_t keys_len, size_t *ends, size_t ends_len,
                                                    size_t *values, size_t values_len,
@@ -1339,7 +1357,7 @@ ZEROTRIE_INLINE zerotrie_cursor zerotrie_trie_cursor(zerotrie_trie trie) {
 
 /** See zerotrie_with_prefix(). */
 ZEROTRIE_MUST_USE
-ZEROTRIE_INLINE zerotrie_cursor zerotrie_trie_with_prefix(zerotrie_trie trie, const uint8_t *prefix,
+ZEROTRIE_INLINE zerotrie_cursor zerotrie_trie_with_prefix(zerotrie_trie trie, const void *prefix,
                                                           size_t prefix_len) {
     return zerotrie_with_prefix(trie.kind, trie.bytes.ptr, trie.bytes.len, prefix, prefix_len);
 }
@@ -1370,19 +1388,37 @@ ZEROTRIE_INLINE bool zerotrie_trie_probe(zerotrie_trie trie, zerotrie_cursor *cu
 /** @name A listing in parts */
 /** @{ */
 
+/** What zerotrie_listing_next() comes to. A listing that failed has not ended, and says so each
+ * time. */
+typedef enum zerotrie_next ZEROTRIE_ENUM {
+    /** no pair is left */
+    ZEROTRIE_END = 0,
+    /** there is a part, of one pair at least */
+    ZEROTRIE_PART = 1,
+    /** pairs are left, and `status` says why none comes */
+    ZEROTRIE_STUCK = 2
+} zerotrie_next;
+
+/** Rooms of a listing, for keys of up to 2,048 bytes. They hold nothing before it. */
+typedef struct zerotrie_rooms {
+    uint8_t keys[4096]; /**< for keys */
+    size_t ends[64];    /**< for where each key of a part ends */
+    size_t values[64];  /**< for the value of each */
+} zerotrie_rooms;
+
 /**
  * A listing of which one part is there at a time, in rooms of the caller. The first N pairs are
  * those of a first part with N places.
  *
- *     uint8_t room[512];
- *     size_t ends[10], values[10];
- *     zerotrie_listing part = zerotrie_listing_of(trie, (const uint8_t *)"ba", 2, room,
- *                                                 sizeof room, ends, values, 10);
- *     while (zerotrie_listing_next(&part))
+ *     zerotrie_rooms rooms;
+ *     zerotrie_listing part = zerotrie_listing_in(trie, "ba", &rooms);
+ *     zerotrie_next next;
+ *     while ((next = zerotrie_listing_next(&part)) == ZEROTRIE_PART)
  *         for (size_t i = 0; i < part.count; i++) {
  *             const zerotrie_bytes key = zerotrie_listing_key(&part, i);
- *             printf("%.*s %zu\n", (int)key.len, (const char *)key.ptr, values[i]);
+ *             printf("%.*s %zu\n", (int)key.len, (const char *)key.ptr, part.values[i]);
  *         }
+ *     if (next != ZEROTRIE_END) fprintf(stderr, "%s\n", zerotrie_status_text(part.status));
  */
 typedef struct zerotrie_listing {
     zerotrie_trie trie;     /**< the trie */
@@ -1406,7 +1442,7 @@ typedef struct zerotrie_listing {
 
 /** Returns a listing of the pairs whose keys begin with a prefix, before its first part. The key of
  * a pair has room if it has at most half of `room_len` bytes. */
-ZEROTRIE_INLINE zerotrie_listing zerotrie_listing_of(zerotrie_trie trie, const uint8_t *prefix,
+ZEROTRIE_INLINE zerotrie_listing zerotrie_listing_of(zerotrie_trie trie, const void *prefix,
                                                      size_t prefix_len, uint8_t *room,
                                                      size_t room_len, size_t *ends, size_t *values,
                                                      size_t places) {
@@ -1416,7 +1452,7 @@ ZEROTRIE_INLINE zerotrie_listing zerotrie_listing_of(zerotrie_trie trie, const u
     made.search = zerotrie_search_for(ZEROTRIE_BY_RANGE, prefix, 0);
     made.searches = made.sorted = false;
     made.room = room;
-    made.room_len = room_len;
+    made.room_len = room ? room_len : 0;
     made.ends = ends;
     made.values = values;
     made.places = places;
@@ -1425,6 +1461,14 @@ ZEROTRIE_INLINE zerotrie_listing zerotrie_listing_of(zerotrie_trie trie, const u
     made.last = zerotrie_bytes_of("", 0);
     made.status = ZEROTRIE_BUFFER_TOO_SMALL;
     return made;
+}
+
+/** The same of a prefix that is a C string, in rooms of the usual size. */
+ZEROTRIE_NONNULL
+ZEROTRIE_INLINE zerotrie_listing zerotrie_listing_in(zerotrie_trie trie, const char *prefix,
+                                                     zerotrie_rooms *rooms) {
+    return zerotrie_listing_of(trie, prefix, strlen(prefix), rooms->keys, sizeof rooms->keys,
+                               rooms->ends, rooms->values, 64);
 }
 
 /**
@@ -1443,6 +1487,14 @@ ZEROTRIE_INLINE zerotrie_listing zerotrie_listing_by(zerotrie_trie trie, zerotri
     made.search = search;
     made.searches = true;
     return made;
+}
+
+/** The same in rooms of the usual size. */
+ZEROTRIE_NONNULL
+ZEROTRIE_INLINE zerotrie_listing zerotrie_listing_found(zerotrie_trie trie, zerotrie_search search,
+                                                        zerotrie_rooms *rooms) {
+    return zerotrie_listing_by(trie, search, rooms->keys, sizeof rooms->keys, rooms->ends,
+                               rooms->values, 64);
 }
 
 /**
@@ -1465,6 +1517,14 @@ ZEROTRIE_INLINE zerotrie_listing zerotrie_listing_sorted(zerotrie_trie trie, zer
     return made;
 }
 
+/** The same in rooms of the usual size. */
+ZEROTRIE_NONNULL
+ZEROTRIE_INLINE zerotrie_listing zerotrie_listing_between(zerotrie_trie trie, zerotrie_search range,
+                                                          zerotrie_rooms *rooms) {
+    return zerotrie_listing_sorted(trie, range, rooms->keys, sizeof rooms->keys, rooms->ends,
+                                   rooms->values, 64);
+}
+
 /** Returns the key of number `i` of the part, in place; `i` is below `count`. */
 ZEROTRIE_NEEDS((1))
 ZEROTRIE_INLINE zerotrie_bytes zerotrie_listing_key(const zerotrie_listing *listing, size_t i) {
@@ -1473,13 +1533,13 @@ ZEROTRIE_INLINE zerotrie_bytes zerotrie_listing_key(const zerotrie_listing *list
 }
 
 /**
- * Lists the next part. Returns whether it has a pair. If not, `status` says why: ZEROTRIE_DONE if
- * none is left; ZEROTRIE_BUFFER_TOO_SMALL if the next key, of `next_len` bytes, has no room, or
- * there are no places; or an error. The keys of the part before stay where they are, and its ends
- * and values do not. On malformed bytes too the parts end. Allocates.
+ * Lists the next part, and returns whether there is one. If it is ZEROTRIE_STUCK, `status` is
+ * ZEROTRIE_BUFFER_TOO_SMALL if the next key, of `next_len` bytes, has no room, or there are no
+ * places; or it is an error. The keys of the part before stay where they are, and its ends and
+ * values do not. On malformed bytes too the parts end. Allocates.
  */
-ZEROTRIE_NEEDS((1))
-ZEROTRIE_INLINE bool zerotrie_listing_next(zerotrie_listing *listing) {
+ZEROTRIE_ANSWERS
+ZEROTRIE_INLINE zerotrie_next zerotrie_listing_next(zerotrie_listing *listing) {
     const zerotrie_trie trie = listing->trie;
     const zerotrie_bytes prefix = listing->prefix, last = listing->last;
     const zerotrie_search *const search = &listing->search;
@@ -1489,10 +1549,11 @@ ZEROTRIE_INLINE bool zerotrie_listing_next(zerotrie_listing *listing) {
     uint8_t *const keys =
         half > 0 && listing->keys == listing->room ? listing->room + half : listing->room;
     listing->count = 0;
-    if (listing->status != ZEROTRIE_BUFFER_TOO_SMALL) return false;
+    if (listing->status == ZEROTRIE_DONE) return ZEROTRIE_END;
+    if (listing->status != ZEROTRIE_BUFFER_TOO_SMALL) return ZEROTRIE_STUCK;
     if (listing->listed > trie.bytes.len) {
         listing->status = ZEROTRIE_DONE;
-        return false;
+        return ZEROTRIE_END;
     }
     if (listing->sorted)
         listing->status = zerotrie_sorted_some(
@@ -1512,41 +1573,45 @@ ZEROTRIE_INLINE bool zerotrie_listing_next(zerotrie_listing *listing) {
             &listing->count, &listing->next_len);
     listing->keys = keys;
     listing->listed += listing->count;
-    if (listing->count > 0) listing->last = zerotrie_listing_key(listing, listing->count - 1);
-    return listing->count > 0;
+    if (listing->count > 0) {
+        listing->last = zerotrie_listing_key(listing, listing->count - 1);
+        return ZEROTRIE_PART;
+    }
+    return listing->status == ZEROTRIE_DONE ? ZEROTRIE_END : ZEROTRIE_STUCK;
 }
 /** @} */
 
 /** @name Texts */
 /** @{ */
 
-/** Returns the text of a status, in UTF-8, as "the keys do not ascend: sort them by their bytes,
- * each once". It is never freed. */
+/** Returns the text of a status, in UTF-8, as "Keys are not in strictly
+ * ascending order: sort the keys by their bytes, each once". It is never freed. */
 ZEROTRIE_INLINE const char *zerotrie_status_text(uint32_t status) {
     switch (status) {
     case ZEROTRIE_DONE: return "Done";
     case ZEROTRIE_NON_ASCII:
-        return "a key has a byte that is not ASCII: take a kind of trie for keys of any bytes";
+        return "Non-ASCII cannot be added to an ASCII-only trie: take a kind of trie for keys "
+               "of any bytes";
     case ZEROTRIE_CAPACITY_EXCEEDED:
-        return "the text of the trie would be too long for its kind: take extended capacity, kind "
-               "7, or fewer pairs; a dense "
-               "table has at most 65,535 suffixes";
+        return "Reached maximum capacity of trie: take the kind of extended capacity, or fewer "
+               "pairs or suffixes";
     case ZEROTRIE_NO_PERFECT_HASH:
-        return "no perfect hash was found for the edges of a branch: take a kind without hashed "
-               "tables, or change a key";
+        return "Failed to solve the perfect hash function. This is rare! Please report your "
+               "case to the ICU4X team. Take a kind without hashed tables, or change a key";
     case ZEROTRIE_MIXED_CASE:
-        return "two keys begin alike but for the case of a letter: lower-case the keys first";
+        return "Mixed-case data added to case-insensitive trie: lower-case the keys first";
     case ZEROTRIE_ILLEGAL_DELIMITER:
-        return "a text has the delimiter in it: take a delimiter that none has";
-    case ZEROTRIE_DUPLICATE_KEY: return "a key was given twice: give each key once";
-    case ZEROTRIE_UNSORTED: return "the keys do not ascend: sort them by their bytes, each once";
-    case ZEROTRIE_BUFFER_TOO_SMALL: return "the array is too small for the trie: take a larger one";
-    case ZEROTRIE_BUFFER_TOO_LARGE:
-        return "the array is too large for the trie: take a smaller one";
-    case ZEROTRIE_STACK_EXCEEDED: return "the stack is too small for the trie: take a larger one";
-    case ZEROTRIE_OUT_OF_MEMORY: return "out of memory";
+        return "Delimiter is contained in one or more strings: take a delimiter that is in none "
+               "of them";
+    case ZEROTRIE_DUPLICATE_KEY: return "The same key was given twice: give each key once";
+    case ZEROTRIE_UNSORTED:
+        return "Keys are not in strictly ascending order: sort the keys by their bytes, each once";
+    case ZEROTRIE_BUFFER_TOO_SMALL: return "Buffer too small: take a larger array";
+    case ZEROTRIE_BUFFER_TOO_LARGE: return "Buffer too large: take an array of the size needed";
+    case ZEROTRIE_STACK_EXCEEDED: return "Need more stack: take a larger stack";
+    case ZEROTRIE_OUT_OF_MEMORY: return "Out of memory: free memory, or build from fewer pairs";
     case ZEROTRIE_UNKNOWN_KIND: return "the number is no kind of trie: take 0, 3, 7 or 8";
-    case ZEROTRIE_NO_TAG: return "there are no bytes, and so no tag: give all of the tagged bytes";
+    case ZEROTRIE_NO_TAG: return "there are no bytes: give all of the tagged bytes";
     case ZEROTRIE_INVALID_TAG:
         return "the first byte is the tag of no kind: give bytes that were written with a tag";
     case ZEROTRIE_NO_ENTRY: return "the table has no such entry";

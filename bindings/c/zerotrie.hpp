@@ -21,8 +21,8 @@
 /// the bytes that it was made of have to outlive it, as those of a std::string_view. clang warns of
 /// some that do not. Map owns its bytes, Search its texts, and Items what it lists.
 ///
-/// Errors are thrown as Error, a value below 0 or from 2^64 on as std::out_of_range, and out of
-/// memory as std::bad_alloc; what is noexcept throws nothing. With exceptions off (-fno-exceptions)
+/// Errors are thrown as Error, a value below 0 or from 2^64 on as std::out_of_range, those of a file
+/// as std::system_error, and out of memory as std::bad_alloc; what is noexcept throws nothing. With exceptions off (-fno-exceptions)
 /// std::abort() ends the program instead: there zerotrie_build() and the other functions of
 /// zerotrie.h return a status. Many threads may ask one Trie or Map at once; a Cursor, and an
 /// iterator, is for one thread at a time.
@@ -31,7 +31,9 @@
 
 #include <algorithm>
 #include <array>
+#include <cerrno>
 #include <cstddef>
+#include <cstdio>
 #include <cstdlib>
 #include <initializer_list>
 #include <iterator>
@@ -41,6 +43,7 @@
 #include <stdexcept>
 #include <string>
 #include <string_view>
+#include <system_error>
 #include <tuple>
 #include <type_traits>
 #include <utility>
@@ -201,12 +204,45 @@ template <class Exception> [[noreturn]] void refuse([[maybe_unused]] const Excep
 }
 // A value as C has it.
 template <class T> size_t number_of(T value) {
-    static_assert(std::is_integral_v<T>, "a value is a whole number");
-    const size_t number = static_cast<size_t>(value);
-    bool fits = static_cast<T>(number) == value;
-    if constexpr (std::is_signed_v<T>) fits = fits && value >= 0;
-    if (!fits) refuse(std::out_of_range("a value is from 0 to 2^64 - 1"));
-    return number;
+    if constexpr (std::is_enum_v<T>) {
+        return number_of(static_cast<std::underlying_type_t<T>>(value));
+    } else {
+        static_assert(std::is_integral_v<T>, "a value is a whole number");
+        const size_t number = static_cast<size_t>(value);
+        bool fits = static_cast<T>(number) == value;
+        if constexpr (std::is_signed_v<T>) fits = fits && value >= 0;
+        if (!fits) refuse(std::out_of_range("a value is from 0 to 2^64 - 1"));
+        return number;
+    }
+}
+struct Closing {
+    void operator()(std::FILE *file) const noexcept { (void)std::fclose(file); }
+};
+using File = std::unique_ptr<std::FILE, Closing>;
+[[noreturn]] inline void refuse_file(const std::string &path) {
+    refuse(std::system_error(errno, std::generic_category(), path));
+}
+inline std::string read_file(const std::string &path) {
+    const File file(std::fopen(path.c_str(), "rb"));
+    if (!file) refuse_file(path);
+    std::string bytes, part(1 << 16, '\0');
+    while (const size_t len = std::fread(part.data(), 1, part.size(), file.get()))
+        bytes.append(part, 0, len);
+    if (std::ferror(file.get())) refuse_file(path);
+    return bytes;
+}
+inline void replace_file(const std::string &path, std::string_view bytes) {
+    const std::string beside = path + ".new";
+    File file(std::fopen(beside.c_str(), "wb"));
+    if (!file) refuse_file(path);
+    const bool written = std::fwrite(bytes.data(), 1, bytes.size(), file.get()) == bytes.size();
+    // what is left in a buffer is written by the last of these
+    const bool closed = std::fclose(file.release()) == 0;
+    if (written && closed && std::rename(beside.c_str(), path.c_str()) == 0) return;
+    const int why = errno;
+    (void)std::remove(beside.c_str());
+    errno = why;
+    refuse_file(path);
 }
 inline void check(uint32_t status) {
     if (status == ZEROTRIE_OUT_OF_MEMORY) refuse(std::bad_alloc());
@@ -654,9 +690,10 @@ class StreamIterator {
 public:
     /// @cond
     using iterator_category = std::input_iterator_tag;
-    using value_type = Entry;
+    // what outlives the next step: std::vector(begin(), end()) copies the keys
+    using value_type = std::pair<std::string, size_t>;
     using difference_type = std::ptrdiff_t;
-    using reference = value_type;
+    using reference = Entry;
     using pointer = detail::Pointer;
     /// @endcond
     /// After the last pair.
@@ -670,7 +707,7 @@ public:
     StreamIterator(Kind kind, Bytes bytes, std::string_view prefix)
         : StreamIterator(kind, bytes, Search().within(prefix)) {}
     /// The pair.
-    value_type operator*() const noexcept { return (*parts_)[at_]; }
+    Entry operator*() const noexcept { return (*parts_)[at_]; }
     /// The pair.
     pointer operator->() const noexcept { return {**this}; }
     /// Moves on to the next pair.
@@ -726,7 +763,7 @@ private:
 class ZEROTRIE_VIEW Trie {
 public:
     /// @cond
-    using value_type = Entry;
+    using value_type = StreamIterator::value_type;
     using iterator = StreamIterator;
     using const_iterator = StreamIterator;
     /// @endcond
@@ -792,6 +829,12 @@ public:
     /// Whether the trie has the key.
     [[nodiscard]] bool contains(std::string_view key) const noexcept {
         return get(key).has_value();
+    }
+    /// How many pairs have the key: 1 or 0.
+    [[nodiscard]] size_t count(std::string_view key) const noexcept { return contains(key); }
+    /// The pair of the key, or end(). ++ continues with the keys that begin with it.
+    [[nodiscard]] StreamIterator find(std::string_view key) const {
+        return contains(key) ? begin(key) : end();
     }
     /// The values of a range of keys, each of which makes a std::string_view, in its order, and
     /// `missing` for a key that the trie does not have. It copies the keys.
@@ -1023,7 +1066,7 @@ template <class Pairs = PairList> [[nodiscard]] Kind auto_kind(Pairs &&pairs) {
 class Map {
 public:
     /// @cond
-    using value_type = Entry;
+    using value_type = StreamIterator::value_type;
     using iterator = StreamIterator;
     using const_iterator = StreamIterator;
     /// @endcond
@@ -1069,7 +1112,7 @@ public:
         detail::check(zerotrie_tagged_kind(at.ptr, at.len, &kind));
         return from_bytes(static_cast<Kind>(kind), std::string(tagged.substr(1)));
     }
-    /// Of a file that is sealed or tagged. Throws Error, as Trie::open().
+    /// Of the bytes of a file that is sealed or tagged. Throws Error, as Trie::open().
     [[nodiscard]] static Map open(std::string_view file) {
         const Trie opened = Trie::open(file);
         Map made;
@@ -1078,8 +1121,17 @@ public:
         made.size_ = opened.size();
         return made;
     }
+    /// Of the file of this path, as open(). Throws std::system_error if it can't be read.
+    [[nodiscard]] static Map load(const std::string &path) {
+        return open(detail::read_file(path));
+    }
+    /// Writes a sealed file, with ".new" after its path, and replaces the file of the path by it at
+    /// once. Throws std::system_error.
+    void save(const std::string &path) const { detail::replace_file(path, seal()); }
     /// A sealed file.
     [[nodiscard]] std::string seal() const { return zerotrie::seal(kind_, bytes_); }
+    /// See Trie::first_fault().
+    [[nodiscard]] std::optional<Fault> first_fault() const { return trie().first_fault(); }
     /// Tagged bytes, for a file.
     [[nodiscard]] std::string tagged() const { return zerotrie::tagged(kind_, bytes_); }
     /// The trie as a view.
@@ -1100,6 +1152,17 @@ public:
     /// Whether the map has the key.
     [[nodiscard]] bool contains(std::string_view key) const noexcept {
         return trie().contains(key);
+    }
+    /// How many pairs have the key: 1 or 0.
+    [[nodiscard]] size_t count(std::string_view key) const noexcept { return contains(key); }
+    /// See Trie::find().
+    [[nodiscard]] StreamIterator find(std::string_view key) const &ZEROTRIE_LIFETIMEBOUND {
+        return trie().find(key);
+    }
+    /// See Trie::get_many().
+    template <class Keys = std::initializer_list<std::string_view>>
+    [[nodiscard]] std::vector<size_t> get_many(Keys &&keys, size_t missing) const {
+        return trie().get_many(keys, missing);
     }
     /// The value of the key. Throws std::out_of_range if the map does not have it.
     [[nodiscard]] size_t at(std::string_view key) const {

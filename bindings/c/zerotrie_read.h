@@ -1,15 +1,21 @@
 /* zerotrie_read.h: reads zerotrie bytes in place, in C99 and C++11, on any processor, without a
  * library and without allocation.
  *
+ *     uint32_t kind;
+ *     const uint8_t *trie;
+ *     size_t len;
  *     uint64_t value;
- *     if (zerotrie_read_get(file[0], file + 1, file_len - 1, "bar", 3, &value))
+ *     if (zerotrie_read_open(file, file_len, &kind, &trie, &len)
+ *         && zerotrie_read_get(kind, trie, len, "bar", 3, &value))
  *         printf("bar is %" PRIu64 "\n", value);
  *
- * `file` is tagged bytes, as of `zerotrie build --tagged`: the number of the kind, then the trie. Of
- * a sealed file, which `zerotrie build` writes by default, give file[10], file + 24 and
- * file_len - 24: nothing here tests its checksum. If nothing is in front of the trie, as after a
+ * `file` is what `zerotrie build` writes: a sealed file, whose checksum is compared, or tagged
+ * bytes, the number of the kind and then the trie. If nothing is in front of the trie, as after a
  * build in C, give the number of the kind that it was built for: 0 SimpleAscii, 3 PerfectHash, 7
  * ExtendedCapacity, 8 IgnoreCase. FORMAT.md describes the bytes.
+ *
+ * The index that `zerotrie build --index` writes is opened by zerotrie_read_open_index(), and
+ * zerotrie_read_index_get() looks a key up in it.
  *
  * This reader is tested, and not proved: its tests compare it with the library of zerotrie.h, whose
  * functions are proved. Use the library on Linux on x86-64, and this file everywhere else: on
@@ -17,10 +23,11 @@
  *
  * What a caller must know:
  *   - The bytes may be anything. Every call returns, and reads nothing outside of them. If they are
- *     not a trie of the kind, the result is unspecified. A trie of an unknown kind has no keys.
- *     Nothing here validates bytes: take zerotrie_is_well_formed() of the library, or
- *     `zerotrie verify`.
- *   - A pointer with a length after it points to that many bytes. It may be null if that is 0.
+ *     not a trie of the kind, or not an index, the result is unspecified. A trie of an unknown kind
+ *     has no keys. Nothing here validates bytes: take zerotrie_is_well_formed() or
+ *     zerotrie_index_is_valid() of the library, or `zerotrie verify`.
+ *   - A pointer with a length after it points to that many bytes. It may be null, and the length
+ *     then counts as 0.
  *   - A cursor points into the bytes. They must stay in place and unchanged while it is used.
  *   - There is no state between calls, so any number of threads may read the same bytes.
  *   - In IgnoreCase a letter of a key is found in either case. In the other kinds each byte equals
@@ -313,15 +320,80 @@ ZEROTRIE_READ_HOT bool zerotrie_read_go(zerotrie_read_cursor *cursor, const uint
     return true;
 }
 
+/* Returns whether this is the number of a kind. */
+ZEROTRIE_READ_HOT bool zerotrie_read_is_kind(uint32_t kind) {
+    return kind == 0 || kind == 3 || kind == 7 || kind == 8;
+}
+
+/* Returns the CRC-32C of bytes that follow others, of which this is that; of none it is 0. */
+ZEROTRIE_READ_INLINE uint32_t zerotrie_read_checksum(uint32_t before, const uint8_t *bytes,
+                                                     size_t len) {
+    uint32_t sum = ~before;
+    for (size_t i = 0; i < len; i++) {
+        sum ^= bytes[i];
+        for (unsigned bit = 0; bit < 8; bit++)
+            sum = sum >> 1 ^ (sum & 1 ? UINT32_C(0x82F63B78) : 0);
+    }
+    return ~sum;
+}
+
+/* --- Files ------------------------------------------------------------------------------------ */
+
+/* Returns whether a file begins as a sealed one. */
+ZEROTRIE_READ_INLINE bool zerotrie_read_is_sealed(const uint8_t *file, size_t len) {
+    static const uint8_t magic[] = { 0x7A, 0x74, 0x72, 0x69, 0x89, 0x8A, 0x0D, 0x0A };
+    return file && len >= sizeof magic && memcmp(file, magic, sizeof magic) == 0;
+}
+
+/* Returns whether a sealed file is whole and holds what has this number, as its header and its
+ * checksum say. */
+ZEROTRIE_READ_INLINE bool zerotrie_read_is_whole(const uint8_t *file, size_t len, uint8_t number) {
+    const uint8_t numbers[] = { 1, 0, number, 0 };
+    return len >= 24 && memcmp(file + 8, numbers, sizeof numbers) == 0
+           && zerotrie_read_eight(file + 12) == len - 24
+           && zerotrie_read_checksum(zerotrie_read_checksum(0, file, 20), file + 24, len - 24)
+                  == (uint32_t)(zerotrie_read_eight(file + 16) >> 32);
+}
+
+/* Finds the trie in a file that is sealed or has tagged bytes, and sets *kind, *trie and *trie_len.
+ * Returns whether there is one: a sealed file that is whole, as its length and its checksum say, or
+ * bytes whose first one is the number of a kind. Otherwise nothing is set. The trie is not
+ * validated. */
+ZEROTRIE_READ_INLINE bool zerotrie_read_open(const void *file, size_t len, uint32_t *kind,
+                                             const uint8_t **trie, size_t *trie_len) {
+    const uint8_t *const bytes = (const uint8_t *)file;
+    const bool sealed = zerotrie_read_is_sealed(bytes, len);
+    const size_t front = sealed ? 24 : 1, number = sealed ? 10 : 0;
+    if (!bytes || len < front || !zerotrie_read_is_kind(bytes[number])
+        || (sealed && !zerotrie_read_is_whole(bytes, len, bytes[number])))
+        return false;
+    *kind = bytes[number];
+    *trie = bytes + front;
+    *trie_len = len - front;
+    return true;
+}
+
+/* Finds the index in a sealed file, and sets *index and *index_len. Returns whether there is one in
+ * a file that is whole, as its length and its checksum say; otherwise nothing is set. The index is
+ * not validated. */
+ZEROTRIE_READ_INLINE bool zerotrie_read_open_index(const void *file, size_t len,
+                                                   const uint8_t **index, size_t *index_len) {
+    const uint8_t *const bytes = (const uint8_t *)file;
+    if (!zerotrie_read_is_sealed(bytes, len) || !zerotrie_read_is_whole(bytes, len, 24))
+        return false;
+    *index = bytes + 24;
+    *index_len = len - 24;
+    return true;
+}
+
 /* --- Cursors ---------------------------------------------------------------------------------- */
 
 /* Returns the cursor at the beginning of a trie. That of an unknown kind is empty. */
 ZEROTRIE_READ_INLINE zerotrie_read_cursor zerotrie_read_start(uint32_t kind, const uint8_t *bytes,
                                                               size_t len) {
-    const bool known = kind == 0 || kind == 3 || kind == 7 || kind == 8;
     zerotrie_read_cursor cursor;
     cursor.at = bytes;
-    cursor.end = known && len != 0 ? bytes + len : bytes;
+    cursor.end = bytes && zerotrie_read_is_kind(kind) ? bytes + len : bytes;
     cursor.run = 0;
     cursor.kind = kind;
     return cursor;
@@ -366,7 +438,7 @@ ZEROTRIE_READ_INLINE bool zerotrie_read_step(zerotrie_read_cursor *cursor, uint8
  * value. Begin with a new cursor and with *at 0, and call it until it returns false. */
 ZEROTRIE_READ_HOT bool zerotrie_read_next_prefix(zerotrie_read_cursor *cursor, const void *text,
                                                  size_t len, size_t *at, uint64_t *value) {
-    return zerotrie_read_go(cursor, (const uint8_t *)text, len, at, NULL)
+    return zerotrie_read_go(cursor, (const uint8_t *)text, text ? len : 0, at, NULL)
            && zerotrie_read_take_value(cursor, value);
 }
 
@@ -378,6 +450,8 @@ ZEROTRIE_READ_INLINE bool zerotrie_read_get(uint32_t kind, const uint8_t *bytes,
                                             const void *key, size_t key_len, uint64_t *value) {
     zerotrie_read_cursor cursor = zerotrie_read_start(kind, bytes, len);
     size_t at = 0;
+    if (!key)
+        key_len = 0;
     do {
         if (!zerotrie_read_next_prefix(&cursor, key, key_len, &at, value))
             return false;
@@ -401,6 +475,86 @@ ZEROTRIE_READ_INLINE bool zerotrie_read_longest_prefix(uint32_t kind, const uint
         found = true;
     }
     return found;
+}
+
+/* --- Indexes ---------------------------------------------------------------------------------- */
+
+/* The two halves of a product of 128 bits, joined by exclusive or. */
+ZEROTRIE_READ_HOT uint64_t zerotrie_read_fold(uint64_t a, uint64_t b) {
+#ifdef __SIZEOF_INT128__
+    __extension__ const unsigned __int128 product = (unsigned __int128)a * b;
+    return (uint64_t)product ^ (uint64_t)(product >> 64);
+#else
+    const uint64_t low_a = a & UINT32_MAX, high_a = a >> 32;
+    const uint64_t low_b = b & UINT32_MAX, high_b = b >> 32;
+    const uint64_t one = high_a * low_b + (low_a * low_b >> 32);
+    const uint64_t other = low_a * high_b + (one & UINT32_MAX);
+    return (a * b) ^ (high_a * high_b + (one >> 32) + (other >> 32));
+#endif
+}
+
+/* The hash of a key under the seed of an index. */
+ZEROTRIE_READ_HOT uint64_t zerotrie_read_hash(uint64_t seed, const uint8_t *key, size_t len) {
+    const uint64_t factor = (seed << 32 | seed >> 32) ^ UINT64_C(0x9E3779B97F4A7C15) ^ len;
+    uint64_t folded = seed ^ UINT64_C(0x243F6A8885A308D3), whole = 0;
+    const uint8_t *at = key;
+    size_t left = len;
+    if (len < 8) {
+        while (left != 0)
+            whole = whole << 8 | key[--left];
+        return zerotrie_read_fold(whole ^ folded, whole ^ factor);
+    }
+    for (; left > 16; left -= 16, at += 16)
+        folded = zerotrie_read_fold(zerotrie_read_eight(at) ^ folded,
+                                    zerotrie_read_eight(at + 8) ^ factor);
+    return zerotrie_read_fold(zerotrie_read_eight(len < 16 ? key : key + (len - 16)) ^ folded,
+                              zerotrie_read_eight(key + (len - 8)) ^ factor);
+}
+
+/* Returns whether the records between two places have the key, and then sets *value to its value. */
+ZEROTRIE_READ_HOT bool zerotrie_read_record(const uint8_t *at, const uint8_t *end,
+                                            const uint8_t *key, size_t key_len, uint64_t *value) {
+    while (at != end) {
+        uint64_t len;
+        const uint8_t *const rest =
+            *at < 0x40 ? zerotrie_read_number(at, end, 0x20, &len) : NULL;
+        if (!rest || end - rest < 8 || len > (size_t)(end - rest) - 8)
+            return false;
+        at = rest + 8 + (size_t)len;
+        if (len == key_len && (key_len == 0 || memcmp(rest + 8, key, key_len) == 0)) {
+            *value = zerotrie_read_eight(rest);
+            return true;
+        }
+    }
+    return false;
+}
+
+/* Returns whether the index has the key, and then sets *value to its value; otherwise *value is
+ * unchanged. */
+ZEROTRIE_READ_INLINE bool zerotrie_read_index_get(const uint8_t *bytes, size_t len,
+                                                  const void *key, size_t key_len,
+                                                  uint64_t *value) {
+    const uint8_t *entries, *pool;
+    uint64_t count, hash, entry, from, to;
+    if (!key)
+        key_len = 0;
+    if (!bytes || len < 24)
+        return false;
+    count = zerotrie_read_eight(bytes + 8);
+    if (count == 0 || count > UINT32_MAX || count > (len - 24) / 8)
+        return false;
+    hash = zerotrie_read_hash(zerotrie_read_eight(bytes), (const uint8_t *)key, key_len);
+    entries = bytes + 16 + 8 * (size_t)((hash >> 32) * count >> 32);
+    entry = zerotrie_read_eight(entries);
+    if ((entry >> (hash & 31) & 1) == 0)
+        return false;
+    pool = bytes + 24 + 8 * (size_t)count;
+    from = entry >> 32;
+    to = zerotrie_read_eight(entries + 8) >> 32;
+    if (from > to || to > (size_t)(bytes + len - pool))
+        return false;
+    return zerotrie_read_record(pool + (size_t)from, pool + (size_t)to, (const uint8_t *)key,
+                                key_len, value);
 }
 
 /* --- Listing ---------------------------------------------------------------------------------- */
@@ -515,6 +669,10 @@ ZEROTRIE_READ_INLINE zerotrie_read_status zerotrie_read_list(
     void *room, size_t room_len, zerotrie_read_each *each, void *context) {
     zerotrie_read_listing listing;
     uint64_t value;
+    if (!prefix)
+        prefix_len = 0;
+    if (!room)
+        room_len = 0;
     listing.here = zerotrie_read_start(kind, bytes, len);
     listing.keys = (uint8_t *)room;
     listing.last = room_len != 0 ? listing.keys + room_len : listing.keys;

@@ -1,7 +1,9 @@
 """Packs the one package for `pip install .`, so that no other one is asked for. The library goes
 along: a libzerotrie.so that lies in the package, or else where bindings/make leaves it or in the
-folder ZEROTRIE_LIB, is installed in the package, which finds it there. Without one nothing is
-packed. The version is that of the file VERSION, and goes into the module zerotrie._version. The
+folder ZEROTRIE_LIB, is installed in the package, which finds it there. If none is for this
+platform, cargo builds one from the sources in plain Rust, which an sdist has in the folder rust,
+and a line says so. The version is that of the file VERSION, and goes into the module
+zerotrie._version. The
 extension zerotrie/_fast.c, by which single look-ups are fast, is compiled and goes along if a C
 compiler and Python.h are there; else the package does without. `pip install -e .` installs the way
 to this folder alone: the library and the extension are those that bindings/make made, before or
@@ -28,16 +30,18 @@ import zipfile
 
 HERE = pathlib.Path(__file__).resolve().parent
 EXTENSION = "_fast.abi3.so"
+LIBRARY = "zerotrie/libzerotrie.so"
+#: The processors of a file in the format ELF, by their numbers.
+PROCESSORS = {62: "linux-x86_64", 183: "linux-aarch64"}
 #: What a wheel serves: with the extension each CPython from 3.9 on, and without it each Python.
 WITH_EXTENSION, WITHOUT = "cp39-abi3", "py3-none"
 METADATA = """Metadata-Version: 2.1
 Name: zerotrie
 Version: {version}
-Summary: Maps from byte strings to numbers, read from flat bytes, by a library that is proved
+Summary: Maps from byte strings to numbers, read from flat bytes, by a library {of}
 Keywords: trie,map,prefix,succinct
 License: Unicode-3.0
 License-File: LICENSE
-Project-URL: Format, https://docs.rs/zerotrie/0.2.5
 Classifier: Development Status :: 4 - Beta
 Classifier: Intended Audience :: Developers
 Classifier: License :: OSI Approved
@@ -53,9 +57,10 @@ Description-Content-Type: text/markdown
 {description}"""
 
 
-def first_of(*paths):
-    """The bytes of the first of these files that is there. None if none is."""
-    return next((path.read_bytes() for path in paths if path.exists()), None)
+def first_of(*paths, fits=lambda data: True):
+    """The bytes of the first of these files that is there and fits. None if none is."""
+    found = (path.read_bytes() for path in paths if path.exists())
+    return next(filter(fits, found), None)
 
 
 def read(*names):
@@ -85,17 +90,60 @@ def name():
     return f"zerotrie-{version()}"
 
 
-def metadata():
-    return METADATA.format(version=version(), description=(HERE / "README.md").read_text()).encode()
+def metadata(of="that is proved"):
+    description = (HERE / "README.md").read_text()
+    return METADATA.format(version=version(), of=of, description=description).encode()
+
+
+def is_musl():
+    return "musl" in (sysconfig.get_config_var("HOST_GNU_TYPE") or "")
+
+
+def serves(library):
+    """Whether a library is for this platform. A ready one is for Linux with glibc."""
+    processor = PROCESSORS.get(int.from_bytes(library[18:20], "little"))
+    return processor == sysconfig.get_platform() and not is_musl()
+
+
+def sources():
+    """The sources in plain Rust, by the names that the files have in an sdist."""
+    top = HERE if (HERE / "rust").exists() else HERE.parent.parent
+    folders = [top / "rust" / crate for crate in ("zerotrie", "zerotrie_c")]
+    files = [
+        folders[1] / "Cargo.lock",
+        *(folders[0] / name for name in ("LICENSE", "README.md")),
+        *(file for folder in folders for file in (folder / "Cargo.toml", *folder.rglob("src/**/*.rs"))),
+    ]
+    return {str(file.relative_to(top)): file for file in sorted(files)}
+
+
+def built():
+    """A library that cargo builds, which is the variable CARGO or on the way."""
+    platform = sysconfig.get_platform()
+    manifest = sources()["rust/zerotrie_c/Cargo.toml"]
+    if not manifest.exists():
+        raise SystemExit(f"no libzerotrie.so for {platform}: run bindings/make, or take an sdist")
+    print(
+        f"zerotrie has no ready library for {platform}. cargo builds one from plain Rust: it is "
+        "made from the proved sources, and is not proved itself.",
+        file=sys.stderr,
+    )
+    cargo = [*shlex.split(os.environ.get("CARGO") or "cargo"), "build", "--release", "--locked"]
+    with tempfile.TemporaryDirectory() as room:
+        command = [*cargo, "--quiet", "--manifest-path", str(manifest), "--target-dir", room]
+        try:
+            subprocess.run(command, check=True)
+        except (OSError, subprocess.CalledProcessError) as error:
+            raise SystemExit(f"{error}: to build the library, install Rust 1.88 or later") from error
+        made = [*pathlib.Path(room).glob("**/release/*zerotrie_c.*")]
+        return first_of(*(it for it in made if it.suffix in (".so", ".dylib", ".dll")))
 
 
 def platforms(*binaries):
     """The platforms of a wheel with these files: manylinux2014 takes no symbol of glibc that is
     later than 2.17.
     """
-    if sysconfig.get_platform() != "linux-x86_64" or "musl" in (
-        sysconfig.get_config_var("HOST_GNU_TYPE") or ""
-    ):
+    if sysconfig.get_platform() != "linux-x86_64" or is_musl():
         return [sysconfig.get_platform().replace("-", "_").replace(".", "_")]
     newest = max(
         (int(found) for data in binaries for found in re.findall(rb"GLIBC_2\.(\d+)", data)),
@@ -108,12 +156,14 @@ def platforms(*binaries):
     )
 
 
-def package():
-    """The package with the library, by the names of the files."""
+def ready():
+    """The library that is there for this platform, if one is."""
     made = pathlib.Path(os.environ.get("ZEROTRIE_LIB") or HERE.parent / "build")
-    library = first_of(HERE / "zerotrie/libzerotrie.so", made / "libzerotrie.so")
-    if library is None:
-        raise SystemExit("no libzerotrie.so: run bindings/make first, or take a wheel of a release")
+    return first_of(HERE / LIBRARY, made / "libzerotrie.so", fits=serves)
+
+
+def package(library):
+    """The package with the library, by the names of the files."""
     modules = [
         str(path.relative_to(HERE))
         for path in sorted((HERE / "zerotrie").glob("*.py"))
@@ -122,7 +172,7 @@ def package():
     return {
         **read(*modules, "zerotrie/py.typed"),
         "zerotrie/_version.py": version_module(),
-        "zerotrie/libzerotrie.so": library,
+        **({LIBRARY: library} if library else {}),
     }
 
 
@@ -168,21 +218,21 @@ def licence():
     return beside("LICENSE", HERE.parent.parent / "LICENSE")
 
 
-def wheel(directory, files, tag, platforms):
+def wheel(directory, files, tag, platforms, about=metadata):
     """Writes the wheel of these files, and what it says of itself. Answers its name. The same files
     make the same bytes.
     """
-    about = f"{name()}.dist-info"
-    files = {**files, f"{about}/LICENSE": licence(), f"{about}/METADATA": metadata()}
+    folder = f"{name()}.dist-info"
+    files = {**files, f"{folder}/LICENSE": licence(), f"{folder}/METADATA": about()}
     tags = "".join(f"Tag: {tag}-{platform}\n" for platform in platforms)
     files[
-        f"{about}/WHEEL"
+        f"{folder}/WHEEL"
     ] = f"Wheel-Version: 1.0\nGenerator: packed\nRoot-Is-Purelib: false\n{tags}".encode()
     rows = []
     for path, data in files.items():
         digest = base64.urlsafe_b64encode(hashlib.sha256(data).digest()).rstrip(b"=").decode()
         rows.append(f"{path},sha256={digest},{len(data)}\n")
-    files[f"{about}/RECORD"] = "".join([*rows, f"{about}/RECORD,,\n"]).encode()
+    files[f"{folder}/RECORD"] = "".join([*rows, f"{folder}/RECORD,,\n"]).encode()
     made = f"{name()}-{tag}-{'.'.join(platforms)}.whl"
     with zipfile.ZipFile(pathlib.Path(directory) / made, "w") as packed:
         for path, data in files.items():
@@ -195,7 +245,8 @@ def wheel(directory, files, tag, platforms):
 
 def build_sdist(sdist_directory, config_settings=None):
     files = {
-        **package(),
+        **package(ready()),
+        **{place: file.read_bytes() for place, file in sources().items()},
         **read("packed.py", "pyproject.toml", "README.md", "zerotrie/_fast.c"),
         "PKG-INFO": metadata(),
         "LICENSE": licence(),
@@ -213,18 +264,15 @@ def build_sdist(sdist_directory, config_settings=None):
 
 
 def build_wheel(wheel_directory, config_settings=None, metadata_directory=None):
-    files = package()
-    library = files["zerotrie/libzerotrie.so"]
+    library, of = ready(), "that is proved"
+    if library is None:
+        library, of = built(), "of plain Rust, made from proved sources and itself not proved"
+    files, tag = package(library), WITHOUT
     with tempfile.TemporaryDirectory() as room:
         fast = extension(room)
-    if fast is None:
-        return wheel(wheel_directory, files, WITHOUT, platforms(library))
-    return wheel(
-        wheel_directory,
-        {**files, f"zerotrie/{EXTENSION}": fast},
-        WITH_EXTENSION,
-        platforms(library, fast),
-    )
+    if fast is not None:
+        files[f"zerotrie/{EXTENSION}"], tag = fast, WITH_EXTENSION
+    return wheel(wheel_directory, files, tag, platforms(library, fast or b""), lambda: metadata(of))
 
 
 def build_editable(wheel_directory, config_settings=None, metadata_directory=None):

@@ -1,4 +1,4 @@
-"""Compares what is declared for C, Rust and Python with what the library exports: names, and each
+"""Compares what is declared for C and Python with what the library exports: names, and each
 parameter and result by its size, and that of what it points to. Arguments: the folder bindings, and
 the shared library. Without a library, nothing is asked of it: what is declared is compared with the
 sources alone, which needs no proof.
@@ -46,12 +46,11 @@ C_NUMBERS = {
     "zerotrie_pair": 24,
     "zerotrie_search": 56,
 }
-#: what the texts of errors say to programs in other languages, in place of what they say to those
-#: in Rattle
-IN_OTHER_WORDS = {
-    "take one of this many bytes: {0}": "take a smaller one",
-    "take ZeroTrieExtendedCapacity, or fewer pairs": "take extended capacity, kind 7, or fewer "
-    "pairs; a dense table has at most 65,535 suffixes",
+#: the statuses whose texts are those of the library's errors, in the order of docs/CALLING.md
+OF_ERRORS = {
+    "ZeroTrieBuildError": range(1, 12),
+    "TagError": [13],
+    "RecordError": [16, 17],
 }
 
 
@@ -95,20 +94,6 @@ def in_c():
             kind, star = re.fullmatch(r"(?:const )?(\w+) (\*?)\w+", part).groups()
             sizes.append(("to", C_NUMBERS[kind]) if star else C_NUMBERS[kind])
         found[name] = (sizes, C_NUMBERS[answer])
-    return found
-
-
-def in_rust():
-    found = {}
-    text = (here / "rust/zerotrie-proved/src/ffi.rs").read_text()
-    for name, taken, answer in re.findall(
-        r"pub fn (zerotrie_\w+)\(([^)]*)\)(?:\s*-> (\w+))?;", text
-    ):
-        sizes = []
-        for part in parts(taken):
-            star, kind = re.fullmatch(r"\w+: (\*(?:const|mut) )?(\w+)", part).groups()
-            sizes.append(("to", NUMBERS[kind]) if star else NUMBERS[kind])
-        found[name] = (sizes, NUMBERS[answer] if answer else None)
     return found
 
 
@@ -185,10 +170,25 @@ def versions():
         assert re.search(rf"#define ZEROTRIE_VERSION_{part} (\d+)", header)[1] == want, (part, want)
 
 
-def statuses():
-    """The text of each status is that of the library's error, in each language, and the numbers are
-    those of the header and of Rust.
+def texts_of_errors():
+    """The number of each status that is an error of the library, and its text: that of the table in
+    docs/CALLING.md with the advice after it, or the advice alone where the text is a mere name.
     """
+    page = (here / "../docs/CALLING.md").read_text()
+    rows = re.findall(r"^\| `(\w+Error)::(\w+).*?` \| (.*?) \| (.*?) \|$", page, re.M)
+    for error, numbers in OF_ERRORS.items():
+        for number, (_, name, text, advice) in zip(numbers, [it for it in rows if it[0] == error]):
+            text = text.partition(". Size needed")[0]
+            if text == name:
+                yield number, advice
+            elif text.endswith("."):
+                yield number, f"{text} {advice[0].upper()}{advice[1:]}"
+            else:
+                yield number, f"{text}: {advice}"
+
+
+def statuses():
+    """The text of each status is that of the library's error, in each language."""
     header = (here / "c/zerotrie.h").read_text()
     numbers = numbers_of(header, "status")
     by_name = texts_of(header, "status")
@@ -196,48 +196,17 @@ def statuses():
     texts = [by_name[name] for name in sorted(cases, key=numbers.get)]
     assert len(texts) == len(by_name) == 24, by_name
     assert [numbers[name] for name in cases] == [*range(24)], by_name
-    errors = re.findall(
-        r'#\[error\("(.*?)"\)\]\n\s+(\w+)',
-        (here / "../crates/zerotrie_base/src/error.rt").read_text(),
-    )
-    for number, (text, name) in enumerate(errors, 1):
-        for word, instead in IN_OTHER_WORDS.items():
-            text = text.replace(word, instead)
-        assert texts[number] == text, (number, name, text, texts[number])
-    records = dict(
-        zip(
-            ("ZEROTRIE_RECORD_TRUNCATED", "ZEROTRIE_TRAILING_BYTES"),
-            re.findall(
-                r'#\[error\("(.*?)"\)\]',
-                (here / "../crates/zerotrie/src/dense/record.rt").read_text(),
-            ),
-        )
-    )
-    assert len(records) == 2 and all(texts[numbers[name]] == text for name, text in records.items())
-    in_rust = (here / "rust/zerotrie-proved/src/error.rs").read_text()
+    for number, text in texts_of_errors():
+        assert texts[number] == text, (number, text, texts[number])
+    in_python = (here / "python/zerotrie/_errors.py").read_text()
     rules = [
         text
         for name, text in texts_of(header, "fault").items()
         if numbers_of(header, "fault").get(name)
     ]
-    for language, text in [
-        ("rust", in_rust),
-        ("python", (here / "python/zerotrie/_errors.py").read_text()),
-    ]:
-        for name, wanted in [("TEXTS", texts), ("RULES", rules)]:
-            table = re.search(rf"{name}\b.*?[\[(]\n(.*?)\n[\])]", text, re.S)[1]
-            assert re.findall(r'^    "(.*)",$', table, re.M) == wanted, (language, name)
-    cases = {
-        int(number): name for number, name in re.findall(r"\((\d+), ErrorKind::(\w+)\)", in_rust)
-    }
-    in_c = {
-        number: name.removeprefix("ZEROTRIE_").replace("_", "").lower()
-        for name, number in numbers.items()
-    }
-    assert cases and all(name.lower() == in_c[number] for number, name in cases.items()), (
-        cases,
-        in_c,
-    )
+    for name, wanted in [("TEXTS", texts), ("RULES", rules)]:
+        table = re.search(rf"{name}\b.*?[\[(]\n(.*?)\n[\])]", in_python, re.S)[1]
+        assert re.findall(r'^    "(.*)",$', table, re.M) == wanted, name
 
 
 want = exported()
@@ -251,11 +220,23 @@ if library:
     assert sorted(line.split()[2] for line in symbols.splitlines() if " T " in line) == sorted(
         want
     ), symbols
-for language, have in [("c", in_c()), ("rust", in_rust()), ("python", in_python())]:
+for language, have in [("c", in_c()), ("python", in_python())]:
     for name in sorted(set(want) | set(have)):
         assert want.get(name) == have.get(name), (language, name, want.get(name), have.get(name))
+def each_takes_null():
+    """null.c calls each export that takes a pointer and a length."""
+    called = re.findall(r"(?:CALL|MAKE)\((\w+),", (here / "tests/null.c").read_text())
+    wanted = [
+        name
+        for name, (sizes, _) in want.items()
+        if any(isinstance(one, tuple) and after == 8 for one, after in zip(sizes, sizes[1:]))
+    ]
+    assert wanted and not set(wanted) - set(called), set(wanted) - set(called)
+
+
 statuses()
 faults()
 versions()
+each_takes_null()
 pages.compare(here)
-print(f"declared: {len(want)} functions, in C, Rust and Python as they are exported")
+print(f"declared: {len(want)} functions, in C and Python as they are exported")

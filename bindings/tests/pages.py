@@ -1,6 +1,6 @@
 """Compares the page of each language with what is public in it, by the sources alone.
 
-The pages are C.md, CPP.md, RUST.md and PYTHON.md in docs. Each public function, class and method is
+The pages are C.md, CPP.md, RUST.md, PYTHON.md and JAVASCRIPT.md in docs. Each public function, class and method is
 named in code on its page, a method in a section whose heading names its class. Each name on a page
 that is called, as `name(`, or named with its class, as `Class::name`, is public.
 """
@@ -10,7 +10,8 @@ import re
 
 #: What the pages call beside the library.
 OTHERS = set(
-    "bool bytes find_package free hash help len malloc realloc target_link_libraries what".split()
+    "BigInt Uint8Array arrayBuffer bool bytes fetch find_package free hash help len malloc "
+    "readFileSync realloc target_link_libraries what".split()
 )
 
 
@@ -71,24 +72,6 @@ def in_cpp(here):
     return public, set()
 
 
-def in_rust(here):
-    """The functions and types of zerotrie_proved, the functions of each type, and variants."""
-    source = here / "rust/zerotrie-proved/src"
-    root = (source / "lib.rs").read_text()
-    public, variants = {"": set(re.findall(r"^pub fn (\w+)", root, re.M))}, set()
-    for names in re.findall(r"^pub use \w+::\{?(.*?)\}?;", root, re.M | re.S):
-        public[""] |= set(re.findall(r"\w+", names))
-    block = re.compile(r"^impl(?:<[^\n]*?>)? (\w+)(?:<[^\n]*>)? \{\n(.*?)^\}", re.M | re.S)
-    for file in source.glob("*.rs"):
-        for body in re.findall(r"^pub enum \w+ \{\n(.*?)^\}", file.read_text(), re.M | re.S):
-            variants |= set(re.findall(r"^    (\w+)", body, re.M))
-        for owner, body in block.findall(file.read_text()):
-            if owner in public[""]:
-                found = re.findall(r"^    pub (?:const )?fn (\w+)", body, re.M)
-                public.setdefault(owner, set()).update(found)
-    return public, variants
-
-
 def in_python(here):
     """The functions and classes of the module, the methods of each class and of its bases, and the
     members of enums.
@@ -115,7 +98,27 @@ def in_python(here):
     )
 
 
-PAGES = {"C.md": in_c, "CPP.md": in_cpp, "RUST.md": in_rust, "PYTHON.md": in_python}
+def in_javascript(here):
+    """The classes, constants and types that are declared, the members of ZeroTrie, and those of
+    other classes, which need not be named.
+    """
+    text = (here / "js/zerotrie_read.d.mts").read_text()
+    public, members = {"": set()}, set()
+    for name, body in re.findall(r"^export (?:class|const|type) (\w+)(.*?)(?=^export|\Z)", text, re.M | re.S):
+        public[""].add(name)
+        found = set(re.findall(r"^    (?:static |get |readonly )*(\w+)[(:]", body, re.M))
+        members |= found
+        if name == "ZeroTrie":
+            public[name] = found - {"constructor"}
+    return public, members | set(re.findall(r'"([A-Z_]+)"', text))
+
+
+PAGES = {
+    "C.md": in_c,
+    "CPP.md": in_cpp,
+    "PYTHON.md": in_python,
+    "JAVASCRIPT.md": in_javascript,
+}
 
 
 def spans(text):

@@ -1,7 +1,9 @@
 /* Writes rows for reader.c: tries, what they are asked, and what the library answers. Arguments:
  * how many tries, and a seed; or a file of keys, a line each, of which it makes a trie of each
  * kind. Numbers have eight bytes, the lowest first, so that reader.c reads them on another
- * processor. Of bytes that are no trie there are no answers. */
+ * processor. Of bytes that are no trie there are no answers.
+ *
+ * Compiled with BY_READER it writes the answers of zerotrie_read.h, to all bytes. */
 #include "zerotrie.h"
 #include <stdio.h>
 #include <stdlib.h>
@@ -141,6 +143,13 @@ static size_t damage(uint8_t *bytes, size_t len) {
     return len;
 }
 
+#ifdef BY_READER
+#include "reader_answers.h"
+#else
+static bool is_answered(uint32_t kind, const uint8_t *bytes, size_t len) {
+    return zerotrie_is_well_formed(kind, bytes, len);
+}
+
 /* The answers to one text: its value, its prefixes that are keys, and what each step along it
  * tells. */
 static void put_answers(uint32_t kind, const uint8_t *bytes, size_t len, const uint8_t *text,
@@ -192,6 +201,7 @@ static void put_listing(uint32_t kind, const uint8_t *bytes, size_t len, const u
     free(ends);
     free(values);
 }
+#endif
 
 static void put_text(uint32_t kind, const uint8_t *bytes, size_t len, bool is_trie,
                      const uint8_t *text, size_t text_len) {
@@ -208,7 +218,7 @@ static void put_prefix(uint32_t kind, const uint8_t *bytes, size_t len, bool is_
 }
 
 static bool put_trie(uint32_t kind, const uint8_t *bytes, size_t len) {
-    const bool is_trie = zerotrie_is_well_formed(kind, bytes, len);
+    const bool is_trie = is_answered(kind, bytes, len);
     put(kind);
     put(is_trie);
     put_bytes(bytes, len);

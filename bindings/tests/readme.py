@@ -1,16 +1,19 @@
 """Runs what the pages on the bindings show of each language, and compares what it prints with the
-remark on the line that prints. Arguments: the folder bindings, and a folder to work in.
+remark on the line that prints. Arguments: the folder bindings, and a folder to work in. Without node
+those in JavaScript are skipped.
 """
 
 import os
 import pathlib
 import re
+import shutil
 import subprocess
 import sys
 
 here, room = pathlib.Path(sys.argv[1]), pathlib.Path(sys.argv[2])
 build = pathlib.Path(os.environ["ZEROTRIE_LIB"])
-docs = [here.parent / "docs" / name for name in ("C.md", "CPP.md", "RUST.md", "PYTHON.md")]
+names = ("C.md", "CPP.md", "PYTHON.md", "JAVASCRIPT.md")
+docs = [here.parent / "docs" / name for name in names]
 pages = [here / "README.md", here / "python/README.md", *docs]
 
 
@@ -23,24 +26,19 @@ def compiled(command, name, text):
     return [str(room / "shown")]
 
 
-def in_rust(body):
-    """The program that cargo makes of a package that depends on the crate."""
-    project = room / "shown-rust"
-    (project / "src").mkdir(parents=True, exist_ok=True)
-    (project / "Cargo.toml").write_text(
-        '[package]\nname = "shown"\nversion = "0.0.0"\nedition = "2024"\n[dependencies]\n'
-        f'zerotrie-proved = {{ path = "{here}/rust/zerotrie-proved" }}\n[workspace]\n'
-    )
-    (project / "src/main.rs").write_text(
-        f"fn main() -> Result<(), Box<dyn std::error::Error>> {{\n{body}Ok(())\n}}\n"
-    )
-    manifest = str(project / "Cargo.toml")
-    cargo = ["cargo", "build", "--offline", "--quiet", "--manifest-path", manifest]
-    subprocess.run(cargo, check=True)
-    return [str(pathlib.Path(os.environ["CARGO_TARGET_DIR"]) / "debug/shown")]
+def in_javascript(body):
+    """The program, beside a package that has the reader."""
+    modules = room / "shown-js/node_modules"
+    modules.mkdir(parents=True, exist_ok=True)
+    if not (modules / "zerotrie-read").exists():
+        (modules / "zerotrie-read").symlink_to(here.resolve() / "js")
+    (room / "shown-js/shown.mjs").write_text(body)
+    return ["node", str(room / "shown-js/shown.mjs")]
 
 
 def program(language, body):
+    if language == "js":
+        return in_javascript(body)
     if language == "c":
         text = '#include "zerotrie.h"\n#include <stdio.h>\nint main(void) {\n' + body + "}\n"
         return compiled([os.environ.get("CC", "cc"), "-std=c11"], "shown.c", text)
@@ -51,19 +49,19 @@ def program(language, body):
         # programs without exceptions and run-time types take the header too
         compiled([*compiler, "-fno-exceptions", "-fno-rtti"], "shown.cpp", text)
         return compiled(compiler, "shown.cpp", text)
-    return in_rust(body) if language == "rs" else [sys.executable, "-c", body]
+    return [sys.executable, "-c", body]
 
 
 def shown(page):
     """The languages and the texts of the examples of a page."""
-    found = re.findall(r"^```(c|cpp|rs|python)\n(.*?)^```", page.read_text(), re.M | re.S)
+    found = re.findall(r"^```(c|cpp|python|js)\n(.*?)^```", page.read_text(), re.M | re.S)
     assert found, page
     return found
 
 
 def run(page, language, body):
     """Runs an example."""
-    want = re.findall(r"(?:print|cout).*?(?://|#) (.*)", body)
+    want = re.findall(r"(?:print|cout|console).*?(?://|#) (.*)", body)
     environment = {**os.environ, "PYTHONPATH": str(here / "python")}
     command = program(language, body)
     done = subprocess.run(command, check=True, capture_output=True, text=True, env=environment)
@@ -71,7 +69,10 @@ def run(page, language, body):
 
 
 examples = [(page, *example) for page in pages for example in shown(page)]
-assert {language for _, language, _ in examples} == {"c", "cpp", "rs", "python"}
+assert {language for _, language, _ in examples} == {"c", "cpp", "python", "js"}
+if not shutil.which("node"):
+    print("skipped: what needs node")
+    examples = [example for example in examples if example[1] != "js"]
 for example in examples:
     run(*example)
 print(f"readme: {len(examples)} examples on {len(pages)} pages run")

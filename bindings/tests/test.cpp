@@ -10,6 +10,7 @@
 #include <random>
 #include <sstream>
 #include <sys/mman.h>
+#include <unistd.h>
 // clang before 16 can't read the ranges of libstdc++
 #if __cplusplus >= 202002L && (!defined(__clang__) || __clang_major__ >= 16)
 #define HAS_RANGES
@@ -211,7 +212,7 @@ static void causes() {
     using Places = std::pair<size_t, size_t>;
     const auto twice = thrown([] { CHECK(zerotrie::build(Kind::SimpleAscii, {{"to", 1}, {"a", 2}, {"to", 3}}).empty()); });
     CHECK(twice.status == ZEROTRIE_DUPLICATE_KEY && twice.pairs == Places(0, 2) && !twice.fault);
-    CHECK(twice.what() == "a key was given twice: give each key once (pair 0, \"to\"; pair 2, \"to\")"s);
+    CHECK(twice.what() == "The same key was given twice: give each key once (pair 0, \"to\"; pair 2, \"to\")"s);
     const auto foreign = thrown([] { CHECK(zerotrie::build(Kind::SimpleAscii, {{"to", 1}, {"\xC3\xA9", 2}}).empty()); });
     CHECK(foreign.status == ZEROTRIE_NON_ASCII && foreign.pairs == Places(1, 1));
     CHECK(std::string(foreign.what()).find("(pair 1, \"\\xc3\\xa9\")") != std::string::npos);
@@ -274,6 +275,48 @@ static void owner() {
     Map nested;
     for (size_t n = 0; n < 40; n++) nested[text.substr(0, n)] = n;
     CHECK(zerotrie::Map(nested).common_prefixes(text).size() == 40);
+    const zerotrie::Map small{{"foo", 1}, {"bar", 2}, {"bazzoo", 3}};
+    CHECK(small.count("bar") == 1 && small.count("ba") == 0 && small.find("bar")->second == 2 && (*small.find("bazzoo")).first == "bazzoo");
+    CHECK(small.find("ba") == small.end() && zerotrie::Map(Kind::IgnoreCase, Map{{"bar", 2}}).find("BAR")->first == "bar");
+    CHECK(small.get_many({"foo", "x"}, 9) == (std::vector<size_t>{1, 9}) && !small.first_fault());
+    // what lasts: keys that outlive the iterator
+    const std::vector kept(small.begin(), small.end());
+    static_assert(std::is_same_v<decltype(kept)::value_type, std::pair<std::string, size_t>>);
+    CHECK(kept.size() == 3 && kept[0].first == "bar" && kept[1].first == "bazzoo" && kept[2].second == 1);
+    CHECK(Map(small.begin(), small.end()) == Map({{"foo", 1}, {"bar", 2}, {"bazzoo", 3}}));
+    // values of an enum
+    enum class Color : uint8_t { Red, Blue = 7 };
+    enum Old { BelowZero = -1, One = 1 };
+    const zerotrie::Map colors{{"red", Color::Red}, {"blue", Color::Blue}, {"one", One}};
+    CHECK(colors.get("blue") == 7 && colors.at("one") == 1 && zerotrie::Map(std::map<std::string, Color>{{"a", Color::Blue}}).at("a") == 7);
+    try {
+        CHECK(zerotrie::build(Kind::SimpleAscii, {{"a", BelowZero}}).empty());
+        CHECK(false);
+    } catch (const std::out_of_range &) {
+    }
+    // files
+    char room[] = "/tmp/zerotrie-XXXXXX";
+    CHECK(mkdtemp(room));
+    const std::string path = room + "/names.trie"s;
+    for (const auto &each : {small, colors, zerotrie::Map()}) {
+        each.save(path);
+        CHECK(zerotrie::Map::load(path) == each);
+    }
+    for (const std::string &none : {room + "/no/such"s, std::string(room)}) {
+        try {
+            CHECK(zerotrie::Map::load(none).empty());
+            CHECK(false);
+        } catch (const std::system_error &error) {
+            CHECK(std::string(error.what()).find(none) == 0);
+        }
+        try {
+            small.save(none);
+            CHECK(false);
+        } catch (const std::system_error &error) {
+            CHECK(error.code().value() != 0);
+        }
+    }
+    CHECK(std::remove(path.c_str()) == 0 && rmdir(room) == 0);
 #ifdef HAS_RANGES
     static_assert(std::ranges::input_range<const zerotrie::Map> && std::ranges::sized_range<const zerotrie::Map>);
     static_assert(std::ranges::input_range<const zerotrie::Stream>);

@@ -149,7 +149,7 @@ assert refused(ZeroTrieError, build, [("a", 1), ("a", 2)]).status == 6
 ascii_only = refused(ZeroTrieError, build, {"a": 1, "å": 1}, SIMPLE_ASCII)
 assert (
     str(ascii_only)
-    == "a key has a byte that is not ASCII: take a kind of trie for keys of any bytes: key 1 is 'å'"
+    == "Non-ASCII cannot be added to an ASCII-only trie: take a kind of trie for keys of any bytes: key 1 is 'å'"
 )
 assert (ascii_only.key, ascii_only.index, ascii_only.other, ascii_only.at) == ("å", 1, None, None)
 mixed = refused(
@@ -180,14 +180,13 @@ refused(TypeError, ZeroTrie, b"", 0.0)
 refused(AttributeError, setattr, trie, "kind", PERFECT_HASH)
 again = pickle.loads(pickle.dumps(refused(ZeroTrieError, build, [("a", 1), ("a", 2)])))
 assert (again.status, again.key, again.other) == (6, "a", 1) and str(again).startswith(
-    "a key was given twice: give each key once: "
+    "The same key was given twice: give each key once: "
 )
 assert refused(ZeroTrieError, ZeroTrie, b"\1").status == 14
 # numbers that are no keys, and such as are too large
 for call in (
     trie.__getitem__,
     trie.get,
-    trie.__contains__,
     trie.longest_prefix,
     lambda key: build([(key, 1)]),
     zerotrie.DenseTable,
@@ -201,7 +200,7 @@ for call in (
     lambda n: build({}, n),
 ):
     refused(OverflowError, call, 1 << 64)
-    refused(OverflowError, call, -1)
+    refused(OverflowError, call, -1 << 64)
 assert list(trie.get_many(["foo", "x"], (1 << 64) - 1)) == [1, (1 << 64) - 1]
 numbers = array.array("I", [1, 2, 3])
 assert zerotrie.tagged(numbers, 0) == b"\0" + numbers.tobytes()
@@ -210,10 +209,7 @@ assert (
     and trie != 5
 )
 assert copy.copy(trie)._data is trie._data and copy.copy(trie) == trie
-assert (
-    repr(ZeroTrie(b"a\x85", 0)) == "ZeroTrie(b'\\x00a\\x85')"
-    and repr(ZeroTrie(bytes(99), 3, False)) == "<ZeroTrie of 99 bytes, PERFECT_HASH>"
-)
+assert repr(ZeroTrie(b"a\x85", 0)) == "<ZeroTrie {b'a': 5}, 2 bytes, SIMPLE_ASCII>"
 # bytes that are no trie, of which each byte is a value of the empty key: their listing ends
 assert 5000 <= len(ZeroTrie(b"\x81" * 5000, 0, check=False)) <= 5001
 # a cursor holds the bytes and the kind, whatever becomes of its trie
@@ -295,7 +291,7 @@ for again in (copy.copy(named), copy.deepcopy(named), pickle.loads(pickle.dumps(
     assert type(again) is Named and again == named and again.name == ["foo"] and again["foo"] == 1
 assert (
     copy.copy(named).name is named.name is not copy.deepcopy(named).name
-    and repr(named) == "Named(b'\\x00foo\\x81')"
+    and repr(named) == "<Named {b'foo': 1}, 4 bytes, SIMPLE_ASCII>"
 )
 place.step(ord("f"))
 place.way = [place]
@@ -529,7 +525,7 @@ assert (
 assert (
     StrTrie.build({}) == ZeroTrie.build({}) == {}
     and hash(StrTrie.build({})) == hash(ZeroTrie.build({}))
-    and repr(StrTrie.build({"a": 5})) == "StrTrie(b'\\x00a\\x85')"
+    and repr(StrTrie.build({"a": 5})) == "<StrTrie {'a': 5}, 2 bytes, SIMPLE_ASCII>"
 )
 for call in (
     list,

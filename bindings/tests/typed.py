@@ -5,7 +5,8 @@ from __future__ import annotations
 from collections.abc import Mapping
 from typing import Optional, Union
 
-from zerotrie import Cursor, Index, Kind, StrTrie, ZeroTrie, ZeroTrieError, build
+import zerotrie
+from zerotrie import Cursor, DenseTable, Index, Kind, StrTrie, ZeroTrie, ZeroTrieError, build
 
 
 def total(mapping: Mapping[str, int]) -> int:
@@ -37,7 +38,11 @@ least: Optional[tuple[str, int]] = s.first_from("f") or s.first_after(b"g")
 globbed: set[tuple[str, int]] = s.glob("f*") & s.items("fo")
 joined: StrTrie = (s | {"b": 2}) - {"foo"} & t
 index: Index = Index.build({"foo": 1})
-found: int = index["foo"] + index.get("bar", 0)
+found: int = index["foo"] + index.get("bar", 0) + index.get_many(["x"], missing=-1)[0]
+table: DenseTable = DenseTable.build({"de": {"AT": 8}})
+cell: Optional[int] = table.get("de", "AT") or table["de", "AT"] or table.get("de", "CH", 0)
+shards: list[Mapping[str, int]] = [s, StrTrie.build(s.items())]
+place: int = s.nbytes + index.nbytes if zerotrie.accelerated else 0
 try:
     raw: bytes = build([("a", 1)], Kind.SIMPLE_ASCII)
 except ZeroTrieError as error:

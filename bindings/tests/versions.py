@@ -35,9 +35,10 @@ def written():
         for part in ("MAJOR", "MINOR", "PATCH")
     ]
     yield "crates/zerotrie_c/src/version.rt", ".".join(parts)
-    yield "bindings/rust/zerotrie-proved/Cargo.toml", found(
-        "rust/zerotrie-proved/Cargo.toml", r'^version = "(.*)"'
-    )
+    for package in ("zerotrie", "zerotrie_c"):
+        manifest = f"rust/{package}/Cargo.toml"
+        yield manifest, found(f"../{manifest}", r'^version = "(.*)"')
+    yield "bindings/js/package.json", found("js/package.json", r'^\s*"version": "(.*)"')
     yield "crates/zerotrie_cli/src/arguments.rt", found(
         "../crates/zerotrie_cli/src/arguments.rt", r'^\s*\.version\("(.*)"\)'
     )

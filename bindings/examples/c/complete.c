@@ -11,26 +11,26 @@ static const zerotrie_pair words[] = {
 enum { COUNT = sizeof words / sizeof *words };
 
 int main(int count, char **arguments) {
-    uint8_t bytes[200], room[200];
-    size_t ends[10], values[10], len;
+    uint8_t bytes[200];
+    size_t len;
+    zerotrie_rooms rooms;
+    zerotrie_next next = ZEROTRIE_END;
     zerotrie_status status =
         zerotrie_build_sorted(ZEROTRIE_PERFECT_HASH, words, COUNT, bytes, sizeof bytes, &len);
     for (int i = 1; i < count && status == ZEROTRIE_DONE; i++) {
         /* a mistake is a character that is missing, or one too many, or another one */
-        const uint8_t *const typed = (const uint8_t *)arguments[i];
-        zerotrie_search near = zerotrie_fuzzy_chars(typed, strlen(arguments[i]), 1);
+        zerotrie_search near = zerotrie_fuzzy_chars(arguments[i], strlen(arguments[i]), 1);
         near.beginnings = true;
         const zerotrie_trie trie = zerotrie_trie_of(ZEROTRIE_PERFECT_HASH, bytes, len);
-        zerotrie_listing part =
-            zerotrie_listing_by(trie, near, room, sizeof room, ends, values, 10);
+        zerotrie_listing part = zerotrie_listing_found(trie, near, &rooms);
         printf("%s:", arguments[i]);
-        while (zerotrie_listing_next(&part))
+        while ((next = zerotrie_listing_next(&part)) == ZEROTRIE_PART)
             for (size_t number = 0; number < part.count; number++) {
                 const zerotrie_bytes word = zerotrie_listing_key(&part, number);
                 printf(" %.*s", (int)word.len, (const char *)word.ptr);
             }
         printf("\n");
-        status = part.status;
+        if (next == ZEROTRIE_STUCK) status = part.status;
     }
     if (status != ZEROTRIE_DONE) fprintf(stderr, "%s\n", zerotrie_status_text(status));
     return status != ZEROTRIE_DONE;

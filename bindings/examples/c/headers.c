@@ -18,7 +18,7 @@ int main(int count, char **arguments) {
     const size_t room = zerotrie_build_bound(COUNT, end);
     uint8_t *const bytes = malloc(room);
     if (!bytes) return 1;
-    const zerotrie_status status = zerotrie_build_many(ZEROTRIE_IGNORE_CASE, (const uint8_t *)names, end, ends, COUNT, values,
+    const zerotrie_status status = zerotrie_build_many(ZEROTRIE_IGNORE_CASE, names, end, ends, COUNT, values,
                                                        COUNT, bytes, room, &len);
     if (status != ZEROTRIE_DONE) {
         fprintf(stderr, "%s\n", zerotrie_status_text(status));
@@ -27,7 +27,7 @@ int main(int count, char **arguments) {
     }
     const zerotrie_trie trie = zerotrie_trie_of(ZEROTRIE_IGNORE_CASE, bytes, len);
     for (int i = 1; i < count; i++) {
-        const bool found = zerotrie_trie_get(trie, (const uint8_t *)arguments[i], strlen(arguments[i]), &value);
+        const bool found = zerotrie_trie_gets(trie, arguments[i], &value);
         printf("%s: %s\n", arguments[i], found ? spellings[value] : "unknown");
     }
     free(bytes);

@@ -22,8 +22,8 @@ int main(int count, char **arguments) {
     if (status != ZEROTRIE_DONE) return 1;
     const zerotrie_trie trie = zerotrie_trie_of(ZEROTRIE_IGNORE_CASE, bytes, len);
     for (int i = 1; i < count; i++) {
-        const uint8_t *const tag = (const uint8_t *)arguments[i];
-        if (zerotrie_trie_longest_prefix_at(trie, tag, strlen(arguments[i]), (const uint8_t *)"-_", 2, &len, &value))
+        const char *const tag = arguments[i];
+        if (zerotrie_trie_longest_prefix_at(trie, tag, strlen(tag), "-_", 2, &len, &value))
             printf("%s: %.*s %zu\n", arguments[i], (int)len, arguments[i], value);
         else
             printf("%s: none\n", arguments[i]);

@@ -24,15 +24,15 @@ int main(int count, char **arguments) {
         fprintf(stderr, "%s: %s\n", arguments[1], fault ? zerotrie_fault_text(fault) : zerotrie_status_text(status));
         return 1;
     }
-    const uint8_t *const text = (const uint8_t *)arguments[2];
+    const char *const text = arguments[2];
     uint8_t room[2000];
-    zerotrie_listing part = zerotrie_listing_of(trie, text, strlen(arguments[2]), room, sizeof room, ends, values, 10);
-    zerotrie_listing_next(&part);
+    zerotrie_listing part = zerotrie_listing_of(trie, text, strlen(text), room, sizeof room, ends, values, 10);
+    if (zerotrie_listing_next(&part) == ZEROTRIE_STUCK) fprintf(stderr, "%s\n", zerotrie_status_text(part.status));
     for (size_t i = 0; i < part.count; i++) {
         const zerotrie_bytes word = zerotrie_listing_key(&part, i);
         printf("%.*s %zu\n", (int)word.len, (const char *)word.ptr, values[i]);
     }
-    if (zerotrie_trie_longest_prefix(trie, text, strlen(arguments[2]), &len, &value))
-        printf("longest: %.*s %zu\n", (int)len, arguments[2], value);
+    if (zerotrie_trie_longest_prefix(trie, text, strlen(text), &len, &value))
+        printf("longest: %.*s %zu\n", (int)len, text, value);
     return munmap(bytes, (size_t)file.st_size);
 }

@@ -32,13 +32,14 @@ Searches find keys by their order, by a pattern and by edits, and tries are put 
     ({'sting': 2, 'tin': 3}, {'sting': 2, 'tin': 3, 'ton': 4})
 
 Keys are bytes, or text, which means its UTF-8. Text that has none, such as a lone surrogate, raises
-UnicodeEncodeError, and what is neither text nor bytes raises TypeError, both in `in` too. Values
-are from 0 to 2**64 - 1. A key that a build does not take, and malformed bytes, raise ZeroTrieError,
-which names the key or the byte.
+UnicodeEncodeError, and what is neither text nor bytes raises TypeError; `in` is False for both.
+Values are from 0 to 2**64 - 1. A key that a build does not take, and malformed bytes, raise
+ZeroTrieError, which names the key or the byte. Any error of a pair has `key` and `index`.
 
-pickle, bytes(trie) and copy.deepcopy() copy all bytes of a trie, except that bytes(trie) is what
-was given if that was tagged `bytes`. No other call does so; PyPy also copies bytes that are given
-read-only, once.
+bytes(trie), copy.deepcopy() and pickle up to protocol 4 copy all bytes of a trie, except that
+bytes(trie) is what was given if that was tagged `bytes`. pickle from protocol 5 on passes them by
+reference to whoever takes buffers, as dask, Ray and multiprocessing's shared memory do. No other
+call copies them; PyPy also copies bytes that are given read-only, once.
 
 Many threads may read one trie at once. A build, the validation of bytes, a listing and get_many()
 of many keys let other threads run meanwhile; a look-up of one key and a step of a cursor do not, as
@@ -48,44 +49,53 @@ The library is the one that the variable ZEROTRIE_SO names, else the one in this
 checkout, the one that bindings/make makes, else the one that the system's loader finds. Its version
 must be that of this module. Look-ups, listings and cursors reach it by an extension in C, and else
 by ctypes, which takes ten times as long. `pip install` and bindings/make compile the extension for
-CPython if a C compiler and Python's headers are there (as gcc and python3-dev). It is in use if
-`import zerotrie._fast` works.
+CPython if a C compiler and Python's headers are there (as gcc and python3-dev). `accelerated` says
+whether it is in use.
 """
 
 from __future__ import annotations
 
-import os
-import secrets
-import shutil
+import hashlib
+import operator
+import reprlib
 from array import array
 from collections.abc import Iterable, Iterator, Mapping, Sequence, Set
 from copy import deepcopy
 from ctypes import c_size_t
+from itertools import islice
+from pickle import PickleBuffer
 from typing import Any, NoReturn, Optional, TypeVar, Union, cast, overload
 
 from ._errors import (
-    NO_ENTRY, TOO_SMALL, Kind, Other, ZeroTrieError, check_status, remade, with_attributes,
+    NO_ENTRY, TOO_SMALL, Kind, Other, ZeroTrieError, check_status, in_file, remade,
+    with_attributes,
 )
 from ._library import lib
-from ._memory import in_place, mapped, sealed, trie_in, validate
+from ._memory import (
+    in_place, index_in, mapped, replace, sealed, sealed_index, trie_in, validate, view_of,
+)
 from ._pairs import (
     FlatPairs, Key, Pairs, Path, auto_kind, build, build_dense, build_sorted, encoded_len,
     key_bytes, known_kind, tagged,
 )
-from ._readers import COUNT, INDEX, PAIRS, AnyPlace, Place, Reader, Table, Word
+from ._readers import (
+    COUNT, INDEX, PAIRS, AnyPlace, Place, Reader, Table, Word, accelerated as accelerated,
+)
 from ._search import BY_GLOB, BY_SUBSEQUENCE, Search
 from ._sets import Keyed, chosen, kind_of
+from ._tables import dense_parts, index_entries
 from ._version import __version__ as __version__
 from ._views import Found, Items, Keys, Values
 
 __all__ = [
     "SIMPLE_ASCII", "PERFECT_HASH", "EXTENDED_CAPACITY", "IGNORE_CASE",
     "Cursor", "DenseTable", "Index", "Kind", "StrTrie", "ZeroTrie", "ZeroTrieError",
-    "auto_kind", "build", "build_dense", "build_sorted", "encoded_len", "tagged",
+    "accelerated", "auto_kind", "build", "build_dense", "build_sorted", "encoded_len", "tagged",
 ]
 
 Trie = TypeVar("Trie", bound="_Trie[Any]")
 AnyIndex = TypeVar("AnyIndex", bound="Index")
+AnyDense = TypeVar("AnyDense", bound="DenseTable")
 
 SIMPLE_ASCII, PERFECT_HASH = Kind.SIMPLE_ASCII, Kind.PERFECT_HASH
 EXTENDED_CAPACITY, IGNORE_CASE = Kind.EXTENDED_CAPACITY, Kind.IGNORE_CASE
@@ -124,7 +134,68 @@ class Cursor(Place):
         raise TypeError("a cursor is a place in memory, which no pickle can hold: pickle its trie")
 
 
-class _Trie(Reader[Word], Mapping[Any, int]):
+class _InBytes:
+    """What a trie, an index and a dense table have in common: bytes in place."""
+
+    __slots__ = ()
+
+    def _lent(self) -> tuple[memoryview, int, int, int]:
+        raise NotImplementedError
+
+    def _remakes(self, data: Any) -> tuple[Any, ...]:
+        """What remade() makes the same of, over these bytes."""
+        raise NotImplementedError
+
+    @property
+    def nbytes(self) -> int:
+        """How many bytes memoryview() of it has: those of a trie have no tag."""
+        return self._lent()[3]
+
+    def __buffer__(self, flags: int) -> memoryview:
+        """The bytes in place, read-only, as memoryview() takes them."""
+        return memoryview(self._lent()[0])
+
+    def __sizeof__(self) -> int:
+        return object.__sizeof__(self) + self.nbytes
+
+    def __dask_tokenize__(self) -> tuple[Any, ...]:
+        """The same for the same bytes, as dask wants it."""
+        view, kind, _, _ = self._lent()
+        return type(self).__qualname__, int(kind), hashlib.sha256(view).hexdigest()
+
+    def __reduce__(self) -> tuple[Any, ...]:
+        state = getattr(self, "__dict__", None)
+        return remade, (type(self), *self._remakes(bytes(self._lent()[0]))), state
+
+    def __reduce_ex__(self, protocol: Any) -> Any:
+        """From protocol 5 on the bytes are a buffer, which goes by reference if the pickler has a
+        `buffer_callback`.
+        """
+        base = next(one for one in type(self).__mro__ if "__reduce__" in vars(one))
+        if protocol < 5 or base is not _InBytes:
+            return self.__reduce__()
+        state = getattr(self, "__dict__", None)
+        return remade, (type(self), *self._remakes(PickleBuffer(self._lent()[0]))), state
+
+
+def _many(find: Any, keys: Iterable[Key], missing: Any) -> array[int]:
+    """What get_many() returns, of a call that finds the values of keys as the bytes of an array."""
+    if isinstance(keys, (str, bytes)):
+        raise TypeError("get_many() takes keys, as in a list, and not one key")
+    if not hasattr(missing, "__index__") or operator.index(missing) >= 0:
+        return array("Q", find(keys, missing))
+    if missing < -(1 << 63):
+        raise OverflowError("missing is from -2**63 on")
+    keys = list(keys)
+    values = array("q", find(keys, missing % (1 << 64)))
+    # a value from 2**63 on would be taken for a negative number
+    lost = [key for key, value in zip(keys, values) if value == missing]
+    if any(value < 0 and value != missing for value in values) or any(find(lost, 0)):
+        raise OverflowError("a value is 2**63 or more: take a `missing` that is not negative")
+    return values
+
+
+class _Trie(Reader[Word], _InBytes, Mapping[Any, int]):
     """What ZeroTrie and StrTrie have in common."""
 
     __slots__ = ("_data", "_hash", "_length", "__weakref__")
@@ -143,7 +214,7 @@ class _Trie(Reader[Word], Mapping[Any, int]):
             lent, given, length = data._lent(), data._data, data._length
         else:
             kind, is_sealed = None if kind is None else known_kind(kind), False
-            view, at = in_place(memoryview(data).cast("B"))
+            view, at = in_place(view_of(data, "a trie"))
             if kind is None:
                 kind, view, at, is_sealed = trie_in(view, at)
                 given = None if is_sealed else data
@@ -187,8 +258,7 @@ class _Trie(Reader[Word], Mapping[Any, int]):
         try:
             return cls(data, kind, check)
         except ZeroTrieError as error:
-            error.path = path
-            raise
+            raise in_file(error, path) from None
 
     def seal(self) -> bytes:
         """The bytes of a sealed file: the kind, the length and a checksum, and then the trie.
@@ -211,21 +281,7 @@ class _Trie(Reader[Word], Mapping[Any, int]):
         its permissions: whoever has that one open keeps it, and a failure leaves it as it was.
         """
         view, *lent = self._lent()
-        target = os.path.realpath(os.fsdecode(path))
-        beside = os.path.join(os.path.dirname(target), f".zerotrie-{secrets.token_hex(8)}")
-        try:
-            with open(beside, "xb") as file:
-                file.write(bytes([lent[0]]) if tagged else b"")
-                file.write(view if tagged else sealed(*lent))
-                file.flush()
-                os.fsync(file.fileno())
-            if os.path.exists(target):
-                shutil.copymode(target, beside)
-            os.replace(beside, target)
-        except BaseException:
-            if os.path.exists(beside):
-                os.unlink(beside)
-            raise
+        replace(path, *([bytes([lent[0]]), view] if tagged else [sealed(*lent)]))
 
     def close(self) -> None:
         """Drops the bytes: a look-up raises ValueError from now on. `with` calls it.
@@ -260,12 +316,13 @@ class _Trie(Reader[Word], Mapping[Any, int]):
     def get_many(self, keys: Iterable[Key], missing: int = NO_VALUE) -> array[int]:
         """The value of each key, or `missing`, as an array of numbers: one call for all.
 
-        >>> list(ZeroTrie.build({"foo": 1, "bar": 2}).get_many(["bar", "x"], missing=0))
-        [2, 0]
+        >>> list(ZeroTrie.build({"foo": 1, "bar": 2}).get_many(["bar", "x"], missing=-1))
+        [2, -1]
+
+        The numbers are of 64 bits, and signed if `missing` is negative: OverflowError if a value is
+        then 2**63 or more.
         """
-        if isinstance(keys, (str, bytes)):
-            raise TypeError("get_many() takes keys, as in a list, and not one key")
-        return array("Q", self._values_of(keys, missing))
+        return _many(self._values_of, keys, missing)
 
     def cursor(self) -> Cursor:
         """A cursor before all keys."""
@@ -451,19 +508,16 @@ class _Trie(Reader[Word], Mapping[Any, int]):
         """Another trie over the same bytes."""
         return with_attributes(remade(type(self), _Trie, self), self)
 
-    def __reduce__(self) -> tuple[Any, ...]:
-        state = getattr(self, "__dict__", None)
-        return remade, (type(self), _Trie, bytes(self), None, False), state
+    def _remakes(self, data: Any) -> tuple[Any, ...]:
+        return _Trie, data, int(self._lent()[1]), False
 
     def __repr__(self) -> str:
         name = type(self).__name__
         try:
-            view, kind, _, length = self._lent()
+            kind = self.kind.name
         except ValueError:
             return f"<closed {name}>"
-        if length > 64:
-            return f"<{name} of {length} bytes, {Kind(kind).name}>"
-        return f"{name}({bytes(self)!r})"
+        return f"<{name} {_first_pairs(self, self._length)}, {self.nbytes} bytes, {kind}>"
 
 
 class ZeroTrie(_Trie[bytes]):
@@ -498,51 +552,140 @@ class StrTrie(_Trie[str]):
     _as_text = True
 
 
-class DenseTable:
-    """A map from two texts to numbers, over the record of a dense table, which is copied unless it
-    is `bytes`.
+class DenseTable(_InBytes, Mapping[Any, int]):
+    """A map from two texts to numbers, over the record of a dense table, which is not copied.
+
+    >>> table = DenseTable(build_dense({"de": {"AT": 8, "CH": 9}, "en": {"US": 5}}))
+    >>> table["de", "CH"], table.get("en", "AT"), ("en", "US") in table
+    (9, None, True)
+    >>> list(table)
+    [('de', 'AT'), ('de', 'CH'), ('en', 'US')]
+
+    As a Mapping its keys are pairs of texts. A listing asks for each suffix of each prefix.
+    ZeroTrieError if the bytes are no record.
     """
 
-    __slots__ = ("_record",)
+    __slots__ = ("_record", "__weakref__")
+    _record: tuple[memoryview, int]
 
     def __init__(self, record: Any) -> None:
-        self._record = record if type(record) is bytes else bytes(memoryview(record))
+        self._record = in_place(view_of(record, "a dense table"))
 
-    def __reduce__(self) -> tuple[Any, ...]:
-        return remade, (type(self), DenseTable, self._record), getattr(self, "__dict__", None)
+    @classmethod
+    def build(
+        cls: type[AnyDense], rows: Mapping[Any, Mapping[Any, int]], delimiter: Key = b"/"
+    ) -> AnyDense:
+        """The table of a mapping of mappings; see build_dense()."""
+        return cls(build_dense(rows, delimiter))
 
-    @overload
-    def get(self, prefix: Key, suffix: Key) -> Optional[int]: ...
+    @classmethod
+    def open(cls: type[AnyDense], path: Path) -> AnyDense:
+        """The table of a file that has its record, mapped into memory. Don't cut or overwrite it."""
+        with open(path, "rb") as file:
+            return cls(mapped(file))
+
+    def save(self, path: Path) -> None:
+        """Writes the record to a file, which replaces the old one at once."""
+        replace(path, self._lent()[0])
+
+    def _lent(self) -> tuple[memoryview, int, int, int]:
+        view, at = self._record
+        return view, 0, at, len(view)
+
+    def _remakes(self, data: Any) -> tuple[Any, ...]:
+        return DenseTable, data
+
+    @overload  # type: ignore[override]
+    def get(self, prefix: Key, suffix: Key, default: None = None) -> Optional[int]: ...
     @overload
     def get(self, prefix: Key, suffix: Key, default: Other) -> Union[int, Other]: ...
-    def get(self, prefix: Key, suffix: Key, default: Any = None) -> Any:
-        """The value of a suffix under a prefix, or `default`. ZeroTrieError if the bytes are no
-        record.
+    @overload
+    def get(self, prefix: tuple[Key, Key], suffix: None = None) -> Optional[int]: ...
+    def get(self, prefix: Any, suffix: Any = None, default: Any = None) -> Any:
+        """The value of a suffix under a prefix, or `default`; or, as of a Mapping, of a tuple of
+        both. ZeroTrieError if the bytes are no record.
         """
-        record, p, s, value = self._record, key_bytes(prefix), key_bytes(suffix), c_size_t()
-        status = lib.zerotrie_dense_get(record, len(record), p, len(p), s, len(s), value)
+        if isinstance(prefix, tuple):
+            first, second = prefix
+            return self._find(first, second, suffix)
+        return self._find(prefix, suffix, default)
+
+    def _find(self, prefix: Key, suffix: Key, default: Any = None) -> Any:
+        view, at = self._record
+        p, s, value = key_bytes(prefix), key_bytes(suffix), c_size_t()
+        status = lib.zerotrie_dense_get(at, len(view), p, len(p), s, len(s), value)
         if status == NO_ENTRY:
             return default
         check_status(status)
         return value.value
 
+    def __getitem__(self, key: tuple[Key, Key]) -> int:
+        """The value of a prefix and a suffix. KeyError if there is none."""
+        value: Optional[int] = self._find(*key)
+        if value is None:
+            raise KeyError(key)
+        return value
 
-class Index(Table):
+    def __contains__(self, key: object) -> bool:
+        """Whether there is the prefix and the suffix. What can be no key is none."""
+        if not isinstance(key, tuple) or len(key) != 2:
+            return False
+        try:
+            return self._find(*key) is not None
+        except (TypeError, UnicodeEncodeError):
+            return False
+
+    def __iter__(self) -> Iterator[tuple[str, str]]:
+        """The prefixes and suffixes, those of a prefix one after another."""
+        self._find("", "")
+        first, second, delimiter = dense_parts(self._lent()[0])
+        primary = StrTrie(first, SIMPLE_ASCII, check=False)
+        suffixes = StrTrie(second, SIMPLE_ASCII, check=False)
+        for key in primary:
+            prefix, border, suffix = key.partition(delimiter.decode())
+            if not border:
+                yield from ((prefix, suffix) for suffix in suffixes if (prefix, suffix) in self)
+            elif prefix not in primary:
+                yield prefix, suffix
+
+    def __len__(self) -> int:
+        """How many values there are. It lists all."""
+        return sum(1 for _ in self)
+
+    def __bytes__(self) -> bytes:
+        """The record."""
+        return bytes(self._lent()[0])
+
+    def __hash__(self) -> int:
+        return self.items()._hash()
+
+    def __repr__(self) -> str:
+        return f"<{type(self).__name__} {_first_pairs(self)}, {self.nbytes} bytes>"
+
+
+class Index(Table, _InBytes, Mapping[Any, int]):
     """A map from byte strings to numbers for exact look-ups alone, larger than a trie and faster.
 
     >>> index = Index.build({"foo": 1, "bar": 2})
-    >>> index["bar"], index.get("x"), "foo" in index, Index(bytes(index)) == index
-    (2, None, True, True)
+    >>> index["bar"], index.get("x"), "foo" in index, len(index)
+    (2, None, True, 2)
+    >>> index == {b"bar": 2, b"foo": 1} == Index(index.seal())
+    True
 
-    `data` is the bytes of an index, which are not copied: don't change them. Unless `check` is
-    false, they are validated first: ZeroTrieError if they are no index.
+    `data` is the bytes of an index, or of the sealed file of one, which are not copied: don't change
+    them. They are validated first, and ZeroTrieError is raised if they are no index, unless `check`
+    is false; a sealed file has a checksum instead, and is validated too if `check` is true.
+
+    It is a Mapping. Its pairs are listed in no order, and counted by listing them.
     """
 
     __slots__ = ("__weakref__",)
 
-    def __init__(self, data: Any, check: bool = True) -> None:
-        view, at = in_place(memoryview(data).cast("B"))
-        if check and not lib.zerotrie_index_is_valid(at, len(view)):
+    def __init__(self, data: Any, check: Optional[bool] = None) -> None:
+        view, at = in_place(view_of(data, "an index"))
+        view, at, is_sealed = index_in(view, at)
+        validates = check or check is None and not is_sealed
+        if validates and not lib.zerotrie_index_is_valid(at, len(view)):
             raise ZeroTrieError("the bytes are no index")
         self._hold(view, INDEX, at, len(view))
 
@@ -556,20 +699,77 @@ class Index(Table):
         """
         return cls(FlatPairs(pairs).indexed(seed), check=False)
 
+    @classmethod
+    def open(cls: type[AnyIndex], path: Path, check: Optional[bool] = None) -> AnyIndex:
+        """The index of a file, mapped into memory: one that is sealed, as save() and `zerotrie
+        index` write it, or has the bytes of an index alone. Don't cut or overwrite it.
+        """
+        with open(path, "rb") as file:
+            data = mapped(file)
+        try:
+            return cls(data, check)
+        except ZeroTrieError as error:
+            error.path = path
+            raise
+
+    def seal(self) -> bytes:
+        """The bytes of a sealed file: the length and a checksum, and then the index."""
+        # the view keeps the bytes in place during the call
+        view, _, *lent = self._lent()
+        return bytes(sealed_index(*lent))
+
+    def save(self, path: Path) -> None:
+        """Writes a sealed file, which open() reads, and which replaces the old one at once."""
+        view, _, *lent = self._lent()
+        replace(path, sealed_index(*lent))
+
+    def _remakes(self, data: Any) -> tuple[Any, ...]:
+        return Index, data, False
+
+    def get_many(self, keys: Iterable[Key], missing: int = NO_VALUE) -> array[int]:
+        """The value of each key, or `missing`, as an array of numbers; see get_many() of a trie."""
+        def find(keys: Iterable[Key], missing: int) -> bytes:
+            return array("Q", [self.get(key, missing) for key in keys]).tobytes()
+
+        return _many(find, keys, missing)
+
+    def __iter__(self) -> Iterator[bytes]:
+        """The keys."""
+        return (key for key, _ in index_entries(self._lent()[0]))
+
+    def __len__(self) -> int:
+        """How many pairs there are. It lists all."""
+        return sum(1 for _ in self)
+
+    def __bool__(self) -> bool:
+        """Whether there is a pair."""
+        return any(True for _ in self)
+
     def __bytes__(self) -> bytes:
         """A copy of its bytes."""
         return bytes(self._lent()[0])
 
     def __eq__(self, other: object) -> bool:
-        """Whether it is an index of the same bytes."""
-        return isinstance(other, Index) and self._lent()[0] == other._lent()[0]
+        """Whether it is a Mapping of the same pairs."""
+        if isinstance(other, Index) and self._lent()[0] == other._lent()[0]:
+            return True
+        return Mapping.__eq__(self, other)
 
     def __hash__(self) -> int:
-        return hash(bytes(self))
-
-    def __reduce__(self) -> tuple[Any, ...]:
-        state = getattr(self, "__dict__", None)
-        return remade, (type(self), Index, bytes(self), False), state
+        """That of frozenset(self.items())."""
+        return self.items()._hash()
 
     def __repr__(self) -> str:
-        return f"<{type(self).__name__} of {self._lent()[3]} bytes>"
+        return f"<{type(self).__name__} {_first_pairs(self)}, {self.nbytes} bytes>"
+
+
+def _first_pairs(mapping: Mapping[Any, int], number: Optional[int] = None) -> str:
+    """The first pairs, as a dict shows them, and how many keys there are, if that is known."""
+    try:
+        first = list(islice(mapping.items(), 4))
+    except ValueError:
+        return "of malformed bytes"
+    shown = ", ".join(f"{reprlib.repr(key)}: {value}" for key, value in first[:3])
+    if len(first) > 3:
+        shown += ", .." if number is None else f", .. {number} keys"
+    return f"{{{shown}}}"

@@ -24,24 +24,25 @@ class Kind(IntEnum):
     IGNORE_CASE = 8
 
 
-DONE, UNSORTED, TOO_SMALL, NO_MEMORY, UNKNOWN_KIND, NO_ENTRY = 0, 7, 8, 11, 12, 15
+DONE, UNSORTED, TOO_SMALL, NO_MEMORY, UNKNOWN_KIND = 0, 7, 8, 11, 12
+NO_TAG, INVALID_TAG, NO_ENTRY, DAMAGED, UNKNOWN_VERSION = 13, 14, 15, 18, 19
 
 #: The texts of the statuses from 0 on, as zerotrie.h has them. The test compares them.
 TEXTS = (
     "Done",
-    "a key has a byte that is not ASCII: take a kind of trie for keys of any bytes",
-    "the text of the trie would be too long for its kind: take extended capacity, kind 7, or fewer pairs; a dense table has at most 65,535 suffixes",
-    "no perfect hash was found for the edges of a branch: take a kind without hashed tables, or change a key",
-    "two keys begin alike but for the case of a letter: lower-case the keys first",
-    "a text has the delimiter in it: take a delimiter that none has",
-    "a key was given twice: give each key once",
-    "the keys do not ascend: sort them by their bytes, each once",
-    "the array is too small for the trie: take a larger one",
-    "the array is too large for the trie: take a smaller one",
-    "the stack is too small for the trie: take a larger one",
-    "out of memory",
+    "Non-ASCII cannot be added to an ASCII-only trie: take a kind of trie for keys of any bytes",
+    "Reached maximum capacity of trie: take the kind of extended capacity, or fewer pairs or suffixes",
+    "Failed to solve the perfect hash function. This is rare! Please report your case to the ICU4X team. Take a kind without hashed tables, or change a key",
+    "Mixed-case data added to case-insensitive trie: lower-case the keys first",
+    "Delimiter is contained in one or more strings: take a delimiter that is in none of them",
+    "The same key was given twice: give each key once",
+    "Keys are not in strictly ascending order: sort the keys by their bytes, each once",
+    "Buffer too small: take a larger array",
+    "Buffer too large: take an array of the size needed",
+    "Need more stack: take a larger stack",
+    "Out of memory: free memory, or build from fewer pairs",
     "the number is no kind of trie: take 0, 3, 7 or 8",
-    "there are no bytes, and so no tag: give all of the tagged bytes",
+    "there are no bytes: give all of the tagged bytes",
     "the first byte is the tag of no kind: give bytes that were written with a tag",
     "the table has no such entry",
     "the record is cut: give all of its bytes",
@@ -129,6 +130,15 @@ class ZeroTrieError(ValueError):
 def error_of(status: int) -> ZeroTrieError:
     text = TEXTS[status] if 0 <= status < len(TEXTS) else f"unknown status {status}"
     return ZeroTrieError(text, status)
+
+
+def in_file(error: ZeroTrieError, path: Any) -> ZeroTrieError:
+    """The error of a file that was opened as that of a trie."""
+    causes = {NO_TAG: "it is empty", INVALID_TAG: "it is neither sealed nor tagged bytes"}
+    if error.status in causes:
+        error = ZeroTrieError(f"this is no file of a trie: {causes[error.status]}", error.status)
+    error.path = path
+    return error
 
 
 def check_status(status: int) -> None:

@@ -214,10 +214,34 @@ static PyObject *reader_getitem(PyObject *object, PyObject *key) {
     return NULL;
 }
 
-/* key in trie */
+/* key in trie. What can be no key is none. */
 static int reader_contains(PyObject *object, PyObject *key) {
     size_t value;
-    return find(object, key, &value);
+    const int found = find(object, key, &value);
+    if (found >= 0
+        || (!PyErr_ExceptionMatches(PyExc_TypeError)
+            && !PyErr_ExceptionMatches(PyExc_UnicodeEncodeError)))
+        return found;
+    PyErr_Clear();
+    return held_by(object) ? 0 : -1;
+}
+
+/* The front of a Py_buffer. Each Python has this function and this slot; the headers of the stable
+ * ABI show them from 3.11 on. */
+typedef struct {
+    void *start;
+    PyObject *owner;
+} Buffer;
+PyAPI_FUNC(int) PyObject_GetBuffer(PyObject *, Buffer *, int);
+enum { GET_BUFFER = 1 };
+
+/* memoryview(trie): the bytes without the tag, read-only, as the view has them. */
+static int get_buffer(PyObject *object, Buffer *buffer, int flags) {
+    Held *held = held_by(object);
+    if (held)
+        return PyObject_GetBuffer(held->view, buffer, flags);
+    buffer->owner = NULL;
+    return -1;
 }
 
 /* trie.get(key, default=None) */
@@ -652,6 +676,9 @@ static PyObject *bind(PyObject *Py_UNUSED(module), PyObject *addresses) {
 /* A pointer to a function among pointers to data, for which ISO C has no cast. */
 #define SLOT(id, function) { id, __extension__(void *)(function) }
 #define HOLD SLOT(Py_tp_dealloc, dealloc), SLOT(Py_tp_traverse, traverse), SLOT(Py_tp_clear, clear)
+#define READ                                                                                       \
+    SLOT(Py_mp_subscript, reader_getitem), SLOT(Py_sq_contains, reader_contains),                  \
+        SLOT(GET_BUFFER, get_buffer)
 #define WORDS(function) (PyCFunction)(void (*)(void))(function), METH_VARARGS | METH_KEYWORDS
 #define DOC(signature, text) signature "\n--\n\n" text
 #define FLAGS Py_TPFLAGS_DEFAULT | Py_TPFLAGS_BASETYPE | Py_TPFLAGS_HAVE_GC
@@ -676,8 +703,7 @@ static PyMethodDef reader_methods[] = {
     { NULL, NULL, 0, NULL },
 };
 static PyType_Slot reader_slots[] = {
-    HOLD, SLOT(Py_mp_subscript, reader_getitem), SLOT(Py_sq_contains, reader_contains),
-    { Py_tp_methods, reader_methods }, { 0, NULL },
+    HOLD, READ, { Py_tp_methods, reader_methods }, { 0, NULL },
 };
 static PyType_Spec reader = { "zerotrie._fast.Reader", sizeof(Held), 0, FLAGS, reader_slots };
 
@@ -689,8 +715,7 @@ static PyMethodDef table_methods[] = {
     { NULL, NULL, 0, NULL },
 };
 static PyType_Slot table_slots[] = {
-    HOLD, SLOT(Py_mp_subscript, reader_getitem), SLOT(Py_sq_contains, reader_contains),
-    { Py_tp_methods, table_methods }, { 0, NULL },
+    HOLD, READ, { Py_tp_methods, table_methods }, { 0, NULL },
 };
 static PyType_Spec table = { "zerotrie._fast.Table", sizeof(Held), 0, FLAGS, table_slots };
 

@@ -5,18 +5,36 @@ from __future__ import annotations
 import ctypes
 import mmap
 import os
+import secrets
+import shutil
 import weakref
 from ctypes import (
     POINTER, Structure, addressof, c_int, c_size_t, c_uint8, c_uint32, c_void_p, py_object,
 )
 from typing import Any, BinaryIO, Optional
 
-from ._errors import RULES, Kind, ZeroTrieError, check_status
+from ._errors import DAMAGED, RULES, UNKNOWN_VERSION, Kind, ZeroTrieError, check_status, error_of
 from ._library import NOTHING, lib
+from ._pairs import Path
 
-
-#: How many bytes precede the trie in a sealed file.
+#: A sealed file has this many bytes before its content, and begins with the magic and the version.
 SEAL_LEN = 24
+MAGIC, VERSION = b"\x7a\x74\x72\x69\x89\x8a\x0d\x0a", b"\1\0"
+#: The number of the kind of an index in a sealed file.
+INDEX_KIND = 24
+#: What a step of the checksum does where it takes a bit.
+CRC_32C = 0x82F63B78
+
+
+def view_of(data: Any, whose: str) -> memoryview:
+    """The bytes that were given. TypeError, which says what to do, if there are none."""
+    try:
+        view = memoryview(data)
+    except TypeError:
+        name = type(data).__name__
+        raise TypeError(f"it takes the bytes of {whose}, not {name}: build() takes pairs, and "
+                        "open() the path of a file") from None
+    return view.cast("B")
 
 
 def trie_in(view: memoryview, at: int) -> tuple[int, memoryview, int, bool]:
@@ -34,6 +52,35 @@ def sealed(kind: int, at: int, length: int) -> Any:
     room, made = (c_uint8 * (SEAL_LEN + length))(), c_size_t()
     check_status(lib.zerotrie_seal(kind, at, length, room, len(room), made))
     return room
+
+
+def sealed_index(at: int, length: int) -> Any:
+    """The bytes of the sealed file of the index at an address."""
+    room, other = sealed(8, at, length), sealed(0, at, length)
+    checksum, without_bit_3 = (int.from_bytes(file[20:24], "little") for file in (room, other))
+    # The library seals tries alone. The number of an index has bit 4 too, and a change of a bit
+    # changes the checksum by the same whatever the others are: by what bit 3 does, one step before.
+    change = checksum ^ without_bit_3
+    change = (change ^ CRC_32C) << 1 | 1 if change >> 31 else change << 1
+    room[10] = INDEX_KIND
+    room[20:24] = (checksum ^ change).to_bytes(4, "little")
+    return room
+
+
+def index_in(view: memoryview, at: int) -> tuple[memoryview, int, bool]:
+    """The bytes of the index in a file that is sealed or has them alone, where they are, and whether
+    it is sealed. The file is at an address.
+    """
+    if view[: len(MAGIC)] != MAGIC:
+        return view, at, False
+    content = view[SEAL_LEN:]
+    if len(view) < SEAL_LEN or view[8:10] != VERSION:
+        raise error_of(DAMAGED if len(view) < SEAL_LEN else UNKNOWN_VERSION)
+    if int.from_bytes(view[10:12], "little") in [*Kind]:
+        raise ZeroTrieError("this is the file of a trie, and not of an index")
+    if view[:SEAL_LEN] != bytes(sealed_index(at + SEAL_LEN, len(content))[:SEAL_LEN]):
+        raise error_of(DAMAGED)
+    return content, at + SEAL_LEN, True
 
 
 def validate(kind: int, at: int, length: int) -> None:
@@ -70,6 +117,28 @@ def mapped(file: BinaryIO) -> Any:
     return data
 
 
+def replace(path: Path, *parts: Any) -> None:
+    """Writes the parts to a new file in the same folder, which then replaces the old one at once, and
+    has its permissions. A failure leaves the old one as it was.
+    """
+    target = os.path.realpath(os.fsdecode(path))
+    beside = os.path.join(os.path.dirname(target), f".zerotrie-{secrets.token_hex(8)}")
+    try:
+        with open(beside, "xb") as file:
+            file.writelines(parts)
+            file.flush()
+            os.fsync(file.fileno())
+        if os.path.exists(target):
+            shutil.copymode(target, beside)
+        os.replace(beside, target)
+    except BaseException as error:
+        if os.path.exists(beside):
+            os.unlink(beside)
+        if isinstance(error, OSError) and error.filename == beside:
+            error.filename = os.fsdecode(path)
+        raise
+
+
 class Buffer(Structure):
     """The front of CPython's Py_buffer."""
 
@@ -82,19 +151,19 @@ class Buffer(Structure):
 
 
 def in_place(view: memoryview) -> tuple[memoryview, int]:
-    """A view that keeps the bytes in place, and where they are."""
+    """A read-only view that keeps the bytes in place, and where they are."""
     if len(view) == 0:
-        return view, NOTHING
+        return view.toreadonly(), NOTHING
     if get_buffer is not None:
         got = Buffer()
         get_buffer(view, got, 0)
         at = got.buf
         release_buffer(got)
-        return view, at or NOTHING
+        return view.toreadonly(), at or NOTHING
     # an interpreter that tells the place only of bytes that can be written: others are copied
     room: Any = c_uint8 * len(view)
     data = room.from_buffer_copy(view) if view.readonly else room.from_buffer(view)
-    return memoryview(data).cast("B"), addressof(data)
+    return memoryview(data).cast("B").toreadonly(), addressof(data)
 
 
 get_buffer: Any = None

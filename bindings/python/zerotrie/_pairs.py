@@ -10,7 +10,7 @@ from array import array
 from collections.abc import Iterable, Mapping
 from ctypes import addressof, c_size_t, c_uint8
 from itertools import accumulate, chain
-from typing import Any, Optional, Union
+from typing import Any, Optional, Protocol, Union
 
 from ._errors import (
     DONE, NO_MEMORY, TEXTS, TOO_SMALL, UNKNOWN_KIND, UNSORTED, Kind, ZeroTrieError, check_status,
@@ -19,7 +19,16 @@ from ._errors import (
 from ._library import NOTHING, Pair, lib
 
 Key = Union[str, bytes, bytearray, memoryview]
-Pairs = Union[Mapping[Any, int], Iterable["tuple[Key, int]"]]
+
+
+class HasItems(Protocol):
+    """What has pairs as a mapping has them, such as a Series of pandas."""
+
+    def keys(self) -> Iterable[Any]: ...
+    def items(self) -> Iterable[tuple[Any, Any]]: ...
+
+
+Pairs = Union[Mapping[Any, int], HasItems, Iterable["tuple[Key, int]"]]
 Path = Union[str, bytes, "os.PathLike[Any]"]
 
 #: From this many pairs on auto_kind() is PERFECT_HASH whatever the keys are.
@@ -66,13 +75,81 @@ def whole_number(number: Any, bits: int, what: str) -> int:
     return whole
 
 
-def number_array(numbers: list[Any], what: str) -> array[int]:
-    """The numbers as an array of 64 bits each."""
+def in_row(error: Exception, place: int, key: Any, text: str) -> Exception:
+    """The error with the text, the key and its place among the pairs."""
+    made: Exception
+    if isinstance(error, UnicodeEncodeError):
+        parts = error.encoding, error.object, error.start, error.end
+        made = UnicodeEncodeError(*parts, f"{error.reason}: {text}")
+    else:
+        made = type(error)(f"{error}: {text}")
+    vars(made).update(key=key, index=place)
+    return made
+
+
+def value_array(values: list[Any], keys: list[Any]) -> array[int]:
+    """The values of the keys, as an array of 64 bits each."""
     try:
-        return array("Q", numbers)
+        return array("Q", values)
     except (TypeError, OverflowError):
-        # to say what is wrong
-        return array("Q", [whole_number(number, 64, what) for number in numbers])
+        numbers = array("Q")
+    # to say which one is wrong
+    for place, (key, value) in enumerate(zip(keys, values)):
+        try:
+            numbers.append(whole_number(value, 64, "a value"))
+        except (TypeError, OverflowError) as error:
+            text = f"that of key {place}, {reprlib.repr(key)}, is {reprlib.repr(value)}"
+            raise in_row(error, place, key, text) from None
+    return numbers
+
+
+def texts_of(keys: list[Any]) -> list[bytes]:
+    """The keys of pairs as bytes."""
+    try:
+        return all_key_bytes(keys)
+    except (TypeError, UnicodeEncodeError):
+        texts = []
+    for place, key in enumerate(keys):
+        try:
+            texts.append(key_bytes(key))
+        except (TypeError, UnicodeEncodeError) as error:
+            text = f"key {place} is {reprlib.repr(key)}"
+            raise in_row(error, place, key, text) from None
+    return texts
+
+
+def halves(pairs: Any) -> tuple[list[Any], list[Any]]:
+    """The keys and the values of a mapping, of what has items as one, or of pairs."""
+    if isinstance(pairs, Mapping):
+        return list(pairs.keys()), list(pairs.values())
+    try:
+        rows = list(pairs.items() if hasattr(pairs, "keys") else pairs)
+    except (TypeError, AttributeError):
+        name = type(pairs).__name__
+        raise TypeError(f"a mapping, or pairs of a key and a value, and not {name}") from None
+    if not rows or not is_key(rows[0]):
+        try:
+            return [key for key, _ in rows], [value for _, value in rows]
+        except (TypeError, ValueError):
+            pass
+    place = next(place for place, row in enumerate(rows) if not is_pair(row))
+    text = f"row {place} is {reprlib.repr(rows[place])}"
+    if is_key(rows[place]):
+        raise TypeError(f"{text}, a key without a value: give pairs, as those of "
+                        "{key: n for n, key in enumerate(keys)}")
+    raise TypeError(f"{text}: a pair is a key and a value")
+
+
+def is_key(row: Any) -> bool:
+    return isinstance(row, (str, bytes, bytearray))
+
+
+def is_pair(row: Any) -> bool:
+    try:
+        _, _ = row
+    except (TypeError, ValueError):
+        return False
+    return not is_key(row)
 
 
 def sizes(numbers: array[int]) -> Any:
@@ -94,15 +171,11 @@ class FlatPairs:
     def __init__(self, pairs: Pairs) -> None:
         #: The keys as they were given, and as bytes.
         self.given: list[Any]
-        if isinstance(pairs, Mapping):
-            self.given, values = list(pairs.keys()), list(pairs.values())
-        else:
-            given = list(pairs)
-            self.given, values = [key for key, _ in given], [value for _, value in given]
-        self.texts = all_key_bytes(self.given)
+        self.given, values = halves(pairs)
+        self.texts = texts_of(self.given)
         self.joined = b"".join(self.texts)
         self.ends = array("Q", accumulate(map(len, self.texts)))
-        self.values = number_array(values, "a value")
+        self.values = value_array(values, self.given)
 
     def __len__(self) -> int:
         return len(self.texts)
@@ -161,7 +234,6 @@ class FlatPairs:
         room[0] = number
         return ctypes.string_at(room, 1 + length.value)
 
-
     def indexed(self, seed: int) -> bytes:
         """The bytes of the index."""
         number = whole_number(seed, 64, "a seed")
@@ -186,7 +258,7 @@ def build(pairs: Pairs, kind: Optional[int] = None) -> bytes:
 
     >>> build([("a", 1), ("a", 2)])
     Traceback (most recent call last):
-    zerotrie.ZeroTrieError: a key was given twice: give each key once: key 0 is 'a', key 1 is 'a'
+    zerotrie.ZeroTrieError: The same key was given twice: give each key once: key 0 is 'a', key 1 is 'a'
     """
     return FlatPairs(pairs).built(kind)
 
@@ -197,7 +269,7 @@ def build_sorted(pairs: Pairs, kind: Optional[int] = None) -> bytes:
 
     >>> build_sorted([("b", 1), ("a", 2)])
     Traceback (most recent call last):
-    zerotrie.ZeroTrieError: the keys do not ascend: sort them by their bytes, each once: key 0 is...
+    zerotrie.ZeroTrieError: Keys are not in strictly ascending order: sort the keys by their bytes, each once: key 0 is...
     """
     flat = FlatPairs(pairs)
     flat.check_order()
@@ -251,7 +323,7 @@ def build_dense(rows: Mapping[Any, Mapping[Any, int]], delimiter: Key = b"/") ->
         words = [words[which] for words, _ in entries]
         joined, ends = b"".join(words), array("Q", accumulate(map(len, words)))
         texts += joined, len(joined), sizes(ends), len(ends)
-    values = number_array([value for _, value in entries], "a value")
+    values = value_array([value for _, value in entries], [words for words, _ in entries])
     length = c_size_t(64 + texts[1] + texts[5] + 8 * len(values))
     for _ in range(2):
         room = (c_uint8 * length.value)()

@@ -90,9 +90,12 @@ class Reader(Generic[Word]):
         return value.value
 
     def __contains__(self, key: Any) -> bool:
-        """Whether there is the key."""
-        text, value = key_bytes(key), c_size_t()
+        """Whether there is the key. What can be no key is none."""
         view, kind, at, length, _ = held_by(self)
+        try:
+            text, value = key_bytes(key), c_size_t()
+        except (TypeError, UnicodeEncodeError):
+            return False
         return bool(lib.zerotrie_get(kind, at, length, text, len(text), value))
 
     def longest_prefix(
@@ -216,9 +219,12 @@ class Table:
         return value.value
 
     def __contains__(self, key: Any) -> bool:
-        """Whether there is the key."""
-        text, value = key_bytes(key), c_size_t()
+        """Whether there is the key. What can be no key is none."""
         view, _, at, length = self._held
+        try:
+            text, value = key_bytes(key), c_size_t()
+        except (TypeError, UnicodeEncodeError):
+            return False
         return bool(lib.zerotrie_index_get(at, length, text, len(text), value))
 
 
@@ -316,5 +322,7 @@ def extension() -> bool:
     return True
 
 
-if not TYPE_CHECKING and extension():
+#: Whether look-ups, listings and cursors go by the extension.
+accelerated: bool = not TYPE_CHECKING and extension()
+if not TYPE_CHECKING and accelerated:
     from ._fast import Place, Reader, Table

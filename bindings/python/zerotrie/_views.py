@@ -76,7 +76,8 @@ class Items(Listed, ItemsView[Word, int]):
     def __contains__(self, item: object) -> bool:
         if not isinstance(item, tuple) or len(item) != 2:
             return False
-        return bool(self._trie().get(item[0]) == item[1]) and self._begins(item[0])
+        key, value = item
+        return key in self._trie() and self._trie()[key] == value and self._begins(key)
 
     def __iter__(self) -> Iterator[tuple[Word, int]]:
         return self._list(PAIRS)

@@ -1,0 +1,119 @@
+/**
+ * Reads zerotrie bytes in place, in browsers, Node, Deno and Bun, without a dependency.
+ *
+ * This reader is tested, and not proved.
+ */
+
+/** The numbers of the kinds of trie. */
+export const Kind: {
+    /** ASCII keys, listed in the order of their bytes. */
+    readonly SIMPLE_ASCII: 0;
+    /** Keys of any bytes. */
+    readonly PERFECT_HASH: 3;
+    /** Keys of any bytes, and tries past 4 GB. */
+    readonly EXTENDED_CAPACITY: 7;
+    /** ASCII keys, which are found in any case of their letters. */
+    readonly IGNORE_CASE: 8;
+};
+export type Kind = (typeof Kind)[keyof typeof Kind];
+
+/** A value from 0 to 2^64 - 1: a number up to `Number.MAX_SAFE_INTEGER`, which is 2^53 - 1, and a bigint above it. */
+export type Value = number | bigint;
+
+/** What bytes are taken from. They are not copied: do not change them while they are in use. */
+export type Bytes = ArrayBufferView | ArrayBufferLike;
+
+/**
+ * - `EMPTY`: the file has no bytes.
+ * - `NOT_A_TRIE`: the file is neither sealed nor tagged bytes.
+ * - `UNKNOWN_VERSION`: the file is sealed, in another version of the format.
+ * - `DAMAGED`: the file is sealed, and was cut, joined or changed.
+ * - `INDEX`: the file is an index, and no trie.
+ * - `NOT_AN_INDEX`: the file is not sealed, or it is a trie.
+ * - `UNKNOWN_KIND`: no kind has this number.
+ * - `NOT_TEXT`: a key was asked for as a string, and is not UTF-8.
+ */
+export type ErrorCode =
+    | "EMPTY" | "NOT_A_TRIE" | "UNKNOWN_VERSION" | "DAMAGED" | "INDEX" | "NOT_AN_INDEX" | "UNKNOWN_KIND" | "NOT_TEXT";
+
+/** Why a file or a key cannot be read: `code` for programs, `message` for people. */
+export class ZeroTrieError extends Error {
+    constructor(code: ErrorCode, message: string);
+    readonly code: ErrorCode;
+}
+
+/**
+ * A read-only map from byte strings to values, read in place.
+ *
+ * A key is given as a string, which means its UTF-8, or as bytes. What is found comes as strings if a string was given,
+ * and as Uint8Arrays of their own if bytes were given. Anything else is a TypeError.
+ *
+ * On any bytes every call returns, and a listing has at most as many pairs as there are bytes. If the bytes are not a
+ * trie of the kind, the result is unspecified: nothing here validates them, but for the checksum of a sealed file.
+ */
+export class ZeroTrie implements Iterable<[string, Value]> {
+    /** A trie without a header. Throws a ZeroTrieError `UNKNOWN_KIND`. */
+    constructor(bytes: Bytes, kind: Kind);
+
+    /** The trie in a sealed file, whose checksum is compared, or in tagged bytes. Throws a ZeroTrieError. */
+    static open(file: Bytes): ZeroTrie;
+
+    /** The kind of the trie. */
+    get kind(): Kind;
+
+    /** The bytes of the trie, without a header. */
+    get bytes(): Uint8Array;
+
+    /** Returns the value of a key; undefined if there is no such key. */
+    get(key: string | Bytes): Value | undefined;
+
+    /** Returns whether there is such a key. */
+    has(key: string | Bytes): boolean;
+
+    /** Yields each key that a text begins with, as the text has it, and its value: the shortest first. If the text is a
+     *  string, keys that end inside a character are left out. */
+    prefixes(text: string): IterableIterator<[string, Value]>;
+    prefixes(text: Bytes): IterableIterator<[Uint8Array, Value]>;
+
+    /** Returns the last of `prefixes(text)`; undefined if there is none. */
+    longestPrefix(text: string): [string, Value] | undefined;
+    longestPrefix(text: Bytes): [Uint8Array, Value] | undefined;
+
+    /** Yields the pairs whose keys begin with a prefix, in the order of the trie's bytes. In SIMPLE_ASCII it is that of
+     *  the keys. Throws a ZeroTrieError `NOT_TEXT` at a key that is not UTF-8 if the prefix is a string. */
+    pairs(prefix?: string): IterableIterator<[string, Value]>;
+    pairs(prefix: Bytes): IterableIterator<[Uint8Array, Value]>;
+
+    /** Yields the keys of `pairs(prefix)`. */
+    keys(prefix?: string): IterableIterator<string>;
+    keys(prefix: Bytes): IterableIterator<Uint8Array>;
+
+    /** Yields the values of `pairs(prefix)`, of keys that are not UTF-8 too. */
+    values(prefix?: string | Bytes): IterableIterator<Value>;
+
+    /** Yields `pairs()`, so that `new Map(trie)` has all pairs. */
+    [Symbol.iterator](): IterableIterator<[string, Value]>;
+}
+
+/**
+ * A read-only map from byte strings to values for exact look-ups alone, read in place. It has no order and no prefixes.
+ *
+ * A key is given as for a `ZeroTrie`. On any bytes every call returns. If they are not an index, the result is
+ * unspecified: nothing here validates them, but for the checksum of a sealed file.
+ */
+export class ZeroIndex {
+    /** An index without a header. */
+    constructor(bytes: Bytes);
+
+    /** The index in a sealed file, whose checksum is compared. Throws a ZeroTrieError. */
+    static open(file: Bytes): ZeroIndex;
+
+    /** The bytes of the index, without a header. */
+    get bytes(): Uint8Array;
+
+    /** Returns the value of a key; undefined if there is no such key. */
+    get(key: string | Bytes): Value | undefined;
+
+    /** Returns whether there is such a key. */
+    has(key: string | Bytes): boolean;
+}

@@ -1,0 +1,447 @@
+/**
+ * Reads zerotrie bytes in place, in browsers, Node, Deno and Bun, without a dependency.
+ *
+ *     import { ZeroTrie } from "./zerotrie_read.mjs";
+ *     const trie = ZeroTrie.open(await (await fetch("names.trie")).arrayBuffer());
+ *     trie.get("bar");
+ *     for (const [key, value] of trie.pairs("ba")) console.log(key, value);
+ *
+ * This reader is tested, and not proved: its tests compare it with the library for C, whose functions are proved, and
+ * with zerotrie_read.h. zerotrie_read.d.mts and JAVASCRIPT.md describe each call, FORMAT.md the bytes.
+ */
+
+export const Kind = Object.freeze({ SIMPLE_ASCII: 0, PERFECT_HASH: 3, EXTENDED_CAPACITY: 7, IGNORE_CASE: 8 });
+
+export class ZeroTrieError extends Error {
+    constructor(code, message) {
+        super(message);
+        this.name = "ZeroTrieError";
+        this.code = code;
+    }
+}
+
+function check(isRight, code, message) {
+    if (!isRight) throw new ZeroTrieError(code, message);
+}
+
+/** Returns the bytes of a view or a buffer, in place. */
+function bytesIn(data, expected) {
+    if (ArrayBuffer.isView(data)) return new Uint8Array(data.buffer, data.byteOffset, data.byteLength);
+    // a buffer that is shared, or of another window, is no instance of ArrayBuffer
+    if (/ArrayBuffer\]$/.test(Object.prototype.toString.call(data))) return new Uint8Array(data);
+    throw new TypeError(`${expected}, not ${data === null ? "null" : typeof data}`);
+}
+
+/* --- Keys ------------------------------------------------------------------------------------------------------- */
+
+/** A number that equals no byte. */
+const NO_BYTE = 256;
+const encoder = new TextEncoder();
+const decoder = new TextDecoder("utf-8", { fatal: true, ignoreBOM: true });
+
+/** Returns the bytes of a key. Half of a surrogate pair has no UTF-8, so no key has it. */
+function bytesOf(key) {
+    if (typeof key !== "string") return bytesIn(key, "a key is a string or a Uint8Array");
+    const half = key.search(/\p{Surrogate}/u);
+    return half < 0 ? encoder.encode(key) : [...encoder.encode(key.slice(0, half)), NO_BYTE];
+}
+
+/** Returns some bytes as a string if `given` is one; undefined if they are not UTF-8. */
+function inFormOf(given, bytes) {
+    const own = Uint8Array.from(bytes);
+    if (typeof given !== "string") return own;
+    try {
+        return decoder.decode(own);
+    } catch {
+        return undefined;
+    }
+}
+
+/* --- Nodes ------------------------------------------------------------------------------------------------------ */
+
+/** The top three bits of a value and of the head of a span. Those of a literal are less, of a branch more. */
+const VALUE = 4;
+const SPAN = 5;
+const MOST = 2n ** 64n - 1n;
+
+const fold = (byte) => (byte >= 0x41 && byte <= 0x5a ? byte | 0x20 : byte);
+const isEqual = (byte, wanted) => byte === wanted;
+const isEqualInAnyCase = (byte, wanted) => fold(byte) === fold(wanted);
+
+/** Returns `128 * number + more`, as a bigint if it is no safe number. */
+function longer(number, more) {
+    const sum = Number(number) * 128 + more;
+    return Number.isSafeInteger(sum) ? sum : BigInt(number) * 128n + BigInt(more);
+}
+
+/** A place in a trie, between two bytes of keys. */
+class Cursor {
+    constructor(bytes, kind) {
+        this.bytes = bytes;
+        this.at = 0;
+        this.end = bytes.length;
+        this.run = 0; // how many bytes of a span are left here
+        this.number = 0; // the last one that was read
+        this.hashes = kind === Kind.PERFECT_HASH || kind === Kind.EXTENDED_CAPACITY;
+        this.same = kind === Kind.IGNORE_CASE ? isEqualInAnyCase : isEqual;
+    }
+
+    /** Returns the top three bits here, inside a span as of a literal; undefined at the end. */
+    form() {
+        if (this.run > 0) return 0;
+        return this.at < this.end ? this.bytes[this.at] >> 5 : undefined;
+    }
+
+    /** Reads the number here. The bit `latent` of its first byte says that it continues, and the bits below are its
+     *  value. Returns where it ends; 0 if it is cut off or needs more than 64 bits. */
+    read(latent) {
+        let at = this.at;
+        let number = this.bytes[at] & (latent - 1);
+        let more = this.bytes[at++] & latent;
+        while (more !== 0) {
+            if (at === this.end) return 0;
+            number = longer(number, (this.bytes[at] & 0x7f) + latent);
+            if (typeof number === "bigint" && number > MOST) return 0;
+            more = this.bytes[at++] & 0x80;
+        }
+        this.number = number;
+        return at;
+    }
+
+    /** Takes the value of the key that ends here; undefined if none does. */
+    takeValue() {
+        const at = this.form() === VALUE ? this.read(0x10) : 0;
+        if (at === 0) return undefined;
+        this.at = at;
+        return this.number;
+    }
+
+    /** Moves into the span here, if there is one. */
+    enterSpan() {
+        const at = this.form() === SPAN && this.hashes ? this.read(0x10) : 0;
+        if (at === 0 || this.number < 1 || this.number > this.end - at) return;
+        this.at = at;
+        this.run = this.number;
+    }
+
+    /** Takes the next byte of a literal or of a span; undefined if there is none. */
+    takeByte() {
+        this.enterSpan();
+        if (!(this.form() < VALUE)) return undefined;
+        if (this.run > 0) this.run--;
+        return this.bytes[this.at++];
+    }
+
+    /** Returns the branch here; undefined if there is none. Its offsets are `width` blocks, each with a byte for every
+     *  target but the last. The parameters of a hashed table are skipped, as its edges are compared one by one. */
+    branch() {
+        const at = this.form() > SPAN ? this.read(0x20) : 0;
+        const head = this.number;
+        if (at === 0 || head >= 0x800 || (head & 0xff) === 1) return undefined;
+        const count = head & 0xff || 256;
+        const width = (head >> 8) + 1;
+        const edges = this.hashes && count >= 16 ? at + count + 1 : at;
+        const offsets = edges + count;
+        const targets = offsets + width * (count - 1);
+        return targets <= this.end ? { count, width, edges, offsets, targets, len: this.end - targets } : undefined;
+    }
+
+    /** Returns how many bytes after the first target the target of this number ends. */
+    endOf({ count, width, offsets, len }, number) {
+        if (number < 0) return 0;
+        if (number === count - 1) return len;
+        let sum = 0;
+        const last = offsets + number + (width - 1) * (count - 1);
+        for (let at = offsets + number; at <= last; at += count - 1) sum = sum * 256 + this.bytes[at];
+        return sum;
+    }
+
+    /** Moves to the target of this number and returns its edge; undefined if its offsets are outside the targets. */
+    enter(branch, number) {
+        const from = this.endOf(branch, number - 1);
+        const to = this.endOf(branch, number);
+        if (from > to || to > branch.len) return undefined;
+        this.at = branch.targets + from;
+        this.end = branch.targets + to;
+        return this.bytes[branch.edges + number];
+    }
+
+    /** Moves to the target of the edge that equals a byte and returns that edge; undefined if there is none. */
+    follow(branch, wanted) {
+        for (let number = 0; number < branch.count; number++) {
+            if (this.same(this.bytes[branch.edges + number], wanted)) return this.enter(branch, number);
+        }
+        return undefined;
+    }
+
+    /** Follows a byte, past values. Returns the byte of the trie that equals it; undefined if none does. */
+    step(wanted) {
+        while (this.takeValue() !== undefined);
+        const branch = this.branch();
+        if (branch) return this.follow(branch, wanted);
+        const byte = this.takeByte();
+        return this.same(byte, wanted) ? byte : undefined;
+    }
+}
+
+/** Yields the length and the value of each key that a text begins with. */
+function* beginnings(cursor, text) {
+    for (let len = 0; ; len++) {
+        for (let value = cursor.takeValue(); value !== undefined; value = cursor.takeValue()) yield [len, value];
+        if (len === text.length || cursor.step(text[len]) === undefined) return;
+    }
+}
+
+/** Passes the node here, which is no value. If none begins here, this target ends. */
+function passNode(cursor, key, open) {
+    const branch = cursor.branch();
+    const byte = branch ? undefined : cursor.takeByte();
+    if (branch) open.push({ branch, next: 0, keyLen: key.length });
+    if (byte === undefined) cursor.at = cursor.end;
+    else key.push(byte);
+}
+
+/** Moves to the next target of the innermost open branch that has one. Returns whether one has. */
+function nextTarget(cursor, key, open) {
+    for (; open.length > 0; open.pop()) {
+        const last = open[open.length - 1];
+        const number = last.next++;
+        const edge = number < last.branch.count ? cursor.enter(last.branch, number) : undefined;
+        if (edge !== undefined) {
+            key.length = last.keyLen;
+            return key.push(edge) > 0;
+        }
+    }
+    return false;
+}
+
+/** Yields the key, as an array that the next step changes, and the value of each pair below a prefix. */
+function* listing(cursor, prefix) {
+    const key = [];
+    const open = [];
+    for (const wanted of prefix) {
+        const byte = cursor.step(wanted);
+        if (byte === undefined) return;
+        key.push(byte);
+    }
+    do {
+        while (cursor.at < cursor.end) {
+            const value = cursor.takeValue();
+            if (value === undefined) passNode(cursor, key, open);
+            else yield [key, value];
+        }
+    } while (nextTarget(cursor, key, open));
+}
+
+/* --- Files ------------------------------------------------------------------------------------------------------ */
+
+const KINDS = Object.values(Kind);
+const INDEX = 24;
+const MAGIC = [0x7a, 0x74, 0x72, 0x69, 0x89, 0x8a, 0x0d, 0x0a];
+const VERSION = 1;
+const SUM_AT = 20;
+const HEADER_LEN = 24;
+const CRC_TABLE = Uint32Array.from({ length: 256 }, (_, byte) => {
+    let sum = byte;
+    for (let bit = 0; bit < 8; bit++) sum = sum & 1 ? (sum >>> 1) ^ 0x82f63b78 : sum >>> 1;
+    return sum;
+});
+
+/** Returns the CRC-32C of bytes, which come after those with the checksum `sum`. */
+function crc32c(bytes, sum = 0) {
+    let crc = ~sum;
+    for (const byte of bytes) crc = (crc >>> 8) ^ CRC_TABLE[(crc ^ byte) & 0xff];
+    return ~crc >>> 0;
+}
+
+const isSealed = (file) => MAGIC.every((byte, at) => byte === file[at]);
+
+/** Returns the number in the header of a sealed file, if the file is whole. */
+function numberInSealed(file) {
+    check(file.length >= HEADER_LEN, "DAMAGED", "the file is damaged: its header is cut off");
+    const header = new DataView(file.buffer, file.byteOffset, HEADER_LEN);
+    const content = file.subarray(HEADER_LEN);
+    const version = header.getUint16(8, true);
+    const known = `and this reader knows version ${VERSION}: take a newer reader`;
+    check(version === VERSION, "UNKNOWN_VERSION", `the file has version ${version} of the format, ${known}`);
+    const len = header.getBigUint64(12, true);
+    check(content.length >= len, "DAMAGED", `the file is damaged: ${content.length} of its ${len} bytes are there`);
+    check(content.length <= len, "DAMAGED", "the file is damaged: bytes follow its end");
+    const sum = crc32c(content, crc32c(file.subarray(0, SUM_AT)));
+    check(header.getUint32(SUM_AT, true) === sum, "DAMAGED", "the file is damaged: its checksum is another one");
+    return header.getUint16(10, true);
+}
+
+export class ZeroTrie {
+    #bytes;
+    #kind;
+
+    constructor(bytes, kind) {
+        this.#bytes = bytesIn(bytes, "the bytes of a trie are a Uint8Array or an ArrayBuffer");
+        this.#kind = kind;
+        check(KINDS.includes(kind), "UNKNOWN_KIND", `no kind of trie has the number ${kind}`);
+    }
+
+    static open(data) {
+        const file = bytesIn(data, "a file is a Uint8Array or an ArrayBuffer");
+        check(file.length > 0, "EMPTY", "the file is empty");
+        if (isSealed(file)) {
+            const kind = numberInSealed(file);
+            check(kind !== INDEX, "INDEX", "the file is an index: ZeroIndex.open opens it");
+            return new ZeroTrie(file.subarray(HEADER_LEN), kind);
+        }
+        const neither = "it begins neither as a sealed file nor with the number of a kind";
+        check(KINDS.includes(file[0]), "NOT_A_TRIE", `the file is no trie: ${neither}`);
+        return new ZeroTrie(file.subarray(1), file[0]);
+    }
+
+    get kind() {
+        return this.#kind;
+    }
+
+    get bytes() {
+        return this.#bytes;
+    }
+
+    get(key) {
+        const bytes = bytesOf(key);
+        for (const [len, value] of beginnings(new Cursor(this.#bytes, this.#kind), bytes)) {
+            if (len === bytes.length) return value;
+        }
+        return undefined;
+    }
+
+    has(key) {
+        return this.get(key) !== undefined;
+    }
+
+    *prefixes(text) {
+        const bytes = bytesOf(text);
+        for (const [len, value] of beginnings(new Cursor(this.#bytes, this.#kind), bytes)) {
+            const key = inFormOf(text, bytes.slice(0, len));
+            if (key !== undefined) yield [key, value];
+        }
+    }
+
+    longestPrefix(text) {
+        return [...this.prefixes(text)].pop();
+    }
+
+    *pairs(prefix = "") {
+        for (const [bytes, value] of listing(new Cursor(this.#bytes, this.#kind), bytesOf(prefix))) {
+            const key = inFormOf(prefix, bytes);
+            check(key !== undefined, "NOT_TEXT", "a key is not UTF-8: give a prefix of bytes, and keys come as bytes");
+            yield [key, value];
+        }
+    }
+
+    *keys(prefix = "") {
+        for (const [key] of this.pairs(prefix)) yield key;
+    }
+
+    *values(prefix = "") {
+        for (const [, value] of listing(new Cursor(this.#bytes, this.#kind), bytesOf(prefix))) yield value;
+    }
+
+    [Symbol.iterator]() {
+        return this.pairs();
+    }
+}
+
+/* --- Indexes ---------------------------------------------------------------------------------------------------- */
+
+const PI = 0x243f6a8885a308d3n;
+const GOLDEN = 0x9e3779b97f4a7c15n;
+/** The length of an index but for its buckets: the seed, the number of buckets, and the last entry. */
+const FRAME_LEN = 24;
+/** The metadata of the length of a key are 0: its first byte is less. */
+const KEY_LEN_END = 0x40;
+
+/** Returns the two halves of a product of 128 bits, joined by exclusive or. */
+function folded(one, other) {
+    const product = one * other;
+    return (product & MOST) ^ (product >> 64n);
+}
+
+/** Returns the number in the eight bytes from a place on, or in those up to the end. */
+function eightAt(bytes, from) {
+    let number = 0n;
+    for (let at = Math.min(from + 8, bytes.length); at > from; at--) number = number * 256n + BigInt(bytes[at - 1]);
+    return number;
+}
+
+/** Returns the hash of a key under the seed of an index. */
+function hashOf(seed, key) {
+    const len = key.length;
+    const factor = ((seed << 32n) & MOST) ^ (seed >> 32n) ^ GOLDEN ^ BigInt(len);
+    let state = seed ^ PI;
+    for (let at = 0; at < len - 16; at += 16) state = folded(eightAt(key, at) ^ state, eightAt(key, at + 8) ^ factor);
+    return folded(eightAt(key, Math.max(len - 16, 0)) ^ state, eightAt(key, Math.max(len - 8, 0)) ^ factor);
+}
+
+export class ZeroIndex {
+    #bytes;
+    #words;
+
+    constructor(bytes) {
+        this.#bytes = bytesIn(bytes, "the bytes of an index are a Uint8Array or an ArrayBuffer");
+        this.#words = new DataView(this.#bytes.buffer, this.#bytes.byteOffset, this.#bytes.byteLength);
+    }
+
+    static open(data) {
+        const file = bytesIn(data, "a file is a Uint8Array or an ArrayBuffer");
+        check(file.length > 0, "EMPTY", "the file is empty");
+        check(isSealed(file), "NOT_AN_INDEX", "the file is no index: it does not begin as a sealed file");
+        const number = numberInSealed(file);
+        check(number === INDEX, "NOT_AN_INDEX", `the file is no index: it has the number ${number}, not ${INDEX}`);
+        return new ZeroIndex(file.subarray(HEADER_LEN));
+    }
+
+    get bytes() {
+        return this.#bytes;
+    }
+
+    get(key) {
+        const bytes = bytesOf(key);
+        const isText = bytes[bytes.length - 1] !== NO_BYTE;
+        return isText ? this.#valueIn(this.#bucketOf(bytes), bytes) : undefined;
+    }
+
+    has(key) {
+        return this.get(key) !== undefined;
+    }
+
+    /** Returns where the records of a key's bucket are; an empty part if the key is not marked there. */
+    #bucketOf(key) {
+        const words = this.#words;
+        const none = { from: 0, to: 0 };
+        if (words.byteLength < FRAME_LEN || words.getUint32(12, true) !== 0) return none;
+        const count = words.getUint32(8, true);
+        const pool = FRAME_LEN + 8 * count;
+        if (count === 0 || pool > words.byteLength) return none;
+        const hash = hashOf(words.getBigUint64(0, true), key);
+        const entry = 16 + 8 * Number(((hash >> 32n) * BigInt(count)) >> 32n);
+        const isMarked = (words.getUint32(entry, true) >>> Number(hash & 31n)) & 1;
+        if (!isMarked) return none;
+        return { from: pool + words.getUint32(entry + 4, true), to: pool + words.getUint32(entry + 12, true) };
+    }
+
+    /** Returns the value of a key in the records of a part of the bytes. */
+    #valueIn({ from, to }, key) {
+        const cursor = new Cursor(this.#bytes);
+        if (to > cursor.end) return undefined;
+        cursor.at = from;
+        cursor.end = to;
+        while (cursor.at < to && this.#bytes[cursor.at] < KEY_LEN_END) {
+            const at = cursor.read(0x20);
+            if (at === 0 || cursor.number > to - at - 8) return undefined;
+            cursor.at = at + 8 + cursor.number;
+            const found = this.#bytes.subarray(at + 8, cursor.at);
+            if (found.length === key.length && found.every((byte, place) => byte === key[place])) {
+                const value = this.#words.getBigUint64(at, true);
+                return value <= Number.MAX_SAFE_INTEGER ? Number(value) : value;
+            }
+        }
+        return undefined;
+    }
+}
