@@ -17,10 +17,9 @@ def rust(out):
     """Runs rustdoc on the crate. Returns a line for the first page."""
     if not shutil.which("rustdoc"):
         return "Rust: <code>rustdoc</code> is not installed, so its pages are left out."
-    source = BINDINGS / "rust" / "zerotrie-proved" / "src" / "lib.rs"
-    subprocess.run(["rustdoc", "--edition", "2021", "--cfg", 'feature="std"', "--crate-name", "zerotrie_proved", source, "--out-dir", out / "rust"], check=True,
-                   capture_output=True, text=True)
-    return '<a href="rust/zerotrie_proved/index.html">Rust</a>: the crate <code>zerotrie-proved</code>, by rustdoc'
+    source = ROOT / "rust" / "zerotrie" / "src" / "lib.rs"
+    subprocess.run(["rustdoc", "--edition", "2024", "--crate-name", "zerotrie", source, "--out-dir", out / "rust"], check=True, capture_output=True, text=True)
+    return '<a href="rust/zerotrie/index.html">Rust</a>: the package of plain Rust, by rustdoc'
 
 
 DOXYGEN = """

@@ -3,13 +3,17 @@ import html
 import json
 import re
 
+import code_pages
 import definitions
+import guides
 import sources
 from sources import ROOT
 
 HERE = ROOT / "docs" / "maker"
 NAME = re.compile(r"(?<![\w'])([A-Za-z_]\w*)")
-ORDER = ["list", "keys_values", "prefixes", "cursor", "bytes", "json", "array"]  # the modules of a type's calls, after its own
+ORDER = ["list", "keys", "cursor", "bytes", "json", "array"]  # the modules of a type's calls, after its own
+KEYWORDS = code_pages.KEYWORDS.split()
+SIDE = 8  # from so many headings on, a page has a list of them beside it
 
 
 class Reference:
@@ -23,7 +27,7 @@ class Reference:
         self.items = {}  # by module and name
         for module, name, item in sources.public():
             if item is None:
-                raise SystemExit(f"crates/zerotrie/src/lib.rt: {name} is not found")
+                raise SystemExit(f"the public name {name} of {module or 'zerotrie'} is not found")
             self.items.setdefault((module, name), item)
         self.pages = {}  # the address of each item, by its name: that of the first module that has it
         for module, name in self.items:
@@ -35,14 +39,20 @@ class Reference:
         proofs = ROOT / "crates" / "zerotrie" / "proofs"
         self.lemmas = [proofs / f"{it}.antt" for it in re.findall(r"^pub mod (\w+)$", (proofs / "Lib.antt").read_text(), re.M)]
         self.specs = definitions.cited([it.file for it in self.items.values()] + [it.file for it in self.impls] + self.lemmas)
+        self.sources = set(code_pages.shown())
+        self.guides = guides.listed()
+        self.words = dict(re.findall(r"^(\w+): (.*)", (HERE / "words.txt").read_text(), re.M))
 
     def write(self, name, title, body):
-        """Writes a page."""
+        """Writes a page, with a list of its headings beside it if there are many."""
+        heads = re.findall(r'<h([23]) id="([^"]+)">(.*?)</h[23]>', body, re.S)
+        rows = "".join(f'<a class="h{level}" href="#{place}">{re.sub("<a class=.source.*?</a>|<.*?>", "", text)}</a>' for level, place, text in heads)
+        side = f"<nav>{rows}</nav>" if len(heads) >= SIDE else ""
         (self.out / name).write_text(
             f'<!doctype html>\n<html lang="en"><meta charset="utf-8"><meta name="viewport" content="width=device-width, '
             f'initial-scale=1"><title>{html.escape(title)}</title><link rel="stylesheet" href="style.css">\n<header><div>'
             f'<a href="index.html">zerotrie</a><input type="search" placeholder="Search names (press /)" aria-label="Search">'
-            f'</div></header>\n<main><ul id="search-results"></ul>\n{body}\n</main><script src="search.js"></script></html>\n')
+            f'</div></header>\n{side}<main><ul id="search-results"></ul>\n{body}\n</main><script src="search.js"></script></html>\n')
 
     def add(self, name, place, text, where):
         """Adds a row to what the search finds."""
@@ -54,6 +64,8 @@ class Reference:
         """Returns code with its names linked to the pages of their items, but for those of the page itself."""
         def link(found):
             name = found[1]
+            if name in KEYWORDS:
+                return f'<span class="word">{name}</span>'
             return f'<a href="{self.pages[name]}">{name}</a>' if name in self.pages and name[0].isupper() and name not in own else name
         return NAME.sub(link, html.escape(text, quote=False))
 
@@ -66,7 +78,19 @@ class Reference:
             return self.pages[where[1]] + ("" if where[1] == where[2] else f"#{where[2]}"), ""
         if isinstance(where, tuple) and where[0] in self.specs:
             return f"{spec_address(where[0])}#{where[1]}", definitions.comment_of(*where)
+        if where == "std" and name in self.words:
+            return f"words.html#{name}", self.words[name].replace("`", "")
         return None
+
+    def page_of(self, file):
+        """Returns the page of a file of the repository: of definitions, lemmas or code. `None` if it has none."""
+        if file in self.specs or file in self.lemmas:
+            return spec_address(file)
+        return code_pages.address(file) if file in self.sources else None
+
+    def source(self, item):
+        """Returns a link to where an item begins in the sources."""
+        return f'<a class="source" href="{code_pages.address(item.file)}#{item.line}">source</a>' if item.file in self.sources else ""
 
     def clause(self, file, text, here=None):
         """Returns the text of a clause or a definition with each word linked to where it is defined."""
@@ -98,7 +122,7 @@ class Reference:
 
     def prose(self, lines, near=()):
         """Returns a doc comment as HTML. `near` are the names of the calls of the same page."""
-        done, paragraph, code, rows = [], [], None, []
+        done, paragraph, example, rows = [], [], None, []
 
         def close():
             if paragraph:
@@ -109,16 +133,15 @@ class Reference:
                 rows.clear()
 
         for line in lines:
-            if code is not None:
+            if example is not None:
                 if line.startswith("```"):
-                    text = html.escape("\n".join(code), quote=False)
-                    done.append("<pre>" + re.sub(r"(//.*)", r'<span class="remark">\1</span>', text) + "</pre>")
-                    code = None
+                    done.append(f"<pre>{code_pages.colored(chr(10).join(example))}</pre>")
+                    example = None
                 else:
-                    code.append(line)
+                    example.append(line)
             elif line.startswith("```"):
                 close()
-                code = []
+                example = []
             elif line.startswith("#"):
                 close()
                 done.append(f"<h4>{self.inline(line.lstrip('# '), near)}</h4>")
@@ -137,7 +160,7 @@ class Reference:
 
     def inline(self, text, near=()):
         """Returns a line of prose with its code and links."""
-        def code(found):
+        def named(found):
             text = found[1]
             parts = re.fullmatch(r"(\w+)(?:::(\w+))?.*", text, re.S)
             if parts and parts[2] and parts[1] in self.pages and f"{parts[1]}::{parts[2]}" in self.calls | self.parts_of_enums:
@@ -146,11 +169,13 @@ class Reference:
                 return f'<a href="#{parts[1]}"><code>{text}</code></a>'
             if parts and parts[1] in self.pages and re.fullmatch(r"\w+(<.*)?", text):
                 return f'<a href="{self.pages[parts[1]]}"><code>{text}</code></a>'
+            if text in sources.LINES and any(text in it.parts for it in self.sources):
+                return f'<a href="sources.html#{text}"><code>{text}</code></a>'
             if text in self.variants:
                 return f'<a href="{self.pages[self.variants[text]]}#{text}"><code>{text}</code></a>'
             return f"<code>{text}</code>"
         text = re.sub(r"\[(`[^`]+`)\](?!\()", r"\1", html.escape(text, quote=False))
-        text = re.sub(r"`([^`]+)`", code, text)
+        text = re.sub(r"`([^`]+)`", named, text)
         return re.sub(r"\[([^]]+)\]\((https?://[^)]+)\)", r'<a href="\2">\1</a>', text)
 
     def sentence(self, lines):
@@ -182,7 +207,7 @@ class Reference:
         """Returns a method: its signature, its text and its contract."""
         anchor = item.name + mark
         where = f'<p class="soft">{self.linked(block.header)}</p>' if block else ""
-        return (f'<{level} id="{anchor}"><a href="#{anchor}"><code>{item.name}</code></a></{level}>\n'
+        return (f'<{level} id="{anchor}"><a href="#{anchor}"><code>{item.name}</code></a>{self.source(item)}</{level}>\n'
                 f'<pre class="signature">{self.linked(item.text)}</pre>{where}\n{self.prose(item.doc, near)}\n{self.contract(item)}')
 
     def need(self, item, what):
@@ -217,10 +242,22 @@ class Reference:
         rows = "".join(f"<li><code>{self.linked(it, [name])}</code></li>" for it in impls)
         return "".join(done) + (f"<h2>Implemented by</h2><ul>{rows}</ul>" if rows else "")
 
+    def shared_calls(self, block):
+        """Returns the calls that a trait of the library gives to the type of an impl block, with links to the page of the trait."""
+        trait = self.items.get(("", block.trait))
+        given = [it.name for it in block.methods]
+        calls = [it for it in trait.parts if it.kind == "fn" and it.name not in given] if trait and trait.kind == "trait" else []
+        rows = ""
+        for it in calls:
+            rows += f'<tr><td><a href="{self.pages[block.trait]}#{it.name}"><code>{breaking(it.name)}</code></a><td>{self.inline(self.sentence(it.doc))}'
+        return f'<h2 id="of-{block.trait}">Calls of every {self.linked(block.trait)}</h2><table>{rows}</table>\n' if rows else ""
+
     def type(self, name, item):
         """Returns the calls of a type, by the modules that they are in, and its traits."""
         own, traits = self.methods(name, item)
         calls = self.public_methods(own)
+        if item.kind == "type" and (of := re.search(r"= (\w+)<", item.text)) and of[1] in self.pages:
+            return self.alias(name, of[1], calls, traits)
         near = [it.name for it, _ in calls]
         groups = {}
         calls.sort(key=lambda it: -1 if it[1].file == item.file or it[1].file.stem not in ORDER else ORDER.index(it[1].file.stem))
@@ -232,13 +269,15 @@ class Reference:
             rows = ""
             for it, _ in several:
                 rows += f'<tr><td><a href="#{it.name}"><code>{breaking(it.name)}</code></a><td>{self.inline(self.sentence(it.doc), near)}'
-            done += f"<h2>{self.inline(title)}</h2><table>{rows}</table>\n"
+            place = re.sub(r"\W+", "-", title.lower()).strip("-")
+            done += f'<h2 id="{place}--">{self.inline(title)}</h2><table>{rows}</table>\n'
             for it, block in several:
                 mark = "" if it.name not in seen else f"-{sum(x.name == it.name for x, _ in calls)}"
                 seen.add(it.name)
                 generic = re.fullmatch(r"impl(<.*>)? \w+(<[^>]*>)?", block.header)
                 done += self.call(it, None if generic else block, near, mark=mark)
                 self.add(it.name, f"{name}", self.sentence(it.doc).replace("`", ""), f"{self.pages[name]}#{it.name}")
+        done += "".join(self.shared_calls(block) for block in traits)
         rows = ""
         for block in traits:
             inner = "".join(f'<pre class="signature">{self.linked(it.text)}</pre>{self.contract(it)}' for it in block.methods if it.kind == "fn")
@@ -248,12 +287,27 @@ class Reference:
         rows += f'<p class="soft">derived: <code>{derived}</code></p>' if derived else ""
         return done + (f"<h2>Traits</h2>{rows}" if rows else "")
 
+    def alias(self, name, of, calls, traits):
+        """Returns the calls of a name for a type at one kind: its own, and links to those of the type."""
+        mine = [(it, block) for it, block in calls if block.type == name]
+        for it, _ in mine:
+            self.need(it, f"{name}::{it.name}")
+            self.add(it.name, name, self.sentence(it.doc).replace("`", ""), f"{self.pages[name]}#{it.name}")
+        done = "".join(self.call(it, block, [it.name for it, _ in mine]) for it, block in mine)
+        rows = ""
+        for it, block in calls:
+            if block.type != name:
+                rows += f'<tr><td><a href="{self.pages[of]}#{it.name}"><code>{breaking(it.name)}</code></a><td>{self.inline(self.sentence(it.doc))}'
+        done += f"<h2>Calls of {self.linked(of)}</h2><table>{rows}</table>\n"
+        return done + "".join(self.shared_calls(block) for block in traits)
+
     def item_page(self, module, name, item):
         """Writes the page of an item."""
         self.need(item, name)
-        path = "::".join(filter(None, ["zerotrie", module, name]))
+        owner = owner_of(module)
+        path = f"{owner}::{name}"
         kept = " { /* private fields */ }" if "private" in item.notes and not item.parts else ""
-        body = (f'<h1><small>{item.kind} of {"zerotrie::" + module if module else "zerotrie"}</small>{name}</h1>\n'
+        body = (f'<h1><small>{item.kind} of {owner}</small>{name}{self.source(item)}</h1>\n'
                 f'<pre class="signature">{self.linked(item.text, [name])}{kept}</pre>\n')
         own = [it.name for it, _ in self.public_methods(self.methods(name, item)[0])] if item.kind in ("struct", "enum", "type") else []
         body += f"{self.prose(item.doc, own)}{self.contract(item)}"
@@ -261,8 +315,8 @@ class Reference:
             body += self.trait(name, item)
         elif item.kind in ("struct", "enum", "type"):
             body += self.parts(item) + self.type(name, item)
-        body += f'<p class="soft">use {path}; &nbsp; {item.file.relative_to(ROOT)}</p>'
-        self.add(name, f"{item.kind} of {'zerotrie::' + module if module else 'zerotrie'}", self.sentence(item.doc).replace("`", ""), address(module, name))
+        body += f'<p class="soft">use {path};</p>'
+        self.add(name, f"{item.kind} of {owner}", self.sentence(item.doc).replace("`", ""), address(module, name))
         self.write(address(module, name), path, body)
 
     def spec_page(self, file):
@@ -337,7 +391,9 @@ class Reference:
         lib = sources.file_of("zerotrie", []).read_text()
         docs = [line[4:] for line in lib.splitlines() if line.startswith("//!")]
         body = f"<h1><small>reference of the library</small>zerotrie</h1>{self.prose(docs)}"
-        body += "<h2>Other languages</h2>" + "".join(f"<p>{it}</p>" for it in others)
+        rows = "".join(f'<tr><td><a href="{page}">{self.inline(title)}</a><td class="soft">{name}' for page, title, name in guides.pages(self))
+        body += f'<h2 id="documents">Documents</h2><table>{rows}</table><p><a href="{code_pages.pages(self)}">All sources</a></p>'
+        body += '<h2 id="languages">Other languages</h2>' + "".join(f"<p>{it}</p>" for it in others if "left out" not in it)
         main = re.findall(r"^- `(\w+)`", "\n".join(docs), re.M)
         tables = {
             "Tries": lambda it: it.name in main,
@@ -350,10 +406,10 @@ class Reference:
         for title, takes in tables.items():
             some = {key: item for key, item in left.items() if takes(item)}
             left = {key: item for key, item in left.items() if key not in some}
-            body += f"<h2>{title}</h2>{self.table(some)}"
+            body += f'<h2 id="{title.lower().replace(" ", "-")}">{title}</h2>{self.table(some)}'
         for module, doc in sources.modules().items():
             if some := {key: item for key, item in self.items.items() if key[0] == module}:
-                body += f'<h2 id="{module}">zerotrie::{module}</h2>{self.prose(doc)}{self.table(some)}'
+                body += f'<h2 id="{module}">{owner_of(module)}</h2>{self.prose(doc)}{self.table(some)}'
         rows = ""
         for file in self.lemmas:
             first = file.read_text().split("\n")[0]
@@ -365,6 +421,8 @@ class Reference:
             rows += f'<tr><td><a href="{spec_address(file)}"><code>{spec_title(file)}</code></a><td>{self.inline(first[3:])}'
         body += f'<h2 id="definitions">Definitions</h2>{READING}<table>{rows}</table>'
         self.write("index.html", "zerotrie", body)
+        rows = "".join(f'<tr id="{name}"><td><code>{name}</code><td>{self.inline(html.escape(said, quote=False))}' for name, said in self.words.items())
+        self.write("words.html", "words of std", f"<h1><small>words in contracts</small>Words of the kit's std</h1><table>{rows}</table>")
 
     def all(self, others):
         """Writes all pages."""
@@ -391,6 +449,11 @@ definition by equations, <code>data</code> a relation with one case for each way
 holds if all of its fields do.</p>"""
 
 
+def owner_of(module):
+    """Returns the path of a module of zerotrie, or of a crate beside it."""
+    return module if module.startswith("zerotrie_") else f"zerotrie::{module}" if module else "zerotrie"
+
+
 def breaking(name):
     """Returns a name that may break after each underscore."""
     return name.replace("_", "_<wbr>")
@@ -404,7 +467,7 @@ def hanging(lines):
 
 def address(module, name):
     """Returns the page of an item."""
-    return f"{module + '.' if module else ''}{name}.html"
+    return f"{module.replace('::', '.') + '.' if module else ''}{name}.html"
 
 
 def spec_title(file):

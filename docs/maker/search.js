@@ -12,7 +12,7 @@ box.addEventListener("input", () => {
   const found = [];
   if (words.length) for (const entry of INDEX) {
     const ranks = words.map(word => rank(entry, word));
-    if (!ranks.includes(9)) found.push([ranks.reduce((a, b) => a + b) + (entry[1].startsWith("definition") ? 2 : 0), entry[0].length, entry]);
+    if (!ranks.includes(9)) found.push([ranks.reduce((a, b) => a + b) + (/^(definition|lemma)/.test(entry[1]) ? 4 : 0), entry[0].length, entry]);
   }
   found.sort((a, b) => a[0] - b[0] || a[1] - b[1]);
   list.replaceChildren(...found.slice(0, 40).map(([, , [name, place, text, address]]) => {
@@ -23,8 +23,17 @@ box.addEventListener("input", () => {
     row.append(link, rest);
     return row;
   }));
+  if (words.length && !found.length) list.append(Object.assign(document.createElement("li"), { textContent: "Nothing found." }));
 });
+function move(event) {
+  const links = [...list.querySelectorAll("a")], at = links.indexOf(document.activeElement) + (event.key === "ArrowDown" ? 1 : -1);
+  if (!links.length || !/^Arrow(Up|Down)$/.test(event.key)) return;
+  event.preventDefault();
+  (links[at] || box).focus();
+}
+list.addEventListener("keydown", move);
 box.addEventListener("keydown", event => {
+  move(event);
   if (event.key === "Enter" && list.querySelector("a")) location.href = list.querySelector("a").href;
   if (event.key === "Escape") { box.value = ""; list.replaceChildren(); }
 });

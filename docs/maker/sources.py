@@ -6,6 +6,7 @@ from dataclasses import dataclass, field
 
 ROOT = pathlib.Path(__file__).resolve().parent.parent.parent
 LINES = dict(re.findall(r"^(\w+)(?: staticlib)?:(.*)", (ROOT / "crates.txt").read_text(), re.M))
+BESIDE = ["zerotrie_search", "zerotrie_sets", "zerotrie_index", "zerotrie_sealed", "zerotrie_reverse"]  # crates that users add
 ITEM = re.compile(r"pub (?:const |unsafe )*(fn|struct|enum|trait|type|const|mod) (\w+)")
 MEMBER = re.compile(r"    (?:pub )?(?:const |unsafe )*(fn|const|ghost) (\w+)")
 CLAUSE = re.compile(r"(ensures|requires)\b ?(\w*) ?\{")
@@ -87,7 +88,11 @@ def parts_of(kind, lines, start):
             doc.append(line[4:])
         elif line.startswith("#["):
             notes.append(line)
-        elif line.startswith(("ghost", "invariant")) or not line:
+        elif line.startswith(("ghost", "invariant", "//")) or not line:
+            open_ = line.count("{") - line.count("}")
+            while open_ > 0:
+                number += 1
+                open_ += lines[number].count("{") - lines[number].count("}")
             doc, notes = [], []
         elif re.match(r"    \S", lines[number]):
             text = [lines[number]]
@@ -217,7 +222,18 @@ def resolved(crate, modules, name):
 
 
 def public():
-    """Yields the public items of the crate zerotrie: the module that shows each, its name there, and the item."""
+    """Yields the public items of the library: the crate or the module of zerotrie that shows each, its name there, and the item."""
+    yield from of_zerotrie()
+    for crate in BESIDE:
+        for name in uses(file_of(crate, [])):
+            item = resolved(crate, [], name)
+            if item is None or crate in item.file.parts:  # (what is handed on has its page in its own crate)
+                yield crate, name, item
+        yield from ((f"{crate}::laws", it.name, it) for it in laws(file_of(crate, ["laws"])))
+
+
+def of_zerotrie():
+    """Yields the public items of the crate zerotrie."""
     text = file_of("zerotrie", []).read_text()
     inner = r"^pub mod (\w+) \{\n(.*?)^\}"
     shown = [("", re.sub(inner, "", text, flags=re.M | re.S)), *re.findall(inner, text, re.M | re.S)]
@@ -237,6 +253,8 @@ def public():
 
 def laws(file):
     """Yields the public items of a module's file, those that it hands on too."""
+    if not file.exists():
+        return
     items, _ = parsed(file)
     yield from (it for it in items.values() if it.kind == "fn")
     for name, path in uses(file).items():
@@ -245,19 +263,24 @@ def laws(file):
 
 
 def modules():
-    """Returns the doc comments of the modules of the crate zerotrie: of each its lines."""
+    """Returns the doc comments of the modules of the crate zerotrie and of the crates beside it: of each its lines."""
     lib = file_of("zerotrie", [])
     docs = {name: item.doc or comment_of(file_of("zerotrie", [name])) for name, item in parsed(lib)[0].items() if item.kind == "mod"}
     for name, path in uses(lib).items():
         item = resolved(path[0], path[1:], name) if path[0] in LINES else None
         if item and item.kind == "mod":
             docs[name] = comment_of(item.file)
+    for crate in BESIDE:
+        docs[crate] = comment_of(file_of(crate, []))
+        if file_of(crate, ["laws"]).exists():
+            docs[f"{crate}::laws"] = comment_of(file_of(crate, ["laws"]))
     return docs
 
 
 def all_files():
     """Returns the sources of the library, crate by crate."""
-    return [file for crate in below("zerotrie") for file in sorted((ROOT / "crates" / crate / "src").rglob("*.rt"))]
+    crates = dict.fromkeys([*below("zerotrie"), *BESIDE])
+    return [file for crate in crates for file in sorted((ROOT / "crates" / crate / "src").rglob("*.rt"))]
 
 
 def all_impls():
