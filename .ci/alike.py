@@ -13,8 +13,7 @@ import sys
 CRATES = pathlib.Path(__file__).resolve().parent.parent / "crates"
 MODULES = {  # the modules of both crates, and where zerotrie_any has their calls
     "trie": ["trie"],
-    "list": ["list", "keys_values"],
-    "prefixes": ["prefixes"],
+    "list": ["list", "keys"],
     "cursor": ["cursor"],
     "bytes": ["bytes"],
     "json": ["json/reading", "json/writing"],
@@ -42,7 +41,7 @@ DIFFER = {  # the calls that differ on purpose, and in what
     "list::iter": "prose examples head",
     "list::keys": "examples",
     "list::to_btreemap": "head code",
-    "prefixes::iter_prefix": "examples head",
+    "list::iter_prefix": "examples head",
     "json::to_json_value": "examples",
     # a cursor of the hashed kinds may be inside a span
     "cursor::into_suffix_trie": "prose examples head code",

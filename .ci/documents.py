@@ -4,8 +4,9 @@
 A block of README.md or docs/CALLING.md that is marked ```text and begins with `// FILE` must be in that file. So must each clause of
 a block that begins with `fn`, which is shortened as docs/CALLING.md says: `kind` is the kind of the trie's type, `bytes` are its bytes,
 and `..` is anything. A line `FILE:NUMBER: OLD  ->  NEW` must be a planted mistake of zerotrie_base. Each link of a page must lead to a
-file that is there, and to a heading of it. The pages of PLAIN and the doc comments of the library's public items must be free of
-RETIRED, words for which every Rust programmer has another one. No page may have more words than LIMITS say: when a page gets shorter,
+file that is there, and to a heading of it. The pages of PLAIN, the doc comments of the library's public items and the comments of definitions must be free of
+RETIRED, words for which every Rust programmer has another one. A name in code marks must be one of the sources, of the page's examples,
+or of ELSEWHERE. No page may have more words than LIMITS say: when a page gets shorter,
 so does its limit.
 """
 import pathlib
@@ -21,34 +22,39 @@ import sources
 
 QUOTING = ["README.md", "docs/CALLING.md"]
 # The pages that have no retired words.
-PLAIN = [*QUOTING, "CONTRIBUTING.md", "bindings/README.md", "docs/C.md", "docs/CPP.md", "docs/PYTHON.md", "docs/RUST.md", "docs/SPEED.md", "docs/speed/fast.md", "docs/speed/tables.md", "examples/README.md"]
+PLAIN = [*QUOTING, "CONTRIBUTING.md", "bindings/README.md", "docs/ARCHITECTURE.md", "docs/C.md", "docs/CPP.md", "docs/DECISIONS.md", "docs/DIFFERENCES.md", "docs/JAVASCRIPT.md", "docs/MODEL.md", "docs/PYTHON.md", "docs/README.md", "docs/RUST.md", "docs/SPEED.md", "docs/speed/fast.md", "docs/speed/tables.md", "examples/README.md"]
 # How many words a page may have, as `wc -w` counts. CHANGELOG.md grows.
 LIMITS = {
     "README.md": 1000,
-    "CONTRIBUTING.md": 1800,
-    "bindings/README.md": 610,
+    "CONTRIBUTING.md": 2030,
+    "bindings/README.md": 670,
     "bindings/python/README.md": 120,
     "crates/zerotrie_cli/NOTES.md": 1300,
     "crates/zerotrie_cli/README.md": 1200,
-    "crates/zerotrie_index/README.md": 480,
+    "crates/zerotrie_index/README.md": 485,
     "crates/zerotrie_reverse/README.md": 350,
-    "crates/zerotrie_search/README.md": 480,
+    "crates/zerotrie_search/README.md": 515,
     "crates/zerotrie_sets/README.md": 350,
     "crates/zerotrie_tool/README.md": 480,
     "docs/ARCHITECTURE.md": 1700,
     "docs/C.md": 900,
     "docs/CALLING.md": 3150,
     "docs/CPP.md": 900,
-    "docs/DECISIONS.md": 2000,
+    "docs/DECISIONS.md": 2080,
     "docs/DIFFERENCES.md": 1960,
-    "docs/FORMAT.md": 4700,
+    "docs/FORMAT.md": 5110,
+    "docs/JAVASCRIPT.md": 780,
     "docs/MODEL.md": 2000,
     "docs/PYTHON.md": 900,
+    "docs/README.md": 260,
     "docs/RUST.md": 900,
     "docs/SPEED.md": 1500,
     "docs/speed/fast.md": 870,
     "docs/speed/tables.md": 4800,
     "examples/README.md": 340,
+    "release/README.md": 480,
+    "rust/README.md": 255,
+    "rust/zerotrie/README.md": 200,
 }
 # Words that are gone, each with what to write.
 RETIRED = {
@@ -70,8 +76,10 @@ RETIRED = {
     r"so many|those of these": "name the thing",
     r"which it may outlive": "it may outlive",
 }
-# These are in doc comments still.
-PAGES_ONLY = []
+# Those that definitions give a meaning of their own, such as `Refused`, `Told` and `Route`.
+DEFINED = ["routes?", "means? no map", "tells?|told", "(is|are|was|were) refused", "answers? (the|a|an|what|no|nothing|as|its|all|by|it)"]
+# Names of others that pages speak of.
+ELSEWHERE = {"O_TMPFILE", "ZeroFrom", "get_or_panic", "parse_strict"}
 
 
 def prose(text):
@@ -82,7 +90,8 @@ def prose(text):
 def plain(clause):
     """Returns a clause in the short form in which pages quote it."""
     text = " ".join(clause.split())
-    for long, short in {r"\(S\.stored self\.now\.store\)": "bytes", r"S\.stored self\.now\.store": "bytes", r"K\.kind": "kind"}.items():
+    bytes_of, kind_of = r"(S\.stored self\.now\.store|bytes self\.now)", r"(K\.kind|kind self\.now)"
+    for long, short in {rf"\({bytes_of}\)|{bytes_of}": "bytes", rf"\({kind_of}\)|{kind_of}": "kind"}.items():
         text = re.sub(long, short, text)
     return text
 
@@ -92,6 +101,7 @@ def clauses_of(path):
     owner, _, name = path.rpartition("::")
     if owner:
         found = [it for block in sources.all_impls() if block.type == owner for it in block.methods if it.name == name]
+        found += [it for _, shown, item in sources.public() if shown == owner and item.kind == "trait" for it in item.parts if it.name == name]
     else:
         found = [item for _, shown, item in sources.public() if shown == name and item.kind == "fn"]
     return [(label, plain(text)) for item in found for _, label, text in item.clauses] if found else None
@@ -117,15 +127,15 @@ def misquoted():
 
 
 def not_planted():
-    """Yields the mistakes that a page shows and no edit plants."""
+    """Yields the mistakes that a page shows and no list of planted ones has."""
     crate = ROOT / "crates" / "zerotrie_base"
-    edits = [dict(re.findall(r"^(\w+): (.*)", it.read_text(), re.M)) for it in crate.glob("*/*.edit")]
+    edits = [{"file": it[1], "old": it[2], "new": it[3]} for it in re.finditer(r"^\w+: (.*)\n- (.*)\n\+ (.*)", (crate / "wrong.txt").read_text(), re.M)]
     for page in QUOTING:
         for file, number, old, new in re.findall(r"^(src/\S+):(\d+): (.*)  ->  (.*)$", (ROOT / page).read_text(), re.M):
             line = (crate / file).read_text().splitlines()[int(number) - 1]
             made = [line.replace(it["old"], it["new"]).strip() for it in edits if it["file"] == file and it["old"] in line]
             if line.strip() != old or new not in made:
-                yield f"{page}: no edit makes {old} in {file}:{number} to {new}"
+                yield f"{page}: no planted mistake makes {old} in {file}:{number} to {new}"
 
 
 def headings(text):
@@ -162,21 +172,47 @@ def comments():
         yield place, "\n".join(item.doc)
 
 
+def spec_comments():
+    """Yields the comments of definitions: where each is, and its text."""
+    for file in sorted(ROOT.glob("crates/*/specs/**/*.antt")):
+        for number, line in enumerate(file.read_text().splitlines(), 1):
+            if line.lstrip().startswith("--"):
+                yield f"{file.relative_to(ROOT)}:{number}", line
+
+
 def retired():
     """Yields the retired words that are there."""
     texts = [(page, (ROOT / page).read_text(), RETIRED) for page in PLAIN]
-    rest = {word: RETIRED[word] for word in RETIRED if word not in PAGES_ONLY}
-    texts += [(place, text, rest) for place, text in comments()]
+    texts += [(place, text, RETIRED) for place, text in comments()]
+    texts += [(place, text, {word: RETIRED[word] for word in RETIRED if word not in DEFINED}) for place, text in spec_comments()]
     for place, text, words in texts:
         for word, other in words.items():
             if found := re.search(rf"\b({word})\b", prose(text), re.I):
                 yield f"{place}: “{found[0]}”: write: {other}"
 
 
-def too_long(pages):
-    """Yields the pages that have too many words, and those that have no limit."""
+def words_of(paths):
+    """Returns the words of these files, and of their paths."""
+    return {word for it in paths for word in re.findall(r"\w+", f"{it} {(ROOT / it).read_text(errors='replace')}")}
+
+
+def unknown_names(pages):
+    """Yields the names in code marks that the sources do not have: those with capitals or a low line inside."""
+    listed = subprocess.run(["git", "ls-files"], cwd=ROOT, capture_output=True, text=True, check=True).stdout.split()
+    known = ELSEWHERE | words_of(it for it in listed if not it.endswith(".md") and (ROOT / it).is_file())
     for page in pages:
-        words = len((ROOT / page).read_text().split())
+        text = (ROOT / page).read_text()
+        shown = set(re.findall(r"\w+", "".join(re.findall(r"^```.*?^```", text, re.M | re.S))))
+        for code in re.findall(r"`([\w:.]+)(?:\(\))?`", re.sub(r"^```.*?^```", "", text, flags=re.M | re.S)):
+            for name in re.findall(r"\b[A-Za-z]+(?:_\w+|[a-z][A-Z]\w+)", code):
+                if not {name, f"zerotrie_{name}"} & (known | shown):
+                    yield f"{page}: the sources have no {name}"
+
+
+def too_long(pages):
+    """Yields the pages that have too many words, and those that have no limit. The table of errors, which is a test, does not count."""
+    for page in pages:
+        words = len(re.sub(r"^\| `\w+Error::.*", "", (ROOT / page).read_text(), flags=re.M).split())
         if page not in LIMITS and page != "CHANGELOG.md":
             yield f"{page} has no limit of words in .ci/documents.py"
         elif words > LIMITS.get(page, words):
@@ -186,7 +222,7 @@ def too_long(pages):
 def main():
     listed = subprocess.run(["git", "ls-files", "*.md"], cwd=ROOT, capture_output=True, text=True, check=True).stdout.split()
     pages = [it for it in listed if (ROOT / it).exists()]
-    wrong = [*misquoted(), *not_planted(), *dead_links(pages), *retired(), *too_long(pages)]
+    wrong = [*misquoted(), *not_planted(), *dead_links(pages), *retired(), *unknown_names(it for it in pages if it != "CHANGELOG.md"), *too_long(pages)]
     print("\n".join([*wrong, f"{len(pages)} pages: {len(wrong)} faults in quotes, links, words and lengths"]))
     sys.exit(1 if wrong else 0)
 

@@ -3,11 +3,12 @@
 
 Each block of code in a doc comment of a crate, in README.md and in docs/CALLING.md becomes a test. So does each file of tests/rows: its
 rows show values that a clause fixes already. It sees the helpers of the proved tests, those of crates/zerotrie_tests/src/tests.rt.
+The table of errors in docs/CALLING.md becomes one test more.
 
 All are tests of one crate in a copy of the repository, since what costs time is the build of the libraries. An example is a file of
 its own, in which its lines have the numbers that they have in the docs. It sees the public names of its crate and of those that the
 crate stands on, and the names of OTHERS, unless it has a `main` and so is a whole program. A line that prints, `println!(rt; ..)?;
-// TEXT`, must print TEXT. A block that is marked, as ```text, is no example.
+// TEXT`, must print TEXT. A byte string that ends an `assert_eq!` is compared as a slice, as Rust does. A block that is marked, as ```text, is no example.
 """
 import pathlib
 import re
@@ -22,6 +23,7 @@ CRATES = (ROOT / "crates.txt").read_text()
 BELOW = dict(re.findall(r"^(\w+):(.*)", CRATES, re.M))  # what each crate stands on, static libraries aside
 OTHERS = "use serde_json::Value; use std::borrow::CowSlice; use std::collections::{BTreeMap, VecDeque}; use std::test::Fail; "
 PRINTS = re.compile(r"(println!\(rt; (.*)\)\?;) +// (.*)")
+BYTES = re.compile(r'^(\s*assert_eq!\(rt; .*, b"(?:[^"\\]|\\.)*")\);$', re.M)
 
 
 def blocks(file):
@@ -45,21 +47,33 @@ def blocks(file):
 def as_test(crates, start, code):
     """Returns the source of a test that runs the example."""
     text = "\n".join(PRINTS.sub(r'\1 assert_eq!(rt; format!(in rt.alloc(); \2)?.as_str(), r#"\3"#);', line) for line in code)
+    text = BYTES.sub(r"\1.as_slice());", text)
     if "fn main(" in text:
         return "\n" * start + text.replace("fn main(", "#[test] fn main(")
     uses = OTHERS + "".join(f"use {name}::*; " for name in crates)
     return uses + "#[test] fn main(rt: HostRuntime) -> Result<(), Fail> {" + "\n" * start + text + "\nOk(()) }\n"
 
 
+def texts():
+    """Returns the test that each error of the table in docs/CALLING.md has its text and its advice."""
+    rows = re.findall(r"^\| `(\w+Error::.*?)` \| (.*?) \| (.*?) \|$", (ROOT / "docs" / "CALLING.md").read_text(), re.M)
+    body = "".join(
+        f'let error = {error}; assert_eq!(rt; format!(in rt.alloc(); "{{error}}")?.as_str(), "{text}"); assert_eq!(rt; error.advice(), "{advice}"); '
+        for error, text, advice in rows
+    )
+    uses = "use std::test::Fail; use zerotrie::dense::RecordError; use zerotrie::*; "
+    return f"{uses}#[test] fn main(rt: HostRuntime) -> Result<(), Fail> {{ {body}Ok(()) }}\n"
+
+
 def found():
     """Returns the examples by the names of the files that their tests go to: for each where it stands, and its test."""
-    examples = {}
+    examples = {"e0": (pathlib.Path("docs/CALLING.md"), "errors", texts())}
     for file in [*sorted(ROOT.glob("crates/*/src/**/*.rt")), *PAGES]:
         place = file.relative_to(ROOT)
         crate = place.parts[1] if file.suffix == ".rt" else ""
         seen = [it for it in [crate, *BELOW.get(crate, "").split()] if it in BELOW]
         for start, code in blocks(file):
-            examples[f"e{len(examples) + 1}"] = (place, start, as_test(seen, start, code))
+            examples[f"e{len(examples)}"] = (place, start, as_test(seen, start, code))
     return examples
 
 

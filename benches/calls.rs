@@ -231,86 +231,98 @@ pub fn hash_many(keys: &[u8], times: usize) -> usize {
     unsafe { hash_many_(keys.as_ptr(), keys.len(), times) }
 }
 
-/// The same work by the original.
+/// The same work by a package that has the types of the crate.
+#[allow(unused_macros)]
+macro_rules! calls_of {
+    ($name:ident) => {
+        use super::{Kind, asked_by};
+        use std::collections::BTreeMap;
+        use $name::dense::ZeroAsciiDenseSparse2dTrieOwned;
+        use $name::{ZeroAsciiIgnoreCaseTrie, ZeroTrieExtendedCapacity, ZeroTriePerfectHash, ZeroTrieSimpleAscii};
+
+        pub fn asked(kind: Kind, bytes: &[u8], keys: &[&[u8]]) -> usize {
+            match kind {
+                Kind::Simple => asked_by(keys, |key| ZeroTrieSimpleAscii::from_bytes(bytes).get(key)),
+                Kind::Ignore => asked_by(keys, |key| ZeroAsciiIgnoreCaseTrie::from_bytes(bytes).get(key)),
+                Kind::Hash => asked_by(keys, |key| ZeroTriePerfectHash::from_bytes(bytes).get(key)),
+                Kind::Ext => asked_by(keys, |key| ZeroTrieExtendedCapacity::from_bytes(bytes).get(key)),
+            }
+        }
+
+        pub fn listed(kind: Kind, bytes: &[u8]) -> usize {
+            match kind {
+                Kind::Simple => ZeroTrieSimpleAscii::from_bytes(bytes).iter().map(|(key, value)| key.len() + value).sum(),
+                Kind::Ignore => ZeroAsciiIgnoreCaseTrie::from_bytes(bytes).iter().map(|(key, value)| key.len() + value).sum(),
+                Kind::Hash => ZeroTriePerfectHash::from_bytes(bytes).iter().map(|(key, value)| key.len() + value).sum(),
+                Kind::Ext => ZeroTrieExtendedCapacity::from_bytes(bytes).iter().map(|(key, value)| key.len() + value).sum(),
+            }
+        }
+
+        pub fn mapped(kind: Kind, bytes: &[u8]) -> usize {
+            match kind {
+                Kind::Simple => ZeroTrieSimpleAscii::from_bytes(bytes).to_btreemap().len(),
+                Kind::Ignore => ZeroAsciiIgnoreCaseTrie::from_bytes(bytes).to_btreemap().len(),
+                Kind::Hash => ZeroTriePerfectHash::from_bytes(bytes).to_btreemap().len(),
+                Kind::Ext => ZeroTrieExtendedCapacity::from_bytes(bytes).to_btreemap().len(),
+            }
+        }
+
+        /// By steps of a cursor, in the kinds that have one.
+        pub fn stepped(kind: Kind, bytes: &[u8], keys: &[&[u8]]) -> Option<usize> {
+            match kind {
+                Kind::Simple => Some(asked_by(keys, |key| {
+                    let mut cursor = ZeroTrieSimpleAscii::from_bytes(bytes).cursor();
+                    for byte in key {
+                        cursor.step(*byte);
+                    }
+                    cursor.take_value()
+                })),
+                Kind::Ignore => Some(asked_by(keys, |key| {
+                    let mut cursor = ZeroAsciiIgnoreCaseTrie::from_bytes(bytes).cursor();
+                    for byte in key {
+                        cursor.step(*byte);
+                    }
+                    cursor.take_value()
+                })),
+                Kind::Hash | Kind::Ext => None,
+            }
+        }
+
+        pub fn built_from_map(kind: Kind, map: &BTreeMap<&[u8], usize>) -> usize {
+            match kind {
+                Kind::Simple => ZeroTrieSimpleAscii::<Vec<u8>>::try_from(map).unwrap().byte_len(),
+                Kind::Ignore => ZeroAsciiIgnoreCaseTrie::<Vec<u8>>::try_from(map).unwrap().byte_len(),
+                Kind::Hash => ZeroTriePerfectHash::<Vec<u8>>::try_from(map).unwrap().byte_len(),
+                Kind::Ext => ZeroTrieExtendedCapacity::<Vec<u8>>::try_from(map).unwrap().byte_len(),
+            }
+        }
+
+        pub fn built_from_items(kind: Kind, items: &[(&[u8], usize)]) -> usize {
+            let items = items.iter().copied();
+            match kind {
+                Kind::Simple => items.collect::<ZeroTrieSimpleAscii<Vec<u8>>>().byte_len(),
+                Kind::Ignore => items.collect::<ZeroAsciiIgnoreCaseTrie<Vec<u8>>>().byte_len(),
+                Kind::Hash => items.collect::<ZeroTriePerfectHash<Vec<u8>>>().byte_len(),
+                Kind::Ext => items.collect::<ZeroTrieExtendedCapacity<Vec<u8>>>().byte_len(),
+            }
+        }
+
+        pub fn dense(rows: &BTreeMap<&str, BTreeMap<&str, usize>>) -> ZeroAsciiDenseSparse2dTrieOwned {
+            ZeroAsciiDenseSparse2dTrieOwned::try_from_btree_map_str(rows, b'/').unwrap()
+        }
+    };
+}
+
 #[cfg(original)]
 pub mod original {
-    use super::{Kind, asked_by};
-    use original::_internal::PerfectByteHashMap;
-    use original::dense::ZeroAsciiDenseSparse2dTrieOwned;
-    use original::*;
-    use std::collections::BTreeMap;
-
-    pub fn asked(kind: Kind, bytes: &[u8], keys: &[&[u8]]) -> usize {
-        match kind {
-            Kind::Simple => asked_by(keys, |key| ZeroTrieSimpleAscii::from_bytes(bytes).get(key)),
-            Kind::Ignore => asked_by(keys, |key| ZeroAsciiIgnoreCaseTrie::from_bytes(bytes).get(key)),
-            Kind::Hash => asked_by(keys, |key| ZeroTriePerfectHash::from_bytes(bytes).get(key)),
-            Kind::Ext => asked_by(keys, |key| ZeroTrieExtendedCapacity::from_bytes(bytes).get(key)),
-        }
-    }
-
-    pub fn listed(kind: Kind, bytes: &[u8]) -> usize {
-        match kind {
-            Kind::Simple => ZeroTrieSimpleAscii::from_bytes(bytes).iter().map(|(key, value)| key.len() + value).sum(),
-            Kind::Ignore => ZeroAsciiIgnoreCaseTrie::from_bytes(bytes).iter().map(|(key, value)| key.len() + value).sum(),
-            Kind::Hash => ZeroTriePerfectHash::from_bytes(bytes).iter().map(|(key, value)| key.len() + value).sum(),
-            Kind::Ext => ZeroTrieExtendedCapacity::from_bytes(bytes).iter().map(|(key, value)| key.len() + value).sum(),
-        }
-    }
-
-    pub fn mapped(kind: Kind, bytes: &[u8]) -> usize {
-        match kind {
-            Kind::Simple => ZeroTrieSimpleAscii::from_bytes(bytes).to_btreemap().len(),
-            Kind::Ignore => ZeroAsciiIgnoreCaseTrie::from_bytes(bytes).to_btreemap().len(),
-            Kind::Hash => ZeroTriePerfectHash::from_bytes(bytes).to_btreemap().len(),
-            Kind::Ext => ZeroTrieExtendedCapacity::from_bytes(bytes).to_btreemap().len(),
-        }
-    }
-
-    /// By steps of a cursor, in the kinds that have one.
-    pub fn stepped(kind: Kind, bytes: &[u8], keys: &[&[u8]]) -> Option<usize> {
-        match kind {
-            Kind::Simple => Some(asked_by(keys, |key| {
-                let mut cursor = ZeroTrieSimpleAscii::from_bytes(bytes).cursor();
-                for byte in key {
-                    cursor.step(*byte);
-                }
-                cursor.take_value()
-            })),
-            Kind::Ignore => Some(asked_by(keys, |key| {
-                let mut cursor = ZeroAsciiIgnoreCaseTrie::from_bytes(bytes).cursor();
-                for byte in key {
-                    cursor.step(*byte);
-                }
-                cursor.take_value()
-            })),
-            Kind::Hash | Kind::Ext => None,
-        }
-    }
-
-    pub fn built_from_map(kind: Kind, map: &BTreeMap<&[u8], usize>) -> usize {
-        match kind {
-            Kind::Simple => ZeroTrieSimpleAscii::<Vec<u8>>::try_from(map).unwrap().byte_len(),
-            Kind::Ignore => ZeroAsciiIgnoreCaseTrie::<Vec<u8>>::try_from(map).unwrap().byte_len(),
-            Kind::Hash => ZeroTriePerfectHash::<Vec<u8>>::try_from(map).unwrap().byte_len(),
-            Kind::Ext => ZeroTrieExtendedCapacity::<Vec<u8>>::try_from(map).unwrap().byte_len(),
-        }
-    }
-
-    pub fn built_from_items(kind: Kind, items: &[(&[u8], usize)]) -> usize {
-        let items = items.iter().copied();
-        match kind {
-            Kind::Simple => items.collect::<ZeroTrieSimpleAscii<Vec<u8>>>().byte_len(),
-            Kind::Ignore => items.collect::<ZeroAsciiIgnoreCaseTrie<Vec<u8>>>().byte_len(),
-            Kind::Hash => items.collect::<ZeroTriePerfectHash<Vec<u8>>>().byte_len(),
-            Kind::Ext => items.collect::<ZeroTrieExtendedCapacity<Vec<u8>>>().byte_len(),
-        }
-    }
+    calls_of!(original);
 
     pub fn hash(keys: &[u8]) -> usize {
-        PerfectByteHashMap::try_new(keys).unwrap().as_bytes().len()
+        original::_internal::PerfectByteHashMap::try_new(keys).unwrap().as_bytes().len()
     }
-    pub fn dense(rows: &BTreeMap<&str, BTreeMap<&str, usize>>) -> ZeroAsciiDenseSparse2dTrieOwned {
-        ZeroAsciiDenseSparse2dTrieOwned::try_from_btree_map_str(rows, b'/').unwrap()
-    }
+}
+
+#[cfg(plain)]
+pub mod plain {
+    calls_of!(zerotrie);
 }

@@ -82,6 +82,8 @@ fn look_ups(title: &str, sets: &[Set], rounds: usize, lie: Lie, asked: impl Fn(&
             let bytes = &calls::built(kind, set.pairs());
             let mut contestants: Contestants<'_> = vec![
                 ("here", Box::new(|| calls::ask_many(kind, bytes, keys, turns))),
+                #[cfg(plain)]
+                ("plain Rust", turned(turns, move || calls::plain::asked(kind, bytes, keys))),
                 #[cfg(original)]
                 ("the crate", turned(turns, move || calls::original::asked(kind, bytes, keys))),
             ];
@@ -147,6 +149,8 @@ fn listings(sets: &[Set], rounds: usize) -> Table {
                 ("here, a stream", Box::new(|| calls::lend_many(kind, bytes, turns))),
                 ("a walker by hand", turned(turns, || walker::listed(kind, bytes))),
                 ("here, an iterator", Box::new(|| calls::list_many(kind, bytes, turns))),
+                #[cfg(plain)]
+                ("plain Rust", turned(turns, || calls::plain::listed(kind, bytes))),
                 #[cfg(original)]
                 ("the crate", turned(turns, || calls::original::listed(kind, bytes))),
             ];
@@ -165,6 +169,8 @@ fn ordered_maps(sets: &[Set], rounds: usize) -> Table {
             let bytes = &calls::built(kind, set.pairs());
             let contestants: Contestants<'_> = vec![
                 ("here", Box::new(|| calls::map_many(kind, bytes, turns))),
+                #[cfg(plain)]
+                ("plain Rust", turned(turns, || calls::plain::mapped(kind, bytes))),
                 #[cfg(original)]
                 ("the crate", turned(turns, || calls::original::mapped(kind, bytes))),
             ];
@@ -183,6 +189,10 @@ fn cursors(sets: &[Set], rounds: usize) -> Table {
         for kind in kinds_of(set) {
             let bytes = &calls::built(kind, set.pairs());
             let mut contestants: Contestants<'_> = vec![("here", turned(turns, move || calls::stepped(kind, bytes, keys)))];
+            #[cfg(plain)]
+            if calls::plain::stepped(kind, bytes, &[]).is_some() {
+                contestants.push(("plain Rust", turned(turns, move || calls::plain::stepped(kind, bytes, keys).unwrap())));
+            }
             #[cfg(original)]
             if calls::original::stepped(kind, bytes, &[]).is_some() {
                 contestants.push(("the crate", turned(turns, move || calls::original::stepped(kind, bytes, keys).unwrap())));
@@ -220,13 +230,18 @@ fn builds(title: &str, sets: &[Set], rounds: usize, is_sorted: bool) -> Table {
         let mut out = vec![0; 64 * flat.bytes() + 64];
         let turns = (50_000 / pairs.len()).max(1);
         let pairs = &pairs;
-        #[cfg(original)]
+        #[cfg(any(original, plain))]
         let ordered: &BTreeMap<&[u8], usize> = &pairs.iter().copied().collect();
         for kind in kinds_of(set) {
             let route = if is_sorted { 0 } else { 1 };
             #[allow(unused_mut)]
             let mut contestants: Contestants<'_> = vec![
                 ("here", Box::new(|| calls::build_many(kind, route, flat, turns, &mut out))),
+                #[cfg(plain)]
+                ("plain Rust", turned(turns, move || match is_sorted {
+                    true => calls::plain::built_from_map(kind, ordered),
+                    false => calls::plain::built_from_items(kind, pairs),
+                })),
                 #[cfg(original)]
                 ("the crate", turned(turns, move || match is_sorted {
                     true => calls::original::built_from_map(kind, ordered),

@@ -120,31 +120,15 @@ int main(void) {
 
 def crate():
     room, body = folder("rust"), fragments()["rs"]
-    run("tar", "-xzf", f"{DIST}/zerotrie-proved-{VERSION}.crate", "-C", room)
+    run("tar", "-xzf", f"{DIST}/zerotrie-{VERSION}.crate", "-C", room)
     run("cargo", "new", "--quiet", "--vcs", "none", room / "shown")
-    run("cargo", "add", "--quiet", "--offline", "--path", f"../zerotrie-proved-{VERSION}", cwd=room / "shown")
+    run("cargo", "add", "--quiet", "--offline", "--path", f"../zerotrie-{VERSION}", cwd=room / "shown")
     (room / "shown/src/main.rs").write_text(source("rs", body))
     assert run("cargo", "run", "--quiet", "--offline", cwd=room / "shown").splitlines() == wanted(body)
 
 
-def crate_without_library():
-    at = HOME / f"rust/zerotrie-proved-{VERSION}"
-    (at / "native").rename(at / "elsewhere")
-    try:
-        run("cargo", "doc", "--quiet", "--offline", cwd=at)
-        run("cargo", "check", "--quiet", "--offline", cwd=at)
-        run("cargo", "build", "--quiet", "--offline", cwd=at, status=101)
-    finally:
-        (at / "elsewhere").rename(at / "native")
-
-
-def crate_by_pkg_config(packages):
-    at = HOME / f"rust/zerotrie-proved-{VERSION}"
-    (at / "native").rename(at / "elsewhere")
-    try:
-        run("cargo", "test", "--quiet", "--offline", cwd=at, env={"PKG_CONFIG_PATH": packages})
-    finally:
-        (at / "elsewhere").rename(at / "native")
+def crate_tests():
+    run("cargo", "test", "--quiet", "--offline", cwd=HOME / f"rust/zerotrie-{VERSION}")
 
 
 def package(python, what, extension):
@@ -231,12 +215,28 @@ def no_kit():
     assert shutil.which("rt") is None and not glob.glob("/opt/rattle/*") and os.getuid() != 0
 
 
+def as_printed(prefix):
+    """The lines of README, section by section, in the folder of the archive, beside which the wheel lies."""
+    page = (prefix / "README.md").read_text()
+    for wheel in glob.glob(f"{DIST}/*.whl"):
+        shutil.copy(wheel, prefix)
+    for language, fence, prints in (("C", "c", ["crp: carp carpet"]), ("C++", "cpp", ["crp: carp carpet"]), ("Python", "python", None)):
+        section = re.search(rf"^## {re.escape(language)}\n(.*?)(?=^## |\Z)", page, re.S | re.M)[1]
+        body = re.search(rf"```{fence}\n(.*?)```", section, re.S)
+        (prefix / "program.py").write_text(body[1])
+        lines = re.findall(r"^    (.*)$", section.replace(body[0], ""), re.M)
+        printed = run("sh", "-eu", "-c", "\n".join(lines), cwd=prefix).splitlines()
+        wants = prints or wanted(body[1])
+        assert len(lines) == 3 and printed[-len(wants):] == wants, (lines, printed)
+
+
 def unpacked():
     tried("no kit is here, and this is a plain user", no_kit)
     tried("SHA256SUMS", lambda: run("sha256sum", "-c", "SHA256SUMS", cwd=DIST))
     run("tar", "-xzf", f"{DIST}/{NAME}.tar.gz", "-C", HOME)
     prefix = HOME / NAME
     packages = prefix / "lib/pkgconfig"
+    tried("README's lines as they are printed", lambda: as_printed(prefix))
     tried("C by pkg-config", lambda: by_pkg_config("c", "c", packages))
     tried("C by pkg-config --static", lambda: by_pkg_config("c-static", "c", packages, static=True))
     tried("C++ by pkg-config", lambda: by_pkg_config("cpp", "cpp", packages))
@@ -249,8 +249,7 @@ def unpacked():
     if shutil.which("cargo", path="/tried/rust/bin"):
         os.environ["PATH"] = f"/tried/rust/bin:{os.environ['PATH']}"
         tried("the crate, by cargo add --path", crate)
-        tried("cargo doc and check without a library; build says what it lacks", crate_without_library)
-        tried("the crate's tests, the library by pkg-config", lambda: crate_by_pkg_config(packages))
+        tried("the crate's tests", crate_tests)
     for name, python in pythons().items():
         tried(f"the wheel in {name} Python", lambda: package(python, "*.whl", True))
         tried(f"the sdist in {name} Python", lambda: package(python, f"zerotrie-{VERSION}.tar.gz", True))

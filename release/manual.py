@@ -61,17 +61,22 @@ class Help:
                 self.rest += block
 
     def paragraphs(self):
-        """What stands after the sections, by the word in front of each: a line without such a word goes on with the one before."""
+        """What stands after the sections, by the word in front of each. A line without such a word goes on with the one before, but an
+        example is one line."""
         found = []
         for line in self.rest:
             start = re.match(r"([A-Z][\w ]*): (.*)", line)
             if start:
                 found.append([start[1], start[2]])
-            elif found:
+            elif found and found[-1][0] != "Example":
                 found[-1][1] += f" {line.strip()}"
             else:
                 found.append(["", line.strip()])
         return found
+
+    def example(self):
+        """The line of the example. None if there is none."""
+        return next((text for head, text in self.paragraphs() if head == "Example"), None)
 
 
 TOP = Help()
@@ -100,9 +105,9 @@ def manual():
         lines += [f".SS {name}", roff(page.about) + ".", f".PP\n\\fB{roff(page.usage)}\\fR"]
         for section in ("Arguments", "Options"):
             lines += map(tagged, page.sections.get(section, []))
-        for head, text in page.paragraphs():
-            lines.append(f".PP\n{roff(head)}: \\fB{roff(text)}\\fR" if head == "Example" else f".PP\n{roff(head)}: {roff(text)}")
+        lines += [f".PP\n{roff(f'{head}: {text}' if head else text)}" for head, text in page.paragraphs() if head != "Example"]
     lines += notes()
+    lines += [".SH EXAMPLES", *(f".PP\n{roff(page.about)}:\n.PP\n.RS\n\\fB{roff(page.example())}\\fR\n.RE" for page in HELPS.values())]
     lines += [".SH OPTIONS", *map(tagged, TOP.sections["Options"]), ".SH EXIT STATUS"]
     lines += [roff(text) for head, text in TOP.paragraphs() if head in ("Status", "")]
     lines += [".SH SEE ALSO", "The file FORMAT.md describes the bytes, and zerotrie.h the library for C."]

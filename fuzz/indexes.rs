@@ -75,23 +75,15 @@ fn look(bytes: &[u8], pairs: &BTreeMap<Vec<u8>, usize>, others: &[Vec<u8>]) {
     }
 }
 
-/// What the hasher of the format makes of bytes after this state.
-fn hashed(state: u64, bytes: &[u8]) -> u64 {
-    const MULTIPLIER: u64 = 0x9E37_79B9_7F4A_7C15;
-    let folded = |a: u64, b: u64| {
-        let product = u128::from(a) * u128::from(b);
-        product as u64 ^ (product >> 64) as u64
-    };
-    let four = |at: usize| u64::from(u32::from_le_bytes(bytes[at..at + 4].try_into().unwrap()));
-    match bytes {
-        [] => folded(state, MULTIPLIER),
-        [.., last] if bytes.len() < 4 => {
-            let middle = bytes[bytes.len() / 2];
-            let short = u64::from(bytes[0]) | u64::from(middle) << 8 | u64::from(*last) << 16;
-            folded(state ^ short, MULTIPLIER ^ (2 * bytes.len() as u64))
-        }
-        _ => folded(state ^ (four(0) | four(bytes.len() - 4) << 32), MULTIPLIER ^ (2 * bytes.len() as u64)),
-    }
+const PI: u64 = 0x243F_6A88_85A3_08D3;
+const GOLDEN: u64 = 0x9E37_79B9_7F4A_7C15;
+
+/// The hash of a key of eight bytes, by docs/FORMAT.md.
+fn hashed(seed: u64, key: [u8; 8]) -> u64 {
+    let number = u64::from_le_bytes(key);
+    let factor = seed.rotate_left(32) ^ GOLDEN ^ 8;
+    let product = u128::from(number ^ seed ^ PI) * u128::from(number ^ factor);
+    product as u64 ^ (product >> 64) as u64
 }
 
 /// 17 keys of eight bytes for one bucket under each of this many seeds. A build takes the seed after them, and after eight it is refused.
@@ -99,16 +91,16 @@ fn crowds() {
     for seeds in 1..=8u64 {
         let count = 2 * 17 * seeds;
         let mut pairs = BTreeMap::new();
-        for seed in 0..seeds {
-            let state = hashed(0x243F_6A88_85A3_08D3, &seed.to_le_bytes());
-            let all = (0u64..).map(|number| (number << 8 | seed).to_le_bytes().to_vec());
-            let crowd = all.filter(|key| (hashed(state, key) >> 32) * count >> 32 == 0);
-            pairs.extend(crowd.take(17).map(|key| (key, 5)));
+        for tried in 0..seeds {
+            let seed = tried.wrapping_mul(GOLDEN);
+            let all = (0u64..).map(|number| (number << 8 | tried).to_le_bytes());
+            let crowd = all.filter(|key| (hashed(seed, *key) >> 32) * count >> 32 == 0);
+            pairs.extend(crowd.take(17).map(|key| (key.to_vec(), 5)));
         }
         let flat = Flat::of_pairs(pairs.iter().map(|(key, value)| (key.as_slice(), *value)));
         match index_calls::built(1, &flat) {
             Ok(bytes) => {
-                assert!(seeds < 8 && bytes.starts_with(&seeds.to_le_bytes()), "another seed than {seeds}");
+                assert!(seeds < 8 && bytes.starts_with(&seeds.wrapping_mul(GOLDEN).to_le_bytes()), "another seed than number {seeds}");
                 look(&bytes, &pairs, &[]);
             }
             Err(error) => assert!(seeds == 8 && error == usize::MAX - 3, "a build from seed {seeds} on is refused"),
