@@ -167,7 +167,7 @@ passes counts found whole before after f next count old =
 pub ends : (kind : Kind) (counts : ℕ → Bool) (text : List ℕ) (m : Map) (found : Option ℕ) (before after : Along) → NextFront before None after
     → Finds counts found before (last_of counts None (common_prefixes kind m text)) → IsLast counts (look kind m) text found
 ends kind counts text m found before after next old =
-    subst (IsLast counts (look kind m) text) (sym (sym (ap (last_of counts found) (next old.0 old.1)) ∙ old.2)) (last_is counts (look kind m) text)
+    subst (IsLast counts (look kind m) text) (sym (sym (ap (last_of counts found) (next old.0 old.1).0) ∙ old.2)) (last_is counts (look kind m) text)
 
 -- a key that the text begins with, by its length
 count : (text key rest : List ℕ) → text ≡ key ++ rest → (length key ≤ length text) × (take (length key) text ≡ key)

@@ -12,6 +12,7 @@ pub use Rattle.zerotrie_core.specs.Cursors
 pub use Rattle.zerotrie_core.specs.Machine
 pub use Rattle.zerotrie_core.specs.Places
 pub use Rattle.zerotrie_core.specs.Listings
+pub use Rattle.zerotrie_core.specs.Skips
 pub use Rattle.zerotrie_core.specs.Parts
 pub use Rattle.zerotrie_core.specs.Values
 pub use Rattle.zerotrie_core.specs.Prefixes

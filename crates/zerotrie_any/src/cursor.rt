@@ -1,11 +1,12 @@
 //! Cursors, which follow a key byte by byte.
 
-ghost use Rattle.std.specs.Prelude.{⊤, ◌≡◌, ◌≢◌, ◌↔◌, [], ℕ, IsTrue, IfSome, IfNone, IfOk};
+ghost use Rattle.std.specs.Prelude.{⊤, ◌≡◌, ◌≢◌, ◌≤◌, ◌↔◌, [], ℕ, length, IsTrue, IfSome, IfNone, IfOk};
 ghost use Rattle.std.specs.Option.{option_map};
 ghost use Rattle.zerotrie_core.specs.Maps.{Pairs};
 ghost use Rattle.zerotrie_core.specs.Texts.{Lists};
 ghost use Rattle.zerotrie_core.specs.Listings.{to_come};
 ghost use Rattle.zerotrie_core.specs.Places.{nowhere, IsStep, IsTake, IsProbe, FollowsRun};
+ghost use Rattle.zerotrie_core.specs.Skips.{IsGrouped};
 ghost use Rattle.zerotrie_any.specs.Stands.{in_front, ListsFrom};
 ghost use Rattle.zerotrie_any.specs.Flavors.{flavor_kind};
 ghost use Rattle.zerotrie_any.specs.Walks.{IsWalk};
@@ -97,8 +98,11 @@ impl<'a> ZeroTrieCursor<'a> {
     ///
     /// An error means that an allocation failed.
     pub fn stream(&self, alloc: Global) -> Result<ZeroTrieStream<'a>, AllocError>
-        ensures { IfOk result (λ s. (pairs : Pairs) → ListsFrom self.now pairs
+        ensures lists { IfOk result (λ s. (pairs : Pairs) → ListsFrom self.now pairs
             → s.left ≡ to_come pairs) }
+        ensures most { IfOk result (λ s. length s.left.pairs ≤ length self.now.place.trie) }
+        ensures grouped { IfOk result (λ s. (pairs : Pairs) → ListsFrom self.now pairs
+            → IsGrouped s) }
     {
         let place = self.place.clone()?;
         by_flavor!(self.flavor, ZeroTrieStream::from_cursor::<_>(alloc, place))
@@ -107,8 +111,9 @@ impl<'a> ZeroTrieCursor<'a> {
     /// Returns an iterator over what remains of the keys, with their values. Does not change the
     /// cursor. The cursor may be inside a span. An error means that an allocation failed.
     pub fn iter(&self, alloc: Global) -> Result<ZeroTrieIterator<'a>, AllocError>
-        ensures { IfOk result (λ it. (pairs : Pairs) → ListsFrom self.now pairs
+        ensures lists { IfOk result (λ it. (pairs : Pairs) → ListsFrom self.now pairs
             → it ≡ to_come pairs) }
+        ensures most { IfOk result (λ it. length it.pairs ≤ length self.now.place.trie) }
     {
         let place = self.place.clone()?;
         by_flavor!(

@@ -68,9 +68,10 @@ impl<S: TrieStore> ZeroTrie<S> {
         alloc: Global,
         prefix: &[u8],
     ) -> Result<ZeroTrieIterator<'_>, AllocError>
-        ensures { IfOk result (λ it.
+        ensures lists { IfOk result (λ it.
             (pairs : Pairs) → Lists (flavor_kind self.now.flavor) (S.stored self.now.store) pairs
             → it ≡ to_come (beginning (flavor_kind self.now.flavor) prefix.now pairs)) }
+        ensures most { IfOk result (λ it. length it.pairs ≤ length (S.stored self.now.store)) }
     {
         let bytes = self.store.bytes();
         by_flavor!(

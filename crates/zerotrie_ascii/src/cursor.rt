@@ -8,6 +8,7 @@ ghost use Rattle.zerotrie_core.specs.Maps.{Pairs};
 ghost use Rattle.zerotrie_core.specs.Texts.{Lists};
 ghost use Rattle.zerotrie_core.specs.Listings.{to_come};
 ghost use Rattle.zerotrie_core.specs.Places.{IsStep, IsTake, IsProbe};
+ghost use Rattle.zerotrie_core.specs.Skips.{IsGrouped};
 ghost use Rattle.zerotrie_any.specs.Auto.{is_ascii};
 ghost use Rattle.zerotrie_any.specs.Walks.{IsWalk};
 ghost use Rattle.zerotrie_ascii.specs.ListedTexts.{AreTexts};
@@ -114,6 +115,7 @@ impl<'a, K: AsciiKind> AsciiCursor<'a, K> {
         ensures lists { (pairs : Pairs) → Lists K.kind self.now pairs
             → result.left ≡ to_come pairs }
         ensures most { length result.left.pairs ≤ length self.now }
+        ensures grouped { (pairs : Pairs) → Lists K.kind self.now pairs → IsGrouped result }
     {
         ZeroTrieStream::new::<K>(alloc, self.trie)
     }

@@ -60,6 +60,7 @@ impl<'a> ZeroTrieStringIterator<'a> {
             → it ≡ to_come (beginning K.kind prefix.now pairs)) }
         ensures texts { (pairs : Pairs) → Lists K.kind bytes.now pairs
             → AreTexts (beginning K.kind prefix.now pairs) }
+        ensures most { IfOk result (λ it. length it.pairs ≤ length bytes.now) }
     {
         Ok(ZeroTrieStringIterator {
             inner: ZeroTrieIterator::with_prefix::<K>(alloc, bytes, prefix)?,
@@ -190,6 +191,7 @@ impl<K: AsciiKind, S: TrieStore> AsciiTrie<K, S> {
             → it ≡ to_come (beginning K.kind prefix.now pairs)) }
         ensures texts { (pairs : Pairs) → Lists K.kind (S.stored self.now.store) pairs
             → AreTexts (beginning K.kind prefix.now pairs) }
+        ensures most { IfOk result (λ it. length it.pairs ≤ length (S.stored self.now.store)) }
     {
         ZeroTrieStringIterator::with_prefix::<K>(alloc, self.as_bytes(), prefix)
     }

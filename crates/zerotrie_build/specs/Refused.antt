@@ -43,8 +43,16 @@ pub record AreFaultless (route : Route) (kind : Kind) (pairs : Pairs) : Type 0 w
   pub bytes : All (λ e. All (λ b. b < edge_limit kind) e.0) pairs
   pub case : IsCaseConsistent kind pairs
 
+-- What comes before an error in the order of the question shows none: the route takes the pairs, and where keys differ
+-- in case, the bytes of all keys are bytes of the kind, too.
+abbrev pub AreFaultlessBefore : Route → Kind → Pairs → ZeroTrieBuildError → Type 0
+AreFaultlessBefore route kind pairs NonAsciiError = Takes route pairs
+AreFaultlessBefore route kind pairs MixedCase = Takes route pairs × All (λ e. All (λ b. b < edge_limit kind) e.0) pairs
+AreFaultlessBefore route kind pairs e = Unit {0}
+
 -- The result of the question which keys show why a build of the pairs by the route fails: keys that show an
--- error, which is one of the route and has its cause, or none, and then no keys show one.
+-- error, which is one of the route, has its cause and is the first in order, or none, and then no keys show one.
 abbrev pub IsWhyRefused : Route → Kind → Pairs → Option Refusal → Type 0
-IsWhyRefused route kind pairs (Some r) = AreShown kind pairs r.error r.first r.second × HasCause route kind pairs r.error
+IsWhyRefused route kind pairs (Some r) =
+    AreShown kind pairs r.error r.first r.second × HasCause route kind pairs r.error × AreFaultlessBefore route kind pairs r.error
 IsWhyRefused route kind pairs None = AreFaultless route kind pairs

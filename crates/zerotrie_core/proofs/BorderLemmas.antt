@@ -154,5 +154,5 @@ pub ends : (kind : Kind) (bytes delimiters text : List ℕ) (m : Map) (means : M
     → Finds (is_border delimiters text) found before (last_of (is_border delimiters text) None (fronts (value_at kind means.pairs) 0 text))
     → IsLongestPrefixAt kind m delimiters text found
 ends kind bytes delimiters text m means found before after next old =
-    subst (IsLongest (at_borders delimiters text (look kind m)) text (length text)) (sym (sym (ap (last_of (is_border delimiters text) found) (next old.0 old.1)) ∙ old.2))
+    subst (IsLongest (at_borders delimiters text (look kind m)) text (length text)) (sym (sym (ap (last_of (is_border delimiters text) found) (next old.0 old.1).0) ∙ old.2))
     (last_is_longest delimiters text (value_at kind means.pairs) (look kind m) (λ key. ap (λ n. look kind n key) means.is ∙ look-map_of means.lists key))

@@ -57,8 +57,9 @@ abbrev pub most_left : Along → ℕ
 most_left s = length s.text - s.len + (if s.looked then 0 else 1)
 
 -- One call of `next`, on any bytes: it returns the length of a prefix of the text, which stays.
--- Whichever pairs are left, it returns and removes the first of the keys, or none was to come.
+-- Whichever pairs are left, it returns and removes the first of the keys, or none was to come, and none is.
 abbrev pub NextFront : Along → Option (ℕ × ℕ) → Along → Type 0
-NextFront before None after = (pairs : Pairs) → Leaves before pairs → fronts_left before pairs ≡ []
+NextFront before None after = (pairs : Pairs) → Leaves before pairs
+    → (fronts_left before pairs ≡ []) × (left : Pairs) × Leaves after left × (fronts_left after left ≡ [])
 NextFront before (Some f) after = (f.0 ≤ length before.text) × (after.text ≡ before.text)
     × ((pairs : Pairs) → Leaves before pairs → (left : Pairs) × Leaves after left × (fronts_left before pairs ≡ f ∷ fronts_left after left))

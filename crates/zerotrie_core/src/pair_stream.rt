@@ -1,6 +1,6 @@
 //! What lists pairs, each key borrowed from one buffer.
 
-ghost use Rattle.std.specs.Prelude.{◌≡◌, ℕ, List};
+ghost use Rattle.std.specs.Prelude.{◌≡◌, ℕ, List, Bool, true, IfErr, IsTrue};
 ghost use Rattle.zerotrie_core.specs.Listings.{Left, ListsOne, MemoryOnly, item_of};
 
 use crate::stream::ZeroTrieStream;
@@ -32,11 +32,15 @@ pub trait PairStream {
     // The current pair.
     ghost current: { Self → List ℕ × ℕ };
 
+    // Whether a call of `advance` may fail. If not, it does not allocate.
+    ghost can_fail: { Bool } = { true };
+
     /// Moves to the next pair, and returns whether there is one. An error ends the stream. The only
     /// error is a failed allocation.
     fn advance(&mut self) -> Result<bool, AllocError>
-        ensures { ListsOne (λ key. key) MemoryOnly (left self.old)
-            (item_of result (current self.new)) (left self.new) };
+        ensures lists { ListsOne (λ key. key) MemoryOnly (left self.old)
+            (item_of result (current self.new)) (left self.new) }
+        ensures fails { IfErr result (λ _. IsTrue can_fail) };
 
     /// Returns the key of the current pair, the one that the last call of `advance` moved to.
     fn key(&self) -> &[u8]

@@ -215,9 +215,11 @@ impl<'a, A: Allocator + Copy> ZeroTrieStream<'a, A> {
     ghost use Rattle.zerotrie_core.specs.Listings.{to_come, rest_after};
     ghost use Rattle.zerotrie_core.specs.Skips.{IsGrouped};
     ghost use Rattle.zerotrie_core.specs.listing.Grouped.{AreGrouped};
+    ghost use Rattle.zerotrie_core.specs.listing.Listed.{listed};
 
     /// Lists the pairs of these bytes. It does not allocate before the first call of `advance`.
     pub fn new<K: ZeroTrieWithOptions>(alloc: A, bytes: &'a [u8]) -> Self
+        ensures always { result.left ≡ to_come (listed K.kind bytes.now) }
         ensures lists { (pairs : Pairs) → Lists K.kind bytes.now pairs → result.left ≡ to_come pairs }
         ensures most { length result.left.pairs ≤ length bytes.now }
         ensures fresh { result.left.ended ≡ false }
@@ -235,6 +237,7 @@ impl<'a, A: Allocator + Copy> ZeroTrieStream<'a, A> {
 
     /// Lists the pairs of these bytes, each key with this prefix.
     fn behind<K: ZeroTrieWithOptions>(front: Vec<u8, A>, bytes: &'a [u8]) -> Self
+        ensures always { result.left ≡ to_come (with_run front.items (listed K.kind bytes.now)) }
         ensures lists { (pairs : Pairs) → Lists K.kind bytes.now pairs
             → result.left ≡ to_come (with_run front.items pairs) }
         ensures most { length result.left.pairs ≤ length bytes.now }

@@ -11,6 +11,7 @@ ghost use Rattle.zerotrie_core.specs.Borders.{IsLongestPrefixAt};
 ghost use Rattle.zerotrie_core.specs.Faults.{IsFirstFault};
 ghost use Rattle.zerotrie_core.specs.Listings.{to_come};
 ghost use Rattle.zerotrie_core.specs.Prefixes.{IsLongestPrefix, at_front};
+ghost use Rattle.zerotrie_core.specs.Skips.{IsGrouped};
 ghost use Rattle.zerotrie_core.specs.Values.{first_key_of};
 ghost use Rattle.zerotrie_core.specs.walk.Seen.{LiesIn};
 ghost use Rattle.zerotrie_core.specs.walk.Texts.{text_visits};
@@ -172,6 +173,8 @@ pub trait Trie {
         ensures lists { (pairs : Pairs) → Lists (kind self.now) (bytes self.now) pairs
             → result.left ≡ to_come pairs }
         ensures most { length result.left.pairs ≤ length (bytes self.now) }
+        ensures grouped { (pairs : Pairs) → Lists (kind self.now) (bytes self.now) pairs
+            → IsGrouped result }
     {
         by_kind!(
             self.trie_kind(),
@@ -197,6 +200,8 @@ pub trait Trie {
             (pairs : Pairs) → Lists (kind self.now) (bytes self.now) pairs
             → s.left ≡ to_come (beginning (kind self.now) prefix.now pairs)) }
         ensures most { IfOk result (λ s. length s.left.pairs ≤ length (bytes self.now)) }
+        ensures grouped { IfOk result (λ s.
+            (pairs : Pairs) → Lists (kind self.now) (bytes self.now) pairs → IsGrouped s) }
     {
         by_kind!(
             self.trie_kind(),

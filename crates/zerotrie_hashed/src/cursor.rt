@@ -1,11 +1,12 @@
 //! Cursors, which follow a key byte by byte.
 
-ghost use Rattle.std.specs.Prelude.{⊤, ◌≡◌, ◌≢◌, ◌↔◌, [], ℕ, IsTrue, IfSome, IfNone, IfOk};
+ghost use Rattle.std.specs.Prelude.{⊤, ◌≡◌, ◌≢◌, ◌≤◌, ◌↔◌, [], ℕ, length, IsTrue, IfSome, IfNone, IfOk};
 ghost use Rattle.std.specs.Option.{option_map};
 ghost use Rattle.zerotrie_core.specs.Maps.{Pairs};
 ghost use Rattle.zerotrie_core.specs.Texts.{Lists};
 ghost use Rattle.zerotrie_core.specs.Listings.{to_come};
 ghost use Rattle.zerotrie_core.specs.Places.{nowhere, ListsAt, IsStep, IsTake, IsProbe, FollowsRun};
+ghost use Rattle.zerotrie_core.specs.Skips.{IsGrouped};
 ghost use Rattle.zerotrie_any.specs.Walks.{IsWalk};
 
 use crate::trie::{HashedKind, HashedTrie};
@@ -112,8 +113,11 @@ impl<'a, K: HashedKind> HashedCursor<'a, K> {
     ///
     /// An error means that an allocation failed.
     pub fn stream(&self, alloc: Global) -> Result<ZeroTrieStream<'a>, AllocError>
-        ensures { IfOk result (λ s. (pairs : Pairs) → ListsAt K.kind self.now pairs
+        ensures lists { IfOk result (λ s. (pairs : Pairs) → ListsAt K.kind self.now pairs
             → s.left ≡ to_come pairs) }
+        ensures most { IfOk result (λ s. length s.left.pairs ≤ length self.now.trie) }
+        ensures grouped { IfOk result (λ s. (pairs : Pairs) → ListsAt K.kind self.now pairs
+            → IsGrouped s) }
     {
         ZeroTrieStream::from_cursor::<K>(alloc, self.place.clone()?)
     }
@@ -121,8 +125,9 @@ impl<'a, K: HashedKind> HashedCursor<'a, K> {
     /// Returns an iterator over what remains of the keys, with their values. Does not change the
     /// cursor. The cursor may be inside a span. An error means that an allocation failed.
     pub fn iter(&self, alloc: Global) -> Result<ZeroTrieIterator<'a>, AllocError>
-        ensures { IfOk result (λ it. (pairs : Pairs) → ListsAt K.kind self.now pairs
+        ensures lists { IfOk result (λ it. (pairs : Pairs) → ListsAt K.kind self.now pairs
             → it ≡ to_come pairs) }
+        ensures most { IfOk result (λ it. length it.pairs ≤ length self.now.trie) }
     {
         ZeroTrieIterator::from_cursor::<K>(alloc, self.place.clone()?)
     }

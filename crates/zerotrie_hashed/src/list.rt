@@ -45,8 +45,10 @@ impl<K: HashedKind, S: TrieStore> HashedTrie<K, S> {
         alloc: Global,
         prefix: &[u8],
     ) -> Result<ZeroTrieIterator<'_>, AllocError>
-        ensures { IfOk result (λ it. (pairs : Pairs) → Lists K.kind (S.stored self.now.store) pairs
+        ensures lists { IfOk result (λ it.
+            (pairs : Pairs) → Lists K.kind (S.stored self.now.store) pairs
             → it ≡ to_come (beginning K.kind prefix.now pairs)) }
+        ensures most { IfOk result (λ it. length it.pairs ≤ length (S.stored self.now.store)) }
     {
         ZeroTrieIterator::with_prefix::<K>(alloc, self.as_bytes(), prefix)
     }

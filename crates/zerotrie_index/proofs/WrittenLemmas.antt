@@ -10,7 +10,7 @@ use Rattle.std.proofs.lemmas.List.Sums.{sum_by-cons, sum_by-append}
 use Rattle.std.proofs.lemmas.Bool.{eq-eqb, cases_lt}
 use Rattle.std.proofs.lemmas.Nat.Bits.{bit_at_or, bit_at-lt}
 use Rattle.std.proofs.Math.Nat.{mul-le-mul_right}
-use Rattle.std.proofs.Math.Seq.{take-add}
+use Rattle.std.proofs.Math.Seq.{take-add, take-append_seam}
 use Rattle.std.specs.Int.{bit_at}
 use Rattle.std.proofs.lemmas.List.Concat.{flat_map-append, flat_map-cons}
 use Rattle.zerotrie_base.specs.Maps.{Pairs, Ascends, RepeatsKey}
@@ -18,7 +18,7 @@ use Rattle.zerotrie_base.proofs.CallerLemmas.{spelling_is, ascends_apart}
 use Rattle.zerotrie_index.specs.Hash.{hash_of}
 use Rattle.zerotrie_index.specs.Layout.{word, place_of, mark_of, bucket_limit, AreRecords, IsAt, AreBuckets, IsIndex}
 use Rattle.zerotrie_index.specs.Hashed.{hashed_pairs, IsHashed, Rises, IsRecord}
-use Rattle.zerotrie_index.specs.Built.{record_size, records_size, IsTooLong, crowd, IsCrowded, CauseWith, IndexCause, AreWritten, IsIndexOf, IsIndexBuild, IsSortedIndexBuild, IsIndexBuildOfAll}
+use Rattle.zerotrie_index.specs.Built.{record_size, records_size, IsTooLong, crowd, IsCrowded, CauseWith, IndexCause, AreWritten, IsIndexOf, IsLaidOut, IsIndexFrom, IsIndexBuild, IsSortedIndexBuild, IsIndexBuildOfAll}
 use Rattle.zerotrie_index.specs.declared.error.ZeroIndexBuildError.{ZeroIndexBuildError}
 use Rattle.zerotrie_index.specs.declared.error.ZeroIndexBuildError.TheVariants.{Unsorted, DuplicateKey, Crowded, CapacityExceeded, OutOfMemory}
 use Rattle.zerotrie_index.specs.declared.builder.Hashed.{Hashed}
@@ -237,7 +237,7 @@ too_long a b e more h = elim h [
 ]
 
 -- the seed, the count, what was written, and the pool
-pub index_of : (seed count : ℕ) (pairs : Pairs) (table pool : List ℕ) → AreWritten seed count pairs (word seed ++ word count) table pool
+index_of : (seed count : ℕ) (pairs : Pairs) (table pool : List ℕ) → AreWritten seed count pairs (word seed ++ word count) table pool
     → seed < 2 ^ 64 → 0 < count → count < 2 ^ 32 → IsIndex pairs (table ++ pool)
 index_of seed count pairs table pool w small some few = record {
   seed = seed;
@@ -255,6 +255,57 @@ index_of seed count pairs table pool w small some few = record {
   short = w.short;
   distinct = λ twice. distinct_all seed count 0 0 w.buckets w.entries pool w.are_buckets w.distinct (subst RepeatsKey w.pairs_are twice);
 }
+
+-- the words of entries
+length-words : (entries : List ℕ) → length (flat_map word entries) ≡ 8 * length entries
+length-words [] = refl
+length-words (entry ∷ entries) =
+    let whole = ap length (flat_map-cons word entry entries) ∙ length-append (word entry) (flat_map word entries) in
+    let own = length-word entry in
+    let rest = length-words entries in
+    omega arith
+
+-- buckets have an entry each, and one more, and the records of their pairs
+buckets_size : (seed count number start : ℕ) (buckets : List Pairs) (entries pool : List ℕ) → AreBuckets seed count number start buckets entries pool
+    → (length entries ≡ 1 + length buckets) × (length pool ≡ records_size (flat_map (λ b. b) buckets))
+buckets_size seed count number start [] entries pool h = (ap length h.1, ap length h.3)
+buckets_size seed count number start (bucket ∷ buckets) [] pool h = absurd h
+buckets_size seed count number start (bucket ∷ buckets) (entry ∷ entries) pool h =
+    let rest = buckets_size seed count (suc number) (start + length h.0) buckets entries h.1 h.6 in
+    let whole = ap length h.2 ∙ length-append h.0 h.1 in
+    let own = length-records bucket h.0 h.3 in
+    let both = ap records_size (flat_map-cons (λ b. b) bucket buckets) ∙ sum_by-append record_size bucket (flat_map (λ b. b) buckets) in
+    let many = rest.0 in
+    let long = rest.1 in
+    ((let one : length (entry ∷ entries) ≡ 1 + length (bucket ∷ buckets) = omega arith in one), whole ∙ ap (λ n. n + length h.1) own ∙ ap (λ n. records_size bucket + n) long ∙ sym both)
+
+-- where an index has its seed, and how long it is
+pub laid_out : (pairs : Pairs) (bytes : List ℕ) (i : IsIndex pairs bytes) → IsLaidOut i.seed (length i.buckets) pairs bytes
+laid_out pairs bytes i = (
+  ap (take 8) i.bytes_are ∙ ap (λ n. take n (word i.seed ++ behind)) (sym (length-word i.seed)) ∙ take-append_seam (word i.seed) behind,
+  (let whole = ap length i.bytes_are ∙ length-append (word i.seed) behind in
+      let second = length-append (word (length i.buckets)) (flat_map word i.entries ++ i.pool) in
+      let third = length-append (flat_map word i.entries) i.pool in
+      let seed = length-word i.seed in
+      let count = length-word (length i.buckets) in
+      let words = length-words i.entries in
+      let size = buckets_size i.seed (length i.buckets) 0 0 i.buckets i.entries i.pool i.are_buckets in
+      let many = size.0 in
+      let long = size.1 in
+      let all = ap records_size i.pairs_are in
+      omega arith),
+)
+  where
+    behind : List ℕ
+    behind = word (length i.buckets) ++ (flat_map word i.entries ++ i.pool)
+
+-- what was written is an index by the seed, in so many buckets
+pub index_laid_out : (seed count : ℕ) (pairs : Pairs) (table pool : List ℕ) → AreWritten seed count pairs (word seed ++ word count) table pool
+    → seed < 2 ^ 64 → 0 < count → count < 2 ^ 32 → IsIndex pairs (table ++ pool) × IsLaidOut seed count pairs (table ++ pool)
+unfolding index_of
+index_laid_out seed count pairs table pool w small some few =
+    let i = index_of seed count pairs table pool w small some few in
+    (i, subst (λ n. IsLaidOut seed n pairs (table ++ pool)) w.many (laid_out pairs (table ++ pool) i))
 
 -- hashes in order rise
 pub rises_sorted : (hashed : List Hashed) → IsNonDecreasingBy (λ h. h.hash) hashed → Rises hashed
@@ -319,9 +370,12 @@ cause_permuted seed count given pairs CapacityExceeded permuted h = let same = s
 cause_permuted seed count given pairs OutOfMemory permuted h = h
 
 pub under : {B : Type 0} (bytes : B → List ℕ) (seed count : ℕ) (given pairs : Pairs) (r : Result B ZeroIndexBuildError) → IsPermutation given pairs
-    → MatchResult r (λ b. IsIndex pairs (bytes b)) (CauseWith (IsCrowded seed count pairs) pairs)
-    → MatchResult r (λ b. IsIndexOf given (bytes b)) (CauseWith (IsCrowded seed count given) given)
-under bytes seed count given pairs (Ok b) permuted is = (pairs, is, permuted)
+    → MatchResult r (λ b. IsIndex pairs (bytes b) × IsLaidOut seed count pairs (bytes b)) (CauseWith (IsCrowded seed count pairs) pairs)
+    → MatchResult r (λ b. IsIndexOf given (bytes b) × IsLaidOut seed count given (bytes b)) (CauseWith (IsCrowded seed count given) given)
+under bytes seed count given pairs (Ok b) permuted is =
+    let same = sum_by-IsPermutation record_size given pairs permuted in
+    let size = is.1.1 in
+    ((pairs, is.0, permuted), (is.1.0, omega arith))
 under bytes seed count given pairs (Err e) permuted h = cause_permuted seed count given pairs e permuted h
 
 -- one more seed is tried
@@ -340,7 +394,7 @@ sorted_build bytes first given (Err e) up h = inr (up, λ twice. ascends_apart g
 -- a build of all pairs of an iterator
 pub built_all : {B : Type 0} (bytes : B → List ℕ) (first : ℕ) (OfAll : (Pairs → Type 0) → Type 0) (given : Pairs) → ((Fact : Pairs → Type 0) → Fact given → OfAll Fact)
     → (r : Result B ZeroIndexBuildError) → IsIndexBuild first bytes given r → IsIndexBuildOfAll OfAll first bytes r
-built_all bytes first OfAll given all (Ok b) is = all (λ pairs. IsIndexOf pairs (bytes b)) is
+built_all bytes first OfAll given all (Ok b) is = all (λ pairs. IsIndexFrom first pairs (bytes b)) is
 built_all bytes first OfAll given all (Err e) h = inr (all (λ pairs. IndexCause first pairs e) h)
 
 -- the records of buckets end below 2 ^ 32

@@ -1,5 +1,5 @@
 -- The result of a build of an index.
-use Rattle.std.specs.Prelude.{◌≡◌, ◌≢◌, ◌==◌, ℕ, ◌+◌, ◌*◌, ◌%◌, ◌^◌, ◌<◌, ◌≤◌, ◌⊎◌, List, ◌++◌, length, max, All, Result, MatchResult, if◌then◌else◌}
+use Rattle.std.specs.Prelude.{◌≡◌, ◌≢◌, ◌==◌, ℕ, ◌+◌, ◌*◌, ◌%◌, ◌^◌, ◌<◌, ◌≤◌, ◌⊎◌, List, ◌++◌, length, take, max, All, Result, MatchResult, if◌then◌else◌}
 use Rattle.std.specs.List.{sum_by, flat_map}
 use Rattle.std.specs.List.Sorted.{IsPermutation}
 use Rattle.zerotrie_base.specs.Kind.{simple_ascii}
@@ -39,6 +39,11 @@ IsIndexOf given bytes = (pairs : Pairs) × IsIndex pairs bytes × IsPermutation 
 abbrev pub bucket_count : Pairs → ℕ
 bucket_count pairs = max (2 * length pairs) 1
 
+-- the bytes begin with the seed, and are as many as an index of the pairs in this many buckets has: the seed, the number
+-- of buckets, an entry for each and one more, of eight bytes each, and the records
+abbrev pub IsLaidOut : ℕ → ℕ → Pairs → List ℕ → Type 0
+IsLaidOut seed count pairs bytes = (take 8 bytes ≡ word seed) × (length bytes ≡ 24 + 8 * count + records_size pairs)
+
 -- how many seeds a build tries: from the first on, each the one before and `golden`
 abbrev pub seeds_tried : ℕ
 seeds_tried = 8
@@ -63,9 +68,14 @@ CauseWith Crowd pairs OutOfMemory = Unit {0}
 abbrev pub IndexCause : ℕ → Pairs → ZeroIndexBuildError → Type 0
 IndexCause first pairs e = CauseWith ((k : ℕ) → k < seeds_tried → IsCrowded ((first + k * golden) % 2 ^ 64) (bucket_count pairs) pairs) pairs e
 
+-- the bytes are an index of the pairs by one of the seeds that a build tries, in the buckets that it takes
+abbrev pub IsIndexFrom : ℕ → Pairs → List ℕ → Type 0
+IsIndexFrom first given bytes = IsIndexOf given bytes
+    × (k : ℕ) × (k < seeds_tried) × IsLaidOut ((first + k * golden) % 2 ^ 64) (bucket_count given) given bytes
+
 -- the result is an index of the pairs, or an error whose cause holds
 abbrev pub IsIndexBuild : {B : Type 0} → ℕ → (B → List ℕ) → Pairs → Result B ZeroIndexBuildError → Type 0
-IsIndexBuild first bytes given result = MatchResult result (λ b. IsIndexOf given (bytes b)) (IndexCause first given)
+IsIndexBuild first bytes given result = MatchResult result (λ b. IsIndexFrom first given (bytes b)) (IndexCause first given)
 
 -- What holds if a build of pairs fails whose keys must ascend: they don't, or they do, and the cause
 -- holds of them. Such pairs repeat no key.
@@ -74,12 +84,12 @@ SortedCause first given e = ((e ≡ Unsorted) × (Ascends given → ⊥)) ⊎ (A
 
 -- the result is an index of the pairs, whose keys ascend, or an error whose cause holds
 abbrev pub IsSortedIndexBuild : {B : Type 0} → ℕ → (B → List ℕ) → Pairs → Result B ZeroIndexBuildError → Type 0
-IsSortedIndexBuild first bytes given result = MatchResult result (λ b. Ascends given × IsIndexOf given (bytes b)) (SortedCause first given)
+IsSortedIndexBuild first bytes given result = MatchResult result (λ b. Ascends given × IsIndexFrom first given (bytes b)) (SortedCause first given)
 
 -- The result of a build of all pairs that an iterator returns. If it is out of memory, the iterator
 -- may not have returned them all.
 abbrev pub IsIndexBuildOfAll : {B : Type 0} → ((Pairs → Type 0) → Type 0) → ℕ → (B → List ℕ) → Result B ZeroIndexBuildError → Type 0
-IsIndexBuildOfAll OfAll first bytes result = MatchResult result (λ b. OfAll (λ pairs. IsIndexOf pairs (bytes b)))
+IsIndexBuildOfAll OfAll first bytes result = MatchResult result (λ b. OfAll (λ pairs. IsIndexFrom first pairs (bytes b)))
     (λ e. (e ≡ OutOfMemory) ⊎ OfAll (λ pairs. IndexCause first pairs e))
 
 -- an error of records that would have this many bytes

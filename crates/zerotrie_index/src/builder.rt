@@ -8,7 +8,7 @@ ghost use Rattle.zerotrie_base.specs.Maps.{FirstAbove, Ascends, RepeatsKey};
 ghost use Rattle.zerotrie_base.specs.Routes.{HoldsOfItsPairs};
 ghost use Rattle.zerotrie_index.specs.Layout.{word, place_of, mark_of, bucket_limit, AreRecords, IsIndex};
 ghost use Rattle.zerotrie_index.specs.Hashed.{hashed_pairs, IsHashed, Rises, IsRecord};
-ghost use Rattle.zerotrie_index.specs.Built.{records_size, bucket_count, IsTooLong, IsCrowded, CauseWith, AreWritten, IsIndexOf, IsIndexBuild, IsSortedIndexBuild, IsIndexBuildOfAll};
+ghost use Rattle.zerotrie_index.specs.Built.{records_size, bucket_count, IsTooLong, IsCrowded, CauseWith, AreWritten, IsIndexOf, IsLaidOut, IsIndexBuild, IsSortedIndexBuild, IsIndexBuildOfAll};
 ghost use Rattle.zerotrie_index.specs.declared.error.ZeroIndexBuildError.TheVariants.{DuplicateKey, Crowded};
 
 use crate::error::ZeroIndexBuildError;
@@ -235,7 +235,8 @@ fn write_index<A: Allocator + Copy>(
     requires some { 0 < count }
     requires hashes { All (IsHashed seed) hashed.now }
     requires rises { Rises hashed.now }
-    ensures { MatchResult result (λ bytes. IsIndex (hashed_pairs hashed.now) bytes.items)
+    ensures { MatchResult result (λ bytes. IsIndex (hashed_pairs hashed.now) bytes.items
+        × IsLaidOut seed count (hashed_pairs hashed.now) bytes.items)
         (CauseWith (IsCrowded seed count (hashed_pairs hashed.now)) (hashed_pairs hashed.now)) }
 {
     let mut bytes = Vec::new(alloc);
@@ -255,7 +256,8 @@ fn build_under<K: TrieKey, A: Allocator + Copy>(
     items: &[(K, usize)],
 ) -> Result<Vec<u8, A>, ZeroIndexBuildError>
     requires { 0 < count }
-    ensures { MatchResult result (λ bytes. IsIndexOf (keyed K.key items.now) bytes.items)
+    ensures { MatchResult result (λ bytes. IsIndexOf (keyed K.key items.now) bytes.items
+        × IsLaidOut seed count (keyed K.key items.now) bytes.items)
         (CauseWith (IsCrowded seed count (keyed K.key items.now)) (keyed K.key items.now)) }
 {
     let mut hashed = hashed_of(alloc, seed, items)?;

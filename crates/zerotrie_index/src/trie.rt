@@ -3,6 +3,7 @@
 ghost use Rattle.std.specs.Prelude.{◌≡◌, ◌++◌, OnOk};
 ghost use Rattle.zerotrie_base.specs.Maps.{Pairs};
 ghost use Rattle.zerotrie_base.specs.Texts.{Lists};
+ghost use Rattle.zerotrie_core.specs.listing.Listed.{listed};
 ghost use Rattle.zerotrie_index.specs.Built.{IsIndexBuild};
 ghost use Rattle.zerotrie_index.specs.Tries.{folded_key, folded_pairs};
 
@@ -60,7 +61,9 @@ impl ZeroIndex<Vec<u8>> {
         alloc: Global,
         bytes: &[u8],
     ) -> Result<Self, ZeroIndexBuildError>
-        ensures { (pairs : Pairs) → Lists K.kind bytes.now pairs
+        ensures always { IsIndexBuild 0 (λ index. index.store.items)
+            (folded_pairs K.kind (listed K.kind bytes.now)) result }
+        ensures map { (pairs : Pairs) → Lists K.kind bytes.now pairs
             → IsIndexBuild 0 (λ index. index.store.items) (folded_pairs K.kind pairs) result }
     {
         let mut builder = ZeroIndexBuilder::new(alloc);

@@ -1,6 +1,6 @@
 //! The table of places that reverse look-ups use.
 
-ghost use Rattle.std.specs.Prelude.{◌≡◌, ◌≤◌, length, IfOk};
+ghost use Rattle.std.specs.Prelude.{◌≡◌, ◌≤◌, ◌⊎◌, length, IfOk};
 ghost use Rattle.std.specs.Option.{option_map};
 ghost use Rattle.zerotrie_core.specs.Kind.{kind_with};
 ghost use Rattle.zerotrie_core.specs.Maps.{Pairs};
@@ -134,11 +134,11 @@ fn found(
 impl<'a> KeysByValue<'a> {
     /// Builds the table of a trie.
     ///
-    /// It has at most as many places as the bytes have pairs. The only error is a failed allocation.
+    /// It has a place for each pair, or none at all. The only error is a failed allocation.
     pub fn new<K: ZeroTrieWithOptions>(alloc: Global, bytes: &'a [u8]) -> Result<Self, AllocError>
         ensures of { IfOk result (λ t. (t.kind ≡ K.kind) × (t.bytes ≡ bytes.now)) }
         ensures size { IfOk result (λ t. (pairs : Pairs) → Lists K.kind bytes.now pairs
-            → t.size ≤ length pairs) }
+            → (t.size ≡ 0) ⊎ (t.size ≡ length pairs)) }
         ensures most { IfOk result (λ t. t.size ≤ length bytes.now) }
     {
         let places = sorted_places::<K>(alloc, bytes)?;

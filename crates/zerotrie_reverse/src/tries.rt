@@ -1,6 +1,6 @@
 //! Reverse look-ups in every trie.
 
-ghost use Rattle.std.specs.Prelude.{◌≡◌, ◌≤◌, length, IfOk};
+ghost use Rattle.std.specs.Prelude.{◌≡◌, ◌≤◌, ◌⊎◌, length, IfOk};
 ghost use Rattle.zerotrie_core.specs.Maps.{Pairs};
 ghost use Rattle.zerotrie_core.specs.Texts.{Lists};
 
@@ -25,7 +25,8 @@ pub trait Reverse: Trie {
             (t.kind ≡ Self.kind self.now) × (t.bytes ≡ Self.bytes self.now)) }
         ensures size { IfOk result (λ t.
             (pairs : Pairs) → Lists (Self.kind self.now) (Self.bytes self.now) pairs
-            → t.size ≤ length pairs) }
+            → (t.size ≡ 0) ⊎ (t.size ≡ length pairs)) }
+        ensures most { IfOk result (λ t. t.size ≤ length (Self.bytes self.now)) }
     {
         by_kind!(
             self.trie_kind(),

@@ -1,5 +1,5 @@
 -- Why a file is not taken for a sealed one.
-use Rattle.std.specs.Prelude.{◌≡◌, ◌≢◌, ◌⊎◌, ℕ, ◌+◌, ◌<◌, List, ◌++◌, length, take, drop}
+use Rattle.std.specs.Prelude.{◌≡◌, ◌≢◌, ◌⊎◌, ℕ, ◌+◌, ◌<◌, ◌≤◌, List, ◌++◌, length, take, drop}
 use Rattle.std.specs.Int.{w16, w32, w64, from_le_bytes}
 use Rattle.zerotrie_base.specs.Kinds.{IsTag}
 use Rattle.zerotrie_sealed.specs.Checksum.{crc32c}
@@ -29,6 +29,25 @@ IsFaultBy IsKnown file CutShort = (length file < 24) ⊎ (length file < 24 + len
 IsFaultBy IsKnown file TooLong = 24 + length_in file < length file
 IsFaultBy IsKnown file Checksum = checksum_in file ≢ crc32c (take 20 file ++ drop 24 file)
 
+-- what a file has in front: the magic and a header; the version, too; and a number that is known
+abbrev pub HasHeader : List ℕ → Type 0
+HasHeader file = (take 8 file ≡ magic) × (24 ≤ length file)
+
+abbrev pub HasVersion : List ℕ → Type 0
+HasVersion file = HasHeader file × (version_in file ≡ version)
+
+abbrev pub HasKnown : (ℕ → Type 0) → List ℕ → Type 0
+HasKnown IsKnown file = HasVersion file × IsKnown (kind_in file)
+
+-- the parts that are looked at before those of an error are right; a file that is cut short may have no header
+abbrev pub IsRightBefore : (ℕ → Type 0) → List ℕ → SealError → Type 0
+IsRightBefore IsKnown file NoMagic = Unit {0}
+IsRightBefore IsKnown file (UnknownVersion number) = HasHeader file
+IsRightBefore IsKnown file (UnknownKind number) = HasVersion file
+IsRightBefore IsKnown file CutShort = (take 8 file ≡ magic) × (24 ≤ length file → HasKnown IsKnown file)
+IsRightBefore IsKnown file TooLong = HasKnown IsKnown file
+IsRightBefore IsKnown file Checksum = HasKnown IsKnown file × (24 + length_in file ≡ length file)
+
 -- the same of an error that says nothing of the number
 abbrev pub IsFileFault : List ℕ → SealError → Type 0
 IsFileFault file e = IsFaultBy (λ number. Unit {0}) file e
@@ -39,3 +58,10 @@ IsSealFault file e = IsFaultBy IsTag file e
 
 abbrev pub IsIndexFault : List ℕ → SealError → Type 0
 IsIndexFault file e = IsFaultBy (λ number. number ≡ index_number) file e
+
+-- the same of the parts of a sealed trie, and of a sealed index
+abbrev pub IsSealRightBefore : List ℕ → SealError → Type 0
+IsSealRightBefore file e = IsRightBefore IsTag file e
+
+abbrev pub IsIndexRightBefore : List ℕ → SealError → Type 0
+IsIndexRightBefore file e = IsRightBefore (λ number. number ≡ index_number) file e

@@ -4,8 +4,8 @@ ghost use Rattle.std.specs.Prelude.{◌≡◌, ℕ, ◌+◌, ◌≤◌, ◌↔�
 ghost use Rattle.zerotrie_base.specs.Kind.{Kind, tag};
 ghost use Rattle.zerotrie_base.specs.Kinds.{kind_of, IsTag};
 ghost use Rattle.zerotrie_sealed.specs.Checksum.{crc32c};
-ghost use Rattle.zerotrie_sealed.specs.Sealed.{magic, version, IsSealed, IsSealedIndex};
-ghost use Rattle.zerotrie_sealed.specs.Faults.{IsFileFault, IsSealFault, IsIndexFault, version_in, kind_in, length_in, checksum_in};
+ghost use Rattle.zerotrie_sealed.specs.Sealed.{magic, version, index_number, IsSealed, IsSealedIndex};
+ghost use Rattle.zerotrie_sealed.specs.Faults.{IsFileFault, IsSealFault, IsIndexFault, HasKnown, IsSealRightBefore, IsIndexRightBefore, version_in, kind_in, length_in, checksum_in};
 
 use crate::checksum::crc32c_of_both;
 use crate::writing::{FRONT_LEN, HEADER_LEN, INDEX_NUMBER, MAGIC, VERSION};
@@ -68,6 +68,8 @@ fn number_in(file: &[u8]) -> Result<u16, SealError>
     ensures version { IfOk result (λ _. version_in file.now ≡ version) }
     ensures number { IfOk result (λ number. kind_in file.now ≡ number) }
     ensures fault { IfErr result (IsFileFault file.now) }
+    ensures trie { IfErr result (IsSealRightBefore file.now) }
+    ensures index { IfErr result (IsIndexRightBefore file.now) }
 {
     if !begins_sealed(file) {
         return Err(SealError::NoMagic);
@@ -87,6 +89,7 @@ fn number_in(file: &[u8]) -> Result<u16, SealError>
 /// Returns the kind that a number is of.
 fn kind_of(number: u16) -> Option<TrieKind>
     ensures kind { IfSome result (λ kind. tag (kind_of kind) ≡ number) }
+    ensures some { IfSome result (λ _. IsTag number) }
     ensures none { IfNone result (IsTag number → ⊥) }
 {
     let [low, high] = number.to_le_bytes();
@@ -102,6 +105,9 @@ fn bytes_in(file: &[u8]) -> Result<&[u8], SealError>
     ensures bytes { IfOk result (λ bytes. bytes.now ≡ drop 24 file.now) }
     ensures length { IfOk result (λ _. 24 + length_in file.now ≡ length file.now) }
     ensures fault { IfErr result (IsFileFault file.now) }
+    ensures trie { HasKnown IsTag file.now → IfErr result (IsSealRightBefore file.now) }
+    ensures index { HasKnown (λ number. number ≡ index_number) file.now
+        → IfErr result (IsIndexRightBefore file.now) }
 {
     let (_, numbers) = file.split_at(12);
     let length = usize::from_le_bytes([
@@ -138,6 +144,9 @@ fn whole_in(file: &[u8]) -> Result<&[u8], SealError>
     ensures checksum { IfOk result (λ _.
         checksum_in file.now ≡ crc32c (take 20 file.now ++ drop 24 file.now)) }
     ensures fault { IfErr result (IsFileFault file.now) }
+    ensures trie { HasKnown IsTag file.now → IfErr result (IsSealRightBefore file.now) }
+    ensures index { HasKnown (λ number. number ≡ index_number) file.now
+        → IfErr result (IsIndexRightBefore file.now) }
 {
     let bytes = bytes_in(file)?;
     if !has_checksum(file) {
@@ -168,6 +177,7 @@ pub fn open(file: &[u8]) -> Result<Sealed<'_>, SealError>
     ensures ok { IfOk result (λ sealed.
         IsSealed (kind_of sealed.kind) sealed.trie.now file.now) }
     ensures fault { IfErr result (IsSealFault file.now) }
+    ensures order { IfErr result (IsSealRightBefore file.now) }
     ensures none { IfErr result (λ _.
         (kind : Kind) (trie : List ℕ) → IsSealed kind trie file.now → ⊥) }
 {
@@ -197,6 +207,7 @@ pub fn open(file: &[u8]) -> Result<Sealed<'_>, SealError>
 pub fn open_index(file: &[u8]) -> Result<&[u8], SealError>
     ensures ok { IfOk result (λ index. IsSealedIndex index.now file.now) }
     ensures fault { IfErr result (IsIndexFault file.now) }
+    ensures order { IfErr result (IsIndexRightBefore file.now) }
     ensures none { IfErr result (λ _. (index : List ℕ) → IsSealedIndex index file.now → ⊥) }
 {
     let number = number_in(file)?;

@@ -1,5 +1,6 @@
 mod EndLemmas
 mod EditLemmas
+mod BitLemmas
 mod TrailLemmas
 mod SearchLemmas
 mod GlobLemmas

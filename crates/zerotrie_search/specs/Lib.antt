@@ -7,6 +7,7 @@ pub mod OtherKeys
 pub mod Globs
 pub mod GlobItems
 pub mod Words
+pub mod Rows
 pub mod Automata
 pub mod Pending
 pub mod Laws

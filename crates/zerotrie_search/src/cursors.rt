@@ -1,6 +1,6 @@
 //! Searches of what remains below a cursor.
 
-ghost use Rattle.std.specs.Prelude.{◌≡◌, IfOk};
+ghost use Rattle.std.specs.Prelude.{◌≡◌, ◌≤◌, ℕ, List, length, IfOk};
 ghost use Rattle.zerotrie_core.specs.Maps.{Pairs};
 ghost use Rattle.zerotrie_core.specs.Texts.{Lists};
 ghost use Rattle.zerotrie_core.specs.Places.{ListsAt};
@@ -31,6 +31,9 @@ pub trait SearchBelow {
     // Holds of the pairs that remain of those that begin with the steps.
     ghost Remain: { Self → Pairs → Type 0 };
 
+    // The bytes of the trie from which the pairs that remain are read.
+    ghost bytes: { Self → List ℕ };
+
     /// Lists what remains of the keys, with their values, if an automaton accepts it. Does not
     /// change the cursor. An error means that an allocation failed.
     fn search<T: Automaton + Drop>(
@@ -42,11 +45,15 @@ pub trait SearchBelow {
             → search.left ≡ to_come (accepted (T.accepts automaton) pairs)) }
         ensures always { IfOk result (λ search.
             search.left ≡ accepted_left (T.accepts automaton) search.stream.left) }
+        ensures most { IfOk result (λ search.
+            length search.stream.left.pairs ≤ length (bytes self.now)) }
         ensures automaton { IfOk result (λ search. search.automaton ≡ automaton) };
 }
 
 impl<'a, K: AsciiKind> SearchBelow for AsciiCursor<'a, K> {
     ghost Remain = { λ cursor pairs. Lists K.kind cursor pairs };
+
+    ghost bytes = { λ cursor. cursor };
 
     fn search<T: Automaton + Drop>(
         &self,
@@ -61,6 +68,8 @@ impl<'a, K: AsciiKind> SearchBelow for AsciiCursor<'a, K> {
 impl<'a, K: HashedKind> SearchBelow for HashedCursor<'a, K> {
     ghost Remain = { λ cursor pairs. ListsAt K.kind cursor pairs };
 
+    ghost bytes = { λ cursor. cursor.trie };
+
     fn search<T: Automaton + Drop>(
         &self,
         alloc: Global,
@@ -73,6 +82,8 @@ impl<'a, K: HashedKind> SearchBelow for HashedCursor<'a, K> {
 
 impl<'a> SearchBelow for ZeroTrieCursor<'a> {
     ghost Remain = { λ cursor pairs. ListsFrom cursor pairs };
+
+    ghost bytes = { λ cursor. cursor.place.trie };
 
     fn search<T: Automaton + Drop>(
         &self,

@@ -1,6 +1,6 @@
 //! What is chosen of the rows of a merge.
 
-ghost use Rattle.std.specs.Prelude.{◌≡◌, ℕ, Option};
+ghost use Rattle.std.specs.Prelude.{◌≡◌, ◌||◌, ℕ, Option, IfErr, IsTrue};
 ghost use Rattle.zerotrie_sets.specs.Choices.{Finds, chosen_left};
 
 use crate::merge::Merge;
@@ -23,8 +23,9 @@ pub fn next_chosen<S: PairStream, T: PairStream, C: Choice>(
     choice: &C,
     rows: &mut Merge<S, T>,
 ) -> Result<Option<C::Value>, AllocError>
-    ensures { Finds (chosen_left (C.choose choice.now) rows.old.left) result rows.new.current.0
-        (chosen_left (C.choose choice.now) rows.new.left) }
+    ensures finds { Finds (chosen_left (C.choose choice.now) rows.old.left) result
+        rows.new.current.0 (chosen_left (C.choose choice.now) rows.new.left) }
+    ensures fails { IfErr result (λ _. IsTrue (S.can_fail || T.can_fail)) }
 {
     while rows.advance()? {
         let value = choice.choose(rows.first(), rows.second());

@@ -1,6 +1,6 @@
 //! Unions, intersections and differences of two streams.
 
-ghost use Rattle.std.specs.Prelude.{◌≡◌, ℕ, Option};
+ghost use Rattle.std.specs.Prelude.{◌≡◌, ◌||◌, ℕ, Option};
 ghost use Rattle.zerotrie_core.specs.Maps.{Ascends};
 ghost use Rattle.zerotrie_core.specs.Listings.{to_come};
 ghost use Rattle.zerotrie_sets.specs.Merges.{joined, chosen};
@@ -121,6 +121,8 @@ impl<S: PairStream, T: PairStream> PairStream for Combined<S, T> {
     ghost left = { λ s. s.left };
 
     ghost current = { λ s. s.current };
+
+    ghost can_fail = { S.can_fail || T.can_fail };
 
     fn advance(&mut self) -> Result<bool, AllocError> {
         match next_chosen(&self.operation, &mut self.rows)? {

@@ -1,6 +1,6 @@
 //! What changed from one stream to another.
 
-ghost use Rattle.std.specs.Prelude.{◌≡◌, ℕ, Option, false};
+ghost use Rattle.std.specs.Prelude.{◌≡◌, ◌||◌, ℕ, Option, IfErr, IsTrue, false};
 ghost use Rattle.zerotrie_core.specs.Maps.{Ascends};
 ghost use Rattle.zerotrie_sets.specs.Streams.{Advances, coming};
 ghost use Rattle.zerotrie_sets.specs.Changes.{change, changes, IsDiff};
@@ -99,7 +99,8 @@ impl<S: PairStream, T: PairStream> Diff<S, T> {
     /// Moves to the next key that changed, and returns whether there is one. An error ends the
     /// listing. The only error is a failed allocation in a stream.
     pub fn advance(&mut self) -> Result<bool, AllocError>
-        ensures { Advances self.old.left result self.new.current self.new.left }
+        ensures advances { Advances self.old.left result self.new.current self.new.left }
+        ensures fails { IfErr result (λ _. IsTrue (S.can_fail || T.can_fail)) }
     {
         match next_chosen(&Changes, &mut self.rows)? {
             None => Ok(false),

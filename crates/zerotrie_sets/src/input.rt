@@ -1,6 +1,6 @@
 //! One input of a merge: a stream, and what became of its current pair.
 
-ghost use Rattle.std.specs.Prelude.{◌≡◌, ℕ, true, false, IfOk};
+ghost use Rattle.std.specs.Prelude.{◌≡◌, ℕ, true, false, IfOk, IfErr, IsTrue};
 ghost use Rattle.std.specs.Option.{option_map};
 ghost use Rattle.zerotrie_sets.specs.Inputs.{pending, listed, Fetches};
 ghost use Rattle.zerotrie_sets.specs.ManyInputs.{after_key, held_after, waiting_key};
@@ -56,9 +56,10 @@ impl<S: PairStream> Input<S> {
 
     /// Moves to the first pair that is still to be listed, and returns whether there is one.
     pub fn fetch(&mut self) -> Result<bool, AllocError>
-        ensures { IfOk result (Fetches
+        ensures fetches { IfOk result (Fetches
             (pending (S.left self.old.stream) (S.current self.old.stream) self.old.held)
             (S.left self.new.stream) (S.current self.new.stream) self.new.held) }
+        ensures fails { IfErr result (λ _. IsTrue S.can_fail) }
     {
         if matches!(self.held, Held::Listed) {
             self.held = if self.stream.advance()? {

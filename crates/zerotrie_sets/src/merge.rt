@@ -1,6 +1,8 @@
 //! Two streams merged: a row for each key of either.
 
-ghost use Rattle.std.specs.Prelude.{◌≡◌, IfOk, false};
+ghost use Rattle.std.specs.Prelude.{◌≡◌, ◌||◌, IfOk, IfErr, IsTrue, false};
+ghost use Rattle.zerotrie_core.specs.Maps.{Ascends};
+ghost use Rattle.zerotrie_sets.specs.Laws.{IsMerge};
 ghost use Rattle.zerotrie_sets.specs.Streams.{Advances, coming};
 ghost use Rattle.zerotrie_sets.specs.Merges.{joined};
 ghost use Rattle.zerotrie_sets.specs.Inputs.{pending, row_of, lesser, MergesOne};
@@ -54,8 +56,12 @@ impl<S: PairStream, T: PairStream> Model for Merge<S, T> {
 impl<S: PairStream, T: PairStream> Merge<S, T> {
     /// Merges two streams. Does nothing before the first call of `advance`.
     pub fn new(first: S, second: T) -> Self
-        ensures { result.left ≡ coming false (joined (S.left first).pairs (T.left second).pairs) }
+        ensures always { result.left
+            ≡ coming false (joined (S.left first).pairs (T.left second).pairs) }
+        ensures is { Ascends (S.left first).pairs → Ascends (T.left second).pairs
+            → IsMerge (S.left first).pairs (T.left second).pairs result.left.items }
     {
+        crate::laws::rows_are_of_maps();
         Merge {
             first: Input::new(first),
             second: Input::new(second),
@@ -64,9 +70,10 @@ impl<S: PairStream, T: PairStream> Merge<S, T> {
     }
 
     /// Moves to the next key, and returns whether there is one. An error ends the merge. The only
-    /// error is a failed allocation in a stream.
+    /// error is a failed allocation in a stream: a merge of two slices never fails.
     pub fn advance(&mut self) -> Result<bool, AllocError>
-        ensures { Advances self.old.left result self.new.current self.new.left }
+        ensures advances { Advances self.old.left result self.new.current self.new.left }
+        ensures fails { IfErr result (λ _. IsTrue (S.can_fail || T.can_fail)) }
     {
         if self.ended {
             return Ok(false);
@@ -121,13 +128,14 @@ fn next_row<S: PairStream, T: PairStream>(
     first: &mut Input<S>,
     second: &mut Input<T>,
 ) -> Result<bool, AllocError>
-    ensures { IfOk result (MergesOne
+    ensures merges { IfOk result (MergesOne
         (joined (pending (S.left first.old.stream) (S.current first.old.stream) first.old.held)
         (pending (T.left second.old.stream) (T.current second.old.stream) second.old.held))
         (row_of (S.current first.new.stream) first.new.held
         (T.current second.new.stream) second.new.held)
         (joined (pending (S.left first.new.stream) (S.current first.new.stream) first.new.held)
         (pending (T.left second.new.stream) (T.current second.new.stream) second.new.held))) }
+    ensures fails { IfErr result (λ _. IsTrue (S.can_fail || T.can_fail)) }
 {
     first.fetch()?;
     second.fetch()?;

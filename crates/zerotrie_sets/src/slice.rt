@@ -1,6 +1,6 @@
 //! Sorted slices as streams.
 
-ghost use Rattle.std.specs.Prelude.{◌≡◌, ◌↔◌, ◌≤◌, IsSome, IfSome, IsTrue, length};
+ghost use Rattle.std.specs.Prelude.{◌≡◌, ◌↔◌, ◌≤◌, IsSome, IfSome, IsTrue, length, false};
 ghost use Rattle.zerotrie_core.specs.Items.{pairs_of};
 ghost use Rattle.zerotrie_core.specs.Maps.{Ascends};
 ghost use Rattle.zerotrie_core.specs.Listings.{to_come};
@@ -75,6 +75,8 @@ impl<'a, 'k> PairStream for SortedSlice<'a, 'k> {
     ghost left = { λ s. s.left };
 
     ghost current = { λ s. s.current };
+
+    ghost can_fail = { false };
 
     fn advance(&mut self) -> Result<bool, AllocError> {
         if self.ended || self.pairs.len() <= self.next {

@@ -1,15 +1,22 @@
-//! The pairs of a trie as an ordered map, and calls of a cursor over them.
+//! The pairs of a trie as an ordered map, calls of a cursor over them, and a listing that skips some.
 
-ghost use Rattle.std.specs.Prelude.{◌≡◌, IfOk};
+ghost use Rattle.std.specs.Prelude.{◌≡◌, ◌∷◌, ℕ, List, take, IfOk};
 ghost use Rattle.std.specs.String.{string_bytes};
 ghost use Rattle.zerotrie.specs.Items.{pairs_of, keyed};
-ghost use Rattle.zerotrie.specs.Kind.{simple_ascii};
+ghost use Rattle.zerotrie.specs.Kind.{simple_ascii, perfect_hash};
+ghost use Rattle.zerotrie.specs.Listings.{to_come};
 ghost use Rattle.zerotrie.specs.Machine.{run};
+ghost use Rattle.zerotrie.specs.Maps.{Pairs};
+ghost use Rattle.zerotrie.specs.Skips.{Skips, NoneBegins};
+ghost use Rattle.zerotrie.specs.Texts.{Lists};
 ghost use Rattle.zerotrie.specs.Walks.{ops_of, answers_of};
 
-use std::alloc::Global;
+use std::alloc::{AllocError, Global};
 use std::collections::BTreeMap;
-use zerotrie::{CursorAnswer, CursorOp, ZeroTrieBuildError, ZeroTrieSimpleAscii};
+use zerotrie::{
+    CursorAnswer, CursorOp, Trie, TrieStore, ZeroTrieBuildError, ZeroTriePerfectHash,
+    ZeroTrieSimpleAscii, ZeroTrieStream,
+};
 
 /// Builds a trie of pairs in ascending order, and returns it as an ordered map: these pairs.
 ///
@@ -42,4 +49,26 @@ pub fn walk_over(
 {
     let trie = ZeroTrieSimpleAscii::try_from_sorted_slice(alloc, pairs)?;
     Ok(trie.walk(alloc, calls)?)
+}
+
+/// Lists the pairs after the first, without those whose keys begin as the first key does, in its first
+/// `depth` bytes. Reads nothing of the keys that it leaves out.
+///
+/// An error means that an allocation failed.
+pub fn past_first_group<S: TrieStore>(
+    alloc: Global,
+    trie: &ZeroTriePerfectHash<S>,
+    depth: usize,
+) -> Result<ZeroTrieStream<'_>, AllocError>
+    ensures skips { IfOk result (λ s. (first : List ℕ × ℕ) (others : Pairs)
+        → Lists perfect_hash (S.stored trie.now.store) (first ∷ others)
+        → Skips (take depth first.0) (to_come others) s.left) }
+    ensures none { IfOk result (λ s. (first : List ℕ × ℕ) (others : Pairs)
+        → Lists perfect_hash (S.stored trie.now.store) (first ∷ others)
+        → NoneBegins (take depth first.0) s.left.pairs) }
+{
+    let mut pairs = trie.stream(alloc);
+    pairs.advance()?;
+    pairs.skip(depth);
+    Ok(pairs)
 }

@@ -112,20 +112,25 @@ module _ (kind : Kind) (text : List ℕ) where
   }
 
   -- or along none
-  pub stopped : (before : Along) (place after last : Place) (len : ℕ) (looked : Bool) → GoesOn before (along kind place text len true) → len < length text
-      → IsStep kind (ListsAt kind place) (get_or text len 0) None (ListsAt kind after) → NextFront before None (along kind last text len looked)
-  stopped before place after last len looked goes inside step pairs leaves =
+  pub stopped : (before : Along) (place after : Place) (len : ℕ) (looked : Bool) → GoesOn before (along kind place text len true) → len < length text
+      → IsStep kind (ListsAt kind place) (get_or text len 0) None (ListsAt kind after) → NextFront before None (along kind after text len looked)
+  stopped before place after len looked goes inside step pairs leaves =
       let g = goes.leads pairs leaves in
       let s = step g.0 g.1.0 in
       let c = get_or text len 0 in
-      let rest = drop (len + 1) text in
-      g.2 ∙ ap (fronts (value_at kind g.0) len) (drop_more text len 0 inside)
-      ∙ fronts_on (value_at kind g.0) (λ key. None) len c rest (g.1.1 refl)
-      (λ key. ap (λ o. value_at kind (behind o g.0) key) s.0 ∙ steps_answer kind place g.0 g.1.0 (c ∷ []) key)
-      ∙ fronts_none (len + 1) rest
+      let rest = drop (len + 1) text in (
+        g.2 ∙ ap (fronts (value_at kind g.0) len) (drop_more text len 0 inside)
+            ∙ fronts_on (value_at kind g.0) (λ key. None) len c rest (g.1.1 refl)
+            (λ key. ap (λ o. value_at kind (behind o g.0) key) s.0 ∙ steps_answer kind place g.0 g.1.0 (c ∷ []) key)
+            ∙ fronts_none (len + 1) rest,
+        [],
+        (s.1, λ _. refl),
+        fronts_same (value_at kind []) (λ key. None) len (drop len text) (λ key. refl) ∙ fronts_none len (drop len text),
+      )
 
   -- at the end of the text
-  pub ended : (before : Along) (place last : Place) (len : ℕ) (looked : Bool) → GoesOn before (along kind place text len true) → length text ≤ len → NextFront before None (along kind last text len looked)
-  ended before place last len looked goes end pairs leaves =
+  pub ended : (before : Along) (place : Place) (len : ℕ) → GoesOn before (along kind place text len true) → length text ≤ len → NextFront before None (along kind place text len true)
+  ended before place len goes end pairs leaves =
       let g = goes.leads pairs leaves in
-      g.2 ∙ ap (fronts (value_at kind g.0) len) (drop_of_length-le text end) ∙ ap (λ o. here o len) (g.1.1 refl)
+      let none = ap (fronts (value_at kind g.0) len) (drop_of_length-le text end) ∙ ap (λ o. here o len) (g.1.1 refl) in
+      (g.2 ∙ none, g.0, g.1, none)

@@ -40,8 +40,7 @@ returns-in_err-byte-clause-next c =
     let start = along kind c.args.cursor.now c.args.text.now c.args.len.now c.args.looked.now in
     let at = passed kind c.args.text.now start c.loop-value.cursor c.value_here.new.cursor c.loop-value.len c.loop-value.looked c.loop-value.invariant.goes (c.in_default.ensures.take kind) in
     let end : length c.args.text.now ≤ c.loop-value.len = ltb-false c.loop-value.len (length c.args.text.now) (sym c.in_err-byte.ensures.lookup.0) in
-    rw c.from_residual.ensures
-    (ended kind c.args.text.now start c.value_here.new.cursor c.value_here.new.cursor c.loop-value.len c.value_here.new.looked at end)
+    rw (c.from_residual.ensures, c.in_default.ensures.looked) (ended kind c.args.text.now start c.value_here.new.cursor c.loop-value.len at end)
 
 pub returns-in_err-step_of-clause-next : goal.returns-in_err-step_of-clause-next
 returns-in_err-step_of-clause-next c =
@@ -51,7 +50,7 @@ returns-in_err-step_of-clause-next c =
     let byte = c.in_ok-byte.ensures.lookup.3 in
     let step = subst (λ b. IsStep kind (ListsAt kind c.value_here.new.cursor) b None (ListsAt kind c.step_of.new.cursor)) (byte.1 0) c.in_err-step_of.ensures in
     rw c.from_residual-in_err-step_of.ensures
-    (stopped kind c.args.text.now start c.value_here.new.cursor c.step_of.new.cursor c.step_of.new.cursor c.loop-value.len c.value_here.new.looked at byte.0 step)
+    (stopped kind c.args.text.now start c.value_here.new.cursor c.step_of.new.cursor c.loop-value.len c.value_here.new.looked at byte.0 step)
 
 pub loop-value-preserved : goal.loop-value-preserved
 loop-value-preserved c =

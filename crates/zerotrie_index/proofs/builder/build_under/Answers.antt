@@ -3,7 +3,7 @@ use Rattle.std.proofs.lemmas.List.Sorted.{All-permutation, IsPermutation-map, Is
 use Rattle.zerotrie_base.specs.Items.{keyed}
 use Rattle.zerotrie_index.specs.Layout.{IsIndex}
 use Rattle.zerotrie_index.specs.Hashed.{hashed_pairs, IsHashed, Rises}
-use Rattle.zerotrie_index.specs.Built.{IsCrowded, CauseWith}
+use Rattle.zerotrie_index.specs.Built.{IsCrowded, CauseWith, IsLaidOut}
 use Rattle.zerotrie_index.proofs.WrittenLemmas.{rises_sorted, under}
 use Rattle.zerotrie_index.proofs.builder.build_under.Goals as goal
 
@@ -24,4 +24,4 @@ returns g c =
     let permuted = subst (λ pairs. IsPermutation pairs (hashed_pairs sorted)) c.in_ok-hashed.ensures.pairs
     (IsPermutation-map (λ h. (h.key.now, h.value)) c.in_ok-hashed.hashed.items sorted c.sort_unstable_by_key.ensures.permutation) in
     under (λ bytes. bytes.items) c.args.seed c.args.count given (hashed_pairs sorted) c.write_index.result permuted
-    (subst (λ x. MatchResult c.write_index.result (λ b. IsIndex (hashed_pairs x) b.items) (CauseWith (IsCrowded c.args.seed c.args.count (hashed_pairs x)) (hashed_pairs x))) c.as_slice.ensures.value c.write_index.ensures)
+    (subst (λ x. MatchResult c.write_index.result (λ b. IsIndex (hashed_pairs x) b.items × IsLaidOut c.args.seed c.args.count (hashed_pairs x) b.items) (CauseWith (IsCrowded c.args.seed c.args.count (hashed_pairs x)) (hashed_pairs x))) c.as_slice.ensures.value c.write_index.ensures)

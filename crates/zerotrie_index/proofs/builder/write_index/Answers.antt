@@ -1,8 +1,8 @@
 use Rattle.std.proofs.Common.{arith, ◌≡◌, ◌++◌, ap, sym, subst, ◌∙◌}
 use Rattle.zerotrie_index.specs.Layout.{word, IsIndex}
 use Rattle.zerotrie_index.specs.Hashed.{hashed_pairs}
-use Rattle.zerotrie_index.specs.Built.{AreWritten}
-use Rattle.zerotrie_index.proofs.WrittenLemmas.{index_of}
+use Rattle.zerotrie_index.specs.Built.{AreWritten, IsLaidOut}
+use Rattle.zerotrie_index.proofs.WrittenLemmas.{index_laid_out}
 use Rattle.zerotrie_index.proofs.builder.write_index.Goals as goal
 
 pub returns : goal.returns
@@ -15,5 +15,5 @@ returns g c =
     let whole : c.extend_from_slice.new.self.items ≡ c.put_buckets.new.table.items ++ c.put_buckets.new.pool.items =
     c.in_ok-extend_from_slice.ensures.items ∙ ap (λ x. c.put_buckets.new.table.items ++ x) c.as_slice.ensures.value in
     let written = subst (λ before. AreWritten seed count pairs before c.put_buckets.new.table.items c.put_buckets.new.pool.items) head (c.in_ok-put_buckets.ensures.ok seed c.requires.hashes c.requires.some) in
-    subst (IsIndex pairs) (sym whole)
-    (index_of seed count pairs c.put_buckets.new.table.items c.put_buckets.new.pool.items written (omega (arith, c.ranges.seed.fits)) c.requires.some (omega (arith, c.ranges.count.fits)))
+    subst (λ bytes. IsIndex pairs bytes × IsLaidOut seed count pairs bytes) (sym whole)
+    (index_laid_out seed count pairs c.put_buckets.new.table.items c.put_buckets.new.pool.items written (omega (arith, c.ranges.seed.fits)) c.requires.some (omega (arith, c.ranges.count.fits)))

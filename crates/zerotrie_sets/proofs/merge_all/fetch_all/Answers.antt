@@ -11,7 +11,7 @@ loop-input-preserved g c =
     let d = c.input-item.result in
     let x = get_or l.inputs l.input-index d in
     let y = c.fetch.new.self in
-    let is = fetched_is (pending (left x.stream) (current x.stream) x.held) (left y.stream) (current y.stream) y.held c.in_ok-fetch.field-0 c.in_ok-fetch.ensures in
+    let is = fetched_is (pending (left x.stream) (current x.stream) x.held) (left y.stream) (current y.stream) y.held c.in_ok-fetch.field-0 c.in_ok-fetch.ensures.fetches in
     record {
       fetched = fetched_more l.inputs l.input-index y (omega (arith, l.auto.inputs, c.loop-input-test.true)) l.invariant.fetched is.0;
       same = map_same (λ i. pending (left i.stream) (current i.stream) i.held) l.inputs l.input-index d y (omega (arith, l.auto.inputs, c.loop-input-test.true)) is.1 ∙ l.invariant.same;

@@ -12,6 +12,13 @@ use Rattle.zerotrie_core.proofs.stream.ZeroTrieStream.behind.Goals as goal
 pub standing-requires : goal.standing-requires
 standing-requires g c = c.closed-branches.ensures.stands (length c.args.front.items)
 
+pub returns-clause-always : goal.returns-clause-always
+returns-clause-always g c =
+    let front = c.args.front.items in
+    let closed = c.closed-branches.ensures in
+    rw (c.standing.ensures.left, c.at.ensures)
+    (ap to_come (fresh_left g.K.ZeroTrieWithOptions.kind front c.args.bytes.now c.closed-branches.result (closed.stands (length front)) closed.none))
+
 pub returns-clause-lists : goal.returns-clause-lists
 returns-clause-lists g c pairs text =
     let front = c.args.front.items in
