@@ -73,5 +73,5 @@ module _ {start before : Along} {count : ℕ} {old_lens lens old_values values :
   pub going_end : (after : Along) → NextFront before None after → (pairs : Pairs) → Leaves start pairs → AreFrontsTold (fronts_left start pairs) count old_lens lens old_values values
   going_end after next pairs leaves =
       let old = g.rest pairs leaves in
-      let all : g.found ≡ fronts_left start pairs = sym (append-nil g.found) ∙ ap (λ l. g.found ++ l) (sym (next old.0 old.1)) ∙ sym old.2 in
+      let all : g.found ≡ fronts_left start pairs = sym (append-nil g.found) ∙ ap (λ l. g.found ++ l) (sym (next old.0 old.1).0) ∙ sym old.2 in
       subst (λ found. AreFrontsTold found count old_lens lens old_values values) all g.told

@@ -11,6 +11,7 @@ pub mod Files
 pub mod Listed
 pub mod Searched
 pub mod Sorted
+pub mod Found
 pub mod Entries
 pub mod Dense
 pub mod Indexes

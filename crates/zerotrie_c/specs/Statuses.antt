@@ -33,7 +33,7 @@ no_tag = 13
 abbrev pub invalid_tag : ℕ
 invalid_tag = 14
 
--- a table has no value for two texts
+-- a table has no value for two texts; or no key is the one that is asked for
 abbrev pub no_entry : ℕ
 no_entry = 15
 

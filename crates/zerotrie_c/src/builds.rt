@@ -6,14 +6,15 @@ ghost use Rattle.zerotrie_core.specs.Kinds.{kind_of as kind_that_is};
 ghost use Rattle.zerotrie_core.specs.Items.{pairs_of};
 ghost use Rattle.zerotrie_core.specs.Maps.{Pairs};
 ghost use Rattle.zerotrie_core.specs.Routes.{Route, ascending, any_order, IsBuild, IsLength};
-ghost use Rattle.zerotrie_any.specs.Auto.{are_ascii, auto_kind};
+ghost use Rattle.zerotrie_any.specs.Auto.{auto_kind};
 ghost use Rattle.zerotrie_c.specs.Numbers.{kind_of};
 ghost use Rattle.zerotrie_c.specs.Statuses.{unknown_kind};
 ghost use Rattle.zerotrie_c.specs.Builds.{given, IsHandedOut, IsBuildTold, IsLengthTold};
 
 use crate::numbers::{BUFFER_TOO_SMALL, DONE, OUT_OF_MEMORY, UNKNOWN_KIND, kind_of, status_of};
 use std::alloc::{AllocError, Global};
-use zerotrie_any::{bytes_from_slice, bytes_from_unsorted_slice};
+use zerotrie_any::{bytes_from_slice, bytes_from_unsorted_slice, kind_for_pairs};
+use zerotrie_base::TriePair;
 use zerotrie_build::{ByteSliceWithIndices, encoded_len};
 use zerotrie_core::{TrieKind, ZeroTrieBuildError, by_kind};
 
@@ -23,6 +24,14 @@ use zerotrie_core::{TrieKind, ZeroTrieBuildError, by_kind};
 pub struct Pair<'a> {
     pub key: &'a [u8],
     pub value: usize,
+}
+
+impl<'a> TriePair for Pair<'a> {
+    ghost pair = { λ p. (p.key.now, p.value) };
+
+    fn pair_key(&self) -> &[u8] {
+        self.key
+    }
 }
 
 /// Returns the pairs as items. The keys are borrowed.
@@ -175,23 +184,11 @@ pub extern "C" fn zerotrie_encoded_len(
     }
 }
 
-/// Returns whether all keys are ASCII.
-fn are_ascii(pairs: &[Pair<'_>]) -> bool
-    ensures { result ≡ are_ascii (given pairs.now) }
-{
-    pairs.iter().all(|pair| pair.key.is_ascii())
-}
-
 /// Returns the number of the kind that suits the pairs: 0 if all keys are ASCII and there are fewer
 /// than 512, else 3.
 #[unsafe(no_mangle)]
 pub extern "C" fn zerotrie_auto_kind(pairs: &[Pair<'_>]) -> u32
     ensures { result ≡ tag (auto_kind (given pairs.now)) }
 {
-    let kind = if pairs.len() < TrieKind::SIMPLE_LIMIT && are_ascii(pairs) {
-        TrieKind::Simple
-    } else {
-        TrieKind::Hash
-    };
-    u32::from(kind.tag())
+    u32::from(kind_for_pairs(pairs).tag())
 }

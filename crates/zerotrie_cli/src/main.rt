@@ -1,22 +1,140 @@
 //! Makes tries in files and reads them.
 #![tactic(auto)]
 
-mod arguments;
-mod build;
-mod code;
-mod combine;
-mod commands;
-mod diff;
-mod help;
-mod input;
-mod keys;
-mod listing;
-mod question;
-mod search;
-mod table;
+ghost use Rattle.std.specs.Prelude.{◌≡◌};
+ghost use Rattle.zerotrie_words.specs.Replies.{status_of};
 
+use std::io::{BufWriter, IsTerminal};
 use std::process::ExitCode;
+use std::{env, fs, io};
+use zerotrie_files::{Noted, Store, SystemDisk};
+use zerotrie_run::{Command, Place, Status, run};
+use zerotrie_words::{Reply, Request};
+
+const NOT_UTF8: &str = "the arguments are not UTF-8; give keys of other bytes as lines of standard \
+    input by -, and a file of such a name as - with <";
+
+const OUTPUT_IS_TERMINAL: &str =
+    "standard output is a terminal: name a file by -o, or redirect the output";
+
+/// Prints the help or the version that the words asked for.
+fn show_help(rt: &HostRuntime, text: &str) -> Status {
+    match print!(rt; "{text}") {
+        Ok(()) => Status::Done,
+        // who reads the output has enough
+        Err(error) if error.kind() == io::ErrorKind::BrokenPipe => Status::Closed,
+        Err(error) => {
+            let _ = eprintln!(rt; "zerotrie: standard output: {error}");
+            Status::Unwritten
+        }
+    }
+}
+
+/// Prints why no command is run to standard error. If that can't be written, the status alone says
+/// it.
+fn refuse(rt: &HostRuntime, reply: &Reply<'_>) -> Status
+    ensures { result ≡ status_of reply.now }
+{
+    let _ = match reply {
+        Reply::Help(text) | Reply::Misuse(text) => eprint!(rt; "{text}"),
+        Reply::Refusal(why) => eprintln!(rt; "zerotrie: {why}"),
+        Reply::OneFile(from, to) => {
+            eprintln!(rt; "zerotrie: {from} and {to}: IN and OUT are the same file")
+        }
+        Reply::OutOfMemory => eprintln!(rt; "zerotrie: out of memory"),
+    };
+    reply.status()
+}
+
+/// Prints what is said in place of a command.
+fn say(rt: &HostRuntime, reply: &Reply<'_>) -> Status {
+    match reply {
+        Reply::Help(text) => show_help(rt, text.as_str()),
+        Reply::Misuse(_) | Reply::Refusal(_) | Reply::OneFile(_, _) | Reply::OutOfMemory => {
+            refuse(rt, reply)
+        }
+    }
+}
+
+/// Runs a command over the files and streams of the system.
+fn run_here(rt: &HostRuntime, command: Command<'_>) -> Status {
+    let Ok(output) = BufWriter::new(rt.alloc(), rt.stdout()) else {
+        return say(rt, &Reply::OutOfMemory);
+    };
+    run(
+        rt.alloc(),
+        command,
+        &mut Store::new(SystemDisk::new(rt, rt.process())),
+        &mut Noted::new(rt.stdin()),
+        &mut Noted::new(output),
+        &mut Noted::new(rt.stderr()),
+    )
+}
+
+/// Returns whether two paths lead to one file, by whatever links.
+fn lead_to_one_file(rt: &HostRuntime, path: &str, other: &str) -> bool {
+    match (fs::canonicalize(rt, path), fs::canonicalize(rt, other)) {
+        (Ok(path), Ok(other)) => path == other,
+        _ => false,
+    }
+}
+
+/// Returns whether what is made would go to a terminal, which shows no bytes of a file.
+fn goes_to_terminal(rt: &HostRuntime, command: &Command<'_>) -> bool {
+    match command {
+        Command::Build(build) => build.to == Place::Stream && rt.stdout().is_terminal(),
+        Command::Combine(both) => both.to == Place::Stream && rt.stdout().is_terminal(),
+        Command::Ask(_, _) | Command::Diff(_) => false,
+    }
+}
+
+/// Returns why a command is not run here, if it is not: it would write a trie to a terminal, or
+/// replace its input by links.
+fn refusal_here<'a>(rt: &HostRuntime, command: &Command<'a>) -> Option<Reply<'a>> {
+    if goes_to_terminal(rt, command) {
+        return Some(Reply::Refusal(OUTPUT_IS_TERMINAL));
+    }
+    let Command::Build(build) = command else {
+        return None;
+    };
+    match (build.from, build.to) {
+        (Place::File(from), Place::File(to)) if lead_to_one_file(rt, from, to) => {
+            Some(Reply::OneFile(from, to))
+        }
+        _ => None,
+    }
+}
+
+/// Does what the words of the command line ask.
+fn obey(rt: &HostRuntime, words: &[String]) -> Status {
+    let request = match Request::read(rt.alloc(), words) {
+        Ok(request) => request,
+        Err(reply) => return say(rt, &reply),
+    };
+    match request.command(rt.stderr().is_terminal()) {
+        Ok(command) => match refusal_here(rt, &command) {
+            Some(reply) => say(rt, &reply),
+            None => run_here(rt, command),
+        },
+        Err(reply) => say(rt, &reply),
+    }
+}
+
+/// Returns the words that the program was called with.
+fn arguments(rt: &HostRuntime) -> io::Result<Vec<String>> {
+    Ok(env::args(rt)?.collect(rt.alloc())?)
+}
 
 fn main(rt: HostRuntime) -> ExitCode {
-    ExitCode::from(commands::run_words(&rt).number())
+    let status = match arguments(&rt) {
+        Ok(words) => obey(&rt, words.as_slice()),
+        Err(error) if error.kind() == io::ErrorKind::InvalidData => {
+            say(&rt, &Reply::Refusal(NOT_UTF8))
+        }
+        Err(error) => {
+            let _ = eprintln!(&rt; "zerotrie: the arguments can't be read: {error}");
+            Status::Unread
+        }
+    };
+    ExitCode::from(status.number())
 }

@@ -1,4 +1,5 @@
 mod BesideLemmas
+mod DeedLemmas
 mod DiskLemmas
 mod NameLemmas
 pub mod WroteLemmas

@@ -1,5 +1,5 @@
 -- The paths of new files.
-use Rattle.std.proofs.Common.{◌≡◌, ◌≢◌, ◌∙◌, ℕ, List, [], ◌++◌, length, take, drop, None, inl, inr, sym, ap, refl, append_assoc, length-append, take-append-drop, codes, decimal, arith}
+use Rattle.std.proofs.Common.{◌≢◌, ◌∙◌, ℕ, List, [], ◌++◌, length, take, drop, None, inl, inr, sym, ap, refl, append_assoc, length-append, take-append-drop, codes, decimal, arith}
 use Rattle.std.specs.Path.{slash}
 use Rattle.std.specs.Str.Iter.{LacksByte}
 use Rattle.std.specs.Str.Pattern.{RFindsChar, SplitsAroundMatch}

@@ -4,3 +4,4 @@ pub mod Parts
 pub mod Reads
 pub mod Disks
 pub mod Stores
+pub mod Deeds

@@ -1,8 +1,11 @@
 //! The calls of a file system that read a file and replace one.
 
-ghost use Rattle.std.specs.Prelude.{◌≡◌, ◌⊎◌, List, ℕ, Option, true, IfOk, IfErr, IfSome, OnOk};
+ghost use Rattle.std.specs.Prelude.{◌≡◌, ◌⊎◌, [], List, ℕ, Option, true, false, IfOk, IfErr, IfSome, OnOk};
 ghost use Rattle.std.specs.String.{string_bytes};
 ghost use Rattle.zerotrie_files.specs.Stores.{names_open_file};
+ghost use Rattle.std.specs.declared.io.Error.{Error};
+ghost use Rattle.zerotrie_files.specs.declared.found.Found.{Found};
+ghost use Rattle.zerotrie_files.specs.Deeds.{Deed, Did, DoesOrFails, Gets, filled, moved};
 ghost use Rattle.zerotrie_files.specs.Disks.{Story, Known, IsFound, IsUnread, Makes, Fills, Renames, Removes, HasNoStream};
 
 use crate::found::{Found, Mode};
@@ -16,8 +19,20 @@ pub trait Disk {
     /// says nothing of them.
     ghost story: { Self → Option Story };
 
-    /// Whether a path leads to a device or a pipe.
-    ghost is_stream: { Self → List ℕ → Type 0 };
+    /// What it did. `None` says nothing of it.
+    ghost deeds: { Self → Option (List Deed) };
+
+    /// What a path leads to.
+    ghost leads: { Self → List ℕ → Found → Type 0 };
+
+    /// Whether the second path is the first one without links.
+    ghost is_real: { Self → List ℕ → List ℕ → Type 0 };
+
+    /// Whether a path has a file, a link or a folder.
+    ghost is_taken: { Self → List ℕ → Type 0 };
+
+    /// The errors that its calls return.
+    ghost is_fault: { Error → Type 0 };
 
     /// Whether the file of a path can be written.
     ghost is_writable: { Self → List ℕ → Type 0 };
@@ -27,22 +42,27 @@ pub trait Disk {
         ensures held { IfOk result (λ bytes.
             IfSome (story self.now) (λ known. known.now path.now ≡ Some bytes.items)) }
         ensures missing { IfErr result (λ e.
-            IfSome (story self.now) (λ known. IsUnread path.now known e)) };
+            IfSome (story self.now) (λ known. IsUnread path.now known e)) }
+        ensures fault { IfErr result is_fault };
 
     /// Returns what a path leads to, by whatever links. A link to nothing is an error.
     fn find(&self, path: &str) -> io::Result<Found>
-        ensures stream { IfOk result (λ found. found ≡ Stream → is_stream self.now path.now) }
+        ensures leads { IfOk result (λ found. leads self.now path.now found) }
         ensures there { IfOk result (λ found.
-            IfSome (story self.now) (λ known. IsFound (known.now path.now) found)) };
+            IfSome (story self.now) (λ known. IsFound (known.now path.now) found)) }
+        ensures fault { IfErr result is_fault };
 
     /// Tests that the file of a path can be written.
     fn test_writable(&self, path: &str) -> io::Result<()>
-        ensures { OnOk result (is_writable self.now path.now) };
+        ensures writable { OnOk result (is_writable self.now path.now) }
+        ensures fault { IfErr result is_fault };
 
     /// Returns the path of a file without links. A disk that tells what its files hold has none.
     fn real_path(&self, path: &str) -> io::Result<String>
-        ensures { IfOk result (λ real.
-            IfSome (story self.now) (λ _. string_bytes real ≡ path.now)) };
+        ensures alone { IfOk result (λ real.
+            IfSome (story self.now) (λ _. string_bytes real ≡ path.now)) }
+        ensures real { IfOk result (λ real. is_real self.now path.now (string_bytes real)) }
+        ensures fault { IfErr result is_fault };
 
     /// Returns the number of the process, which is part of the name of a new file.
     fn process(&self) -> u32;
@@ -54,24 +74,36 @@ pub trait Disk {
     /// Makes an empty file, if the path is free. Returns `false` if the path has a file, a link or
     /// a folder, which stays.
     fn make(&mut self, path: &str) -> io::Result<bool>
-        ensures { Known (story self.old) (story self.new) (Makes path.now result) };
+        ensures story { Known (story self.old) (story self.new) (Makes path.now result) }
+        ensures deeds { Did [] (deeds self.old) (deeds self.new) }
+        ensures taken { IfOk result (λ free. free ≡ false → is_taken self.new path.now) }
+        ensures fault { IfErr result is_fault };
 
     /// Writes the bytes to the file of a path, which was the last to be made, with this mode, and
     /// syncs it before it returns.
     fn fill(&mut self, path: &str, mode: Option<Mode>, bytes: &[u8]) -> io::Result<()>
-        ensures { Known (story self.old) (story self.new) (Fills path.now bytes.now result) };
+        ensures story { Known (story self.old) (story self.new) (Fills path.now bytes.now result) }
+        ensures deeds { DoesOrFails (filled path.now mode bytes.now) result
+            (deeds self.old) (deeds self.new) }
+        ensures fault { IfErr result is_fault };
 
     /// Moves a file to another path, and replaces the file there, atomically.
     fn rename(&mut self, from: &str, to: &str) -> io::Result<()>
-        ensures { Known (story self.old) (story self.new) (Renames from.now to.now result) };
+        ensures story { Known (story self.old) (story self.new) (Renames from.now to.now result) }
+        ensures deeds { DoesOrFails (moved from.now to.now) result
+            (deeds self.old) (deeds self.new) }
+        ensures fault { IfErr result is_fault };
 
     /// Removes a file, which `make` made.
     fn remove(&mut self, path: &str) -> io::Result<()>
-        ensures { Known (story self.old) (story self.new) (Removes path.now result) };
+        ensures story { Known (story self.old) (story self.new) (Removes path.now result) }
+        ensures deeds { Did [] (deeds self.old) (deeds self.new) };
 
     /// Writes the bytes to a device or a pipe, or to the end of an open file. A disk that tells
     /// what its files hold has none of these.
     fn append(&mut self, path: &str, bytes: &[u8]) -> io::Result<()>
-        requires { (names_open_file path.now ≡ true) ⊎ is_stream self.old path.now }
-        ensures { Known (story self.old) (story self.new) (HasNoStream result) };
+        requires { (names_open_file path.now ≡ true) ⊎ leads self.old path.now Stream }
+        ensures story { Known (story self.old) (story self.new) (HasNoStream result) }
+        ensures deeds { Gets path.now bytes.now result (deeds self.old) (deeds self.new) }
+        ensures fault { IfErr result is_fault };
 }

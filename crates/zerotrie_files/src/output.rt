@@ -1,6 +1,7 @@
 //! The file that bytes go to.
 
-ghost use Rattle.std.specs.Prelude.{◌≡◌, ◌≢◌, None, IfSome, OnOk};
+ghost use Rattle.std.specs.Prelude.{◌≡◌, ◌≢◌, None, IfErr, IfSome, OnOk, OnErr};
+ghost use Rattle.zerotrie_files.specs.Deeds.{IsWriteFault, Reaches, ReachesNone};
 ghost use Rattle.zerotrie_files.specs.Disks.{Known};
 ghost use Rattle.zerotrie_files.specs.Stores.{ReplacesBeside, names_open_file};
 
@@ -41,6 +42,12 @@ pub fn write_output<D: Disk>(
         (ReplacesBeside path.now bytes.now result) }
     ensures writable { OnOk result (IfSome (D.story disk.old) (λ known.
         known.now path.now ≢ None → D.is_writable disk.old path.now)) }
+    ensures reached { OnOk result (Reaches (D.leads disk.old path.now) (D.is_real disk.old path.now)
+        path.now bytes.now (D.deeds disk.old) (D.deeds disk.new)) }
+    ensures unreached { OnErr result
+        (ReachesNone path.now bytes.now (D.deeds disk.old) (D.deeds disk.new)) }
+    ensures fault { IfErr result (IsWriteFault D.is_fault (D.is_taken disk.new)
+        (D.leads disk.old path.now) (D.is_real disk.old path.now) path.now) }
 {
     if is_open_file(path) {
         return disk.append(path, bytes);

@@ -1,7 +1,8 @@
 //! Atomic replacement of a file.
 
-ghost use Rattle.std.specs.Prelude.{◌≡◌, ◌≢◌, ◌++◌, IfOk, codes};
+ghost use Rattle.std.specs.Prelude.{◌≡◌, ◌≢◌, ◌++◌, IfOk, IfErr, OnOk, OnErr, false, codes};
 ghost use Rattle.std.specs.String.{string_bytes};
+ghost use Rattle.zerotrie_files.specs.Deeds.{FillsAndMoves, FillsAndMovesIf, IsPlaceFault, Places, PlacesNone};
 ghost use Rattle.zerotrie_files.specs.Disks.{Known, Replaces, TakesPath};
 ghost use Rattle.zerotrie_files.specs.Stores.{own_name, IsOwnPath, ReplacesBeside};
 
@@ -24,8 +25,11 @@ fn take_path<D: Disk>(
     bytes: &[u8],
 ) -> io::Result<()>
     requires { beside.now ≢ path.now }
-    ensures { Known (D.story disk.old) (D.story disk.new)
+    ensures story { Known (D.story disk.old) (D.story disk.new)
         (TakesPath path.now beside.now bytes.now result) }
+    ensures deeds { FillsAndMoves path.now beside.now mode bytes.now result
+        (D.deeds disk.old) (D.deeds disk.new) }
+    ensures fault { IfErr result D.is_fault }
 {
     disk.fill(beside, mode, bytes)?;
     disk.rename(beside, path)
@@ -38,7 +42,7 @@ fn take_path<D: Disk>(
 /// At each moment the file holds its old bytes or all of the new ones, and all other files what
 /// they held. After an error the new file is removed, and then all files are as they were. If the
 /// removal fails, too, the new file alone is left.
-#[tactic(auto, using(crate::proofs::DiskLemmas::then_taken, crate::proofs::DiskLemmas::then_removed, crate::proofs::DiskLemmas::unmade))]
+#[tactic(auto, using(crate::proofs::DeedLemmas::placed_if, crate::proofs::DeedLemmas::unplaced_if, crate::proofs::DiskLemmas::then_taken, crate::proofs::DiskLemmas::then_removed, crate::proofs::DiskLemmas::unmade))]
 pub fn replace<D: Disk>(
     disk: &mut D,
     path: &str,
@@ -47,8 +51,12 @@ pub fn replace<D: Disk>(
     bytes: &[u8],
 ) -> io::Result<bool>
     requires { beside.now ≢ path.now }
-    ensures { Known (D.story disk.old) (D.story disk.new)
+    ensures story { Known (D.story disk.old) (D.story disk.new)
         (Replaces path.now beside.now bytes.now result) }
+    ensures deeds { FillsAndMovesIf path.now beside.now mode bytes.now result
+        (D.deeds disk.old) (D.deeds disk.new) }
+    ensures taken { IfOk result (λ free. free ≡ false → D.is_taken disk.new beside.now) }
+    ensures fault { IfErr result D.is_fault }
 {
     if !disk.make(beside)? {
         return Ok(false);
@@ -111,8 +119,13 @@ pub fn replace_beside<D: Disk>(
     mode: Option<Mode>,
     bytes: &[u8],
 ) -> io::Result<()>
-    ensures { Known (D.story disk.old) (D.story disk.new)
+    ensures story { Known (D.story disk.old) (D.story disk.new)
         (ReplacesBeside path.now bytes.now result) }
+    ensures placed { OnOk result
+        (Places path.now mode bytes.now (D.deeds disk.old) (D.deeds disk.new)) }
+    ensures unplaced { OnErr result
+        (PlacesNone bytes.now (D.deeds disk.old) (D.deeds disk.new)) }
+    ensures fault { IfErr result (IsPlaceFault D.is_fault (D.is_taken disk.new) path.now) }
 {
     for tried in 0..MOST_TRIES {
         let beside = path_beside(alloc, path, disk.process(), disk.draw(tried))?;

@@ -1,6 +1,7 @@
 //! Reads and replacements of whole files.
 
-ghost use Rattle.std.specs.Prelude.{◌≡◌, ◌≢◌, ◌↔◌, ◌⊎◌, Some, None, MatchBool, IfOk, IfErr, IfSome, IsTrue, OnOk, false};
+ghost use Rattle.std.specs.Prelude.{◌≡◌, ◌≢◌, ◌↔◌, ◌⊎◌, Some, None, MatchBool, IfOk, IfErr, IfSome, IsTrue, OnOk, OnErr, false};
+ghost use Rattle.zerotrie_files.specs.Deeds.{IsWriteFault, Reaches, ReachesNone};
 ghost use Rattle.zerotrie_files.specs.Disks.{Known, IsUnread};
 ghost use Rattle.zerotrie_files.specs.Stores.{ReplacesBeside};
 ghost use Rattle.zerotrie_files.specs.Faults.{IsClosed, IsFault, IsNoted};
@@ -87,6 +88,7 @@ impl<D: Disk> Store<D> {
             IfSome (D.story self.old.disk) (λ known. known.now path.now ≡ Some bytes.items)) }
         ensures missing { IfErr result (λ e.
             IfSome (D.story self.old.disk) (λ known. IsUnread path.now known e)) }
+        ensures fault { IfErr result D.is_fault }
         ensures same { self.new.disk ≡ self.old.disk }
         ensures unread { IsTrue self.new.unread ↔ IsTrue self.old.unread ⊎ IsFault result }
         ensures unwritten { self.new.unwritten ≡ self.old.unwritten }
@@ -102,6 +104,7 @@ impl<D: Disk> Store<D> {
     pub fn has(&mut self, path: &str) -> io::Result<bool>
         ensures there { IfOk result (λ there. IfSome (D.story self.old.disk) (λ known.
             MatchBool there (known.now path.now ≢ None) (known.now path.now ≡ None))) }
+        ensures fault { IfErr result D.is_fault }
         ensures same { self.new.disk ≡ self.old.disk }
         ensures unchanged { OnOk result (self.new ≡ self.old) }
         ensures unwritten { self.new.unwritten ≡ self.old.unwritten }
@@ -124,6 +127,13 @@ impl<D: Disk> Store<D> {
             (ReplacesBeside path.now bytes.now result) }
         ensures writable { OnOk result (IfSome (D.story self.old.disk) (λ known.
             known.now path.now ≢ None → D.is_writable self.old.disk path.now)) }
+        ensures reached { OnOk result (Reaches (D.leads self.old.disk path.now)
+            (D.is_real self.old.disk path.now) path.now bytes.now
+            (D.deeds self.old.disk) (D.deeds self.new.disk)) }
+        ensures unreached { OnErr result (ReachesNone path.now bytes.now
+            (D.deeds self.old.disk) (D.deeds self.new.disk)) }
+        ensures fault { IfErr result (IsWriteFault D.is_fault (D.is_taken self.new.disk)
+            (D.leads self.old.disk path.now) (D.is_real self.old.disk path.now) path.now) }
         ensures unread { self.new.unread ≡ self.old.unread }
         ensures unwritten { IsTrue self.new.unwritten ↔ IsTrue self.old.unwritten ⊎ IsFault result }
         ensures noted { IsNoted result self.old.unwritten self.new.unwritten }

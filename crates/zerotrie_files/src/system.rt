@@ -55,7 +55,15 @@ fn fill(file: &mut File, mode: Option<Mode>, bytes: &[u8]) -> io::Result<()> {
 impl<'a, R: Files<File = File> + AllocGlobal + RandomSource> Disk for SystemDisk<'a, R> {
     ghost story = { λ _. None };
 
-    ghost is_stream = { λ _ _. Unit {0} };
+    ghost deeds = { λ _. None };
+
+    ghost leads = { λ _ _ _. Unit {0} };
+
+    ghost is_real = { λ _ _ _. Unit {0} };
+
+    ghost is_taken = { λ _ _. Unit {0} };
+
+    ghost is_fault = { λ _. Unit {0} };
 
     ghost is_writable = { λ _ _. Unit {0} };
 

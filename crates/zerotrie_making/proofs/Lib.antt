@@ -1,5 +1,6 @@
 mod ShownLemmas
 mod MadeLemmas
+mod PlaceLemmas
 mod ListedLemmas
 mod KeptLemmas
 mod WholeLemmas

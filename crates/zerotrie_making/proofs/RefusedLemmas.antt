@@ -105,13 +105,13 @@ none_searched kind pairs e first second shown is = subst (λ x. AreShown kind pa
 
 -- what was built is an index of the pairs
 is_index : (sorted : Bool) (pairs : Pairs) (bytes : List ℕ) → IsBuiltAs an_index sorted pairs bytes → IsIndexOf pairs bytes
-is_index true pairs bytes built = built.1
-is_index false pairs bytes built = built
+is_index true pairs bytes built = built.1.0
+is_index false pairs bytes built = built.0
 
 -- keys of an index are not at fault
 no_fault : IndexExcludesCauses → (sorted : Bool) (pairs : Pairs) (bytes : List ℕ) (r : Refusal) → IsBuiltAs an_index sorted pairs bytes → AreAtFault an_index sorted pairs r → ⊥
 no_fault excludes true pairs bytes r built fault = (subst (λ e. HasCause ascending perfect_hash pairs e) fault.0 fault.1.1).1 built.0
-no_fault excludes false pairs bytes r built fault = (excludes pairs bytes built).0 ((subst (λ e. HasCause any_order perfect_hash pairs e) fault.0 fault.1.1).1)
+no_fault excludes false pairs bytes r built fault = (excludes pairs bytes built.0).0 ((subst (λ e. HasCause any_order perfect_hash pairs e) fault.0 fault.1.1).1)
 
 -- nor do the pairs of an index have another cause but that they crowd
 no_index_cause : IndexExcludesCauses → (pairs : Pairs) (bytes : List ℕ) (e : ZeroIndexBuildError) → IsIndexOf pairs bytes → e ≢ index_error.OutOfMemory → e ≢ index_error.Crowded → IndexCause 0 pairs e → ⊥
@@ -139,9 +139,9 @@ index_never : IndexExcludesCauses → (content : Content) (sorted : Bool) (pairs
 index_never excludes (a_trie kind) sorted pairs bytes e built why other = why
 index_never excludes an_index true pairs bytes e built why other = elim why.1 [
   | inl unsorted ↦ unsorted.1 built.0
-  | inr cause ↦ no_index_cause excludes pairs bytes e built.1 why.0 other cause.2
+  | inr cause ↦ no_index_cause excludes pairs bytes e built.1.0 why.0 other cause.2
 ]
-index_never excludes an_index false pairs bytes e built why other = no_index_cause excludes pairs bytes e built why.0 other why.1
+index_never excludes an_index false pairs bytes e built why other = no_index_cause excludes pairs bytes e built.0 why.0 other why.1
 
 -- an input is one list of pairs at most
 one_list : OneReading → (source : Source) (input : List ℕ) (pairs others : Pairs) → IsPairs source input pairs → IsPairs source input others → others ≡ pairs

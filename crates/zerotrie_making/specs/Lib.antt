@@ -1,6 +1,7 @@
 pub mod Plans
 pub mod Json
 pub mod Kept
+pub mod Places
 pub mod Sources
 pub mod Unread
 pub mod Made

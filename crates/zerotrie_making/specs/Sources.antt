@@ -10,6 +10,7 @@ use Rattle.zerotrie_lines.specs.declared.reading.Format.{Format}
 use Rattle.zerotrie_lines.specs.declared.reading.LineEnd.{LineEnd}
 use Rattle.zerotrie_lines.specs.declared.fault.ReadError.TheVariants as fault
 use Rattle.zerotrie_making.specs.Unread.{IsFirst}
+use Rattle.zerotrie_making.specs.Places.{IsPlaceIn}
 use Rattle.zerotrie_making.specs.declared.plan.Source.{Source}
 use Rattle.zerotrie_making.specs.declared.plan.Source.TheVariants.{Text, Json}
 use Rattle.zerotrie_making.specs.declared.error.NoPair.{NoPair}
@@ -23,7 +24,7 @@ IsJson input j = IsUtf8 (strip_bom input) × (document (strip_bom input) ≡ Som
 -- why a text is no JSON value: it is none, or an allocation failed
 abbrev pub NoValue : List ℕ → MakeError → Type 0
 NoValue text (Line number bad) = ⊥
-NoValue text (NotJson line column) = document text ≡ None
+NoValue text (NotJson line column) = (document text ≡ None) × IsPlaceIn text line column
 NoValue text NotPairs = ⊥
 NoValue text (NotPair bad) = ⊥
 NoValue text (Keys s) = ⊥
@@ -31,9 +32,9 @@ NoValue text (Refused e) = ⊥
 NoValue text (IndexRefused e) = ⊥
 NoValue text OutOfMemory = Unit {0}
 
--- it says that an input is no JSON value
-abbrev pub IsNotJson : MakeError → Type 0
-IsNotJson e = (line column : ℕ) × (e ≡ NotJson line column)
+-- it says that a text is no JSON value, with a place in it
+abbrev pub IsNotJson : List ℕ → MakeError → Type 0
+IsNotJson text e = (line column : ℕ) × (e ≡ NotJson line column) × IsPlaceIn text line column
 
 -- the input is the pairs, in their order
 abbrev pub IsPairs : Source → List ℕ → Pairs → Type 0
@@ -59,7 +60,7 @@ IsUnread input bad = (j : Value) × IsJson input j × (pairs_in j ≡ None) × I
 -- or an allocation failed
 abbrev pub NoJson : List ℕ → MakeError → Type 0
 NoJson input (Line number bad) = ⊥
-NoJson input (NotJson line column) = IsUtf8 (strip_bom input) → document (strip_bom input) ≡ None
+NoJson input (NotJson line column) = (IsUtf8 (strip_bom input) → document (strip_bom input) ≡ None) × IsPlaceIn (strip_bom input) line column
 NoJson input NotPairs = IsUnread input None
 NoJson input (NotPair bad) = IsUnread input (Some bad)
 NoJson input (Keys s) = ⊥

@@ -1,7 +1,9 @@
 //! Where a text ceases to be JSON.
 
-ghost use Rattle.std.specs.Prelude.{IfOk};
+ghost use Rattle.std.specs.Prelude.{◌≡◌, IfOk, take};
+ghost use Rattle.zerotrie_making.specs.Places.{begins_character, line_after, column_after};
 ghost use Rattle.zerotrie_making.specs.Sources.{IsNotJson};
+ghost use Rattle.zerotrie_making.specs.declared.error.MakeError.TheVariants.{NotJson};
 
 use crate::error::MakeError;
 use json::{MAX_DEPTH, Reader, Scratch, Token};
@@ -71,37 +73,55 @@ fn first_misfit(alloc: Global, text: &str) -> Result<usize, AllocError> {
     Ok(place)
 }
 
-/// Returns whether a byte of UTF-8 continues a character.
-fn is_continuation(byte: u8) -> bool {
-    byte & 0xC0 == 0x80
+/// Returns whether a byte of UTF-8 begins a character.
+fn begins_character(byte: u8) -> bool
+    ensures { result ≡ begins_character byte }
+{
+    byte < 128 || 192 <= byte
 }
 
-/// Returns the line and the column of a place in a text, both from 1 on. Columns are characters.
-fn line_and_column(text: &[u8], place: usize) -> (usize, usize) {
+/// Returns the line and the column after these bytes, both from 1 on. Columns are characters.
+fn line_and_column(front: &[u8]) -> (usize, usize)
+    ensures line { result.0 ≡ line_after front.now }
+    ensures column { result.1 ≡ column_after front.now }
+{
     let mut line: usize = 1;
     let mut column: usize = 1;
-    for byte in text.iter().take(place) {
+    for byte in front {
         if *byte == b'\n' {
             line = line.saturating_add(1);
             column = 1;
-        } else if !is_continuation(*byte) {
+        } else if begins_character(*byte) {
             column = column.saturating_add(1);
         }
     }
     (line, column)
 }
 
+/// Returns what is before a place, or all of a text that is shorter.
+#[tactic(auto, using(crate::proofs::PlaceLemmas::all_of))]
+fn front_of(text: &[u8], place: usize) -> &[u8]
+    ensures { result.now ≡ take place text.now }
+{
+    if place < text.len() {
+        &text[..place]
+    } else {
+        text
+    }
+}
+
 /// Returns the error of a text that is no JSON value from this place on.
 pub(crate) fn not_json(text: &[u8], place: usize) -> MakeError
-    ensures { IsNotJson result }
+    ensures { let front = take place text.now in
+        result ≡ NotJson (line_after front) (column_after front) }
 {
-    let (line, column) = line_and_column(text, place);
+    let (line, column) = line_and_column(front_of(text, place));
     MakeError::NotJson(line, column)
 }
 
 /// Returns the error of a text that is no JSON value, with the place that shows it.
 pub(crate) fn why_no_json(alloc: Global, text: &str) -> Result<MakeError, AllocError>
-    ensures { IfOk result IsNotJson }
+    ensures { IfOk result (IsNotJson text.now) }
 {
     let place = first_misfit(alloc, text)?;
     Ok(not_json(text.as_bytes(), place))

@@ -4,24 +4,16 @@
 ghost use Rattle.std.specs.Prelude.{◌≡◌, ◌<◌, All, length, IfOk, IfSome, IfNone};
 ghost use Rattle.zerotrie_core.specs.Items.{pairs_of};
 ghost use Rattle.zerotrie_core.specs.Routes.{IsBuild, Takes};
-ghost use Rattle.zerotrie_any.specs.Auto.{are_ascii};
 ghost use Rattle.zerotrie_build.specs.Refused.{IsWhyRefused, key_at};
 ghost use Rattle.zerotrie_core.specs.Kinds.{kind_of};
 ghost use Rattle.zerotrie_making.specs.Made.{IsIndexed, AreAtFault};
 ghost use Rattle.zerotrie_making.specs.Plans.{an_index, kind_for, route_of};
 
 use std::alloc::{AllocError, Global};
-use zerotrie_any::{bytes_from_slice, bytes_from_unsorted_slice};
+use zerotrie_any::{bytes_from_slice, bytes_from_unsorted_slice, kind_for_pairs};
 use zerotrie_build::{Refusal, why_iter_refused, why_slice_refused};
 use zerotrie_core::{TrieKind, ZeroTrieBuildError, ZeroTrieWithOptions, by_kind};
 use zerotrie_index::{ZeroIndexBuildError, build, build_sorted};
-
-/// Returns whether all keys are ASCII.
-fn are_ascii(items: &[(&[u8], usize)]) -> bool
-    ensures { result ≡ are_ascii (pairs_of items.now) }
-{
-    items.iter().all(|(key, _)| key.is_ascii())
-}
 
 /// Returns the kind of a trie of the pairs: the named one, or the one that `ZeroTrie` chooses.
 pub(crate) fn kind_for(named: Option<TrieKind>, items: &[(&[u8], usize)]) -> TrieKind
@@ -29,13 +21,7 @@ pub(crate) fn kind_for(named: Option<TrieKind>, items: &[(&[u8], usize)]) -> Tri
 {
     match named {
         Some(kind) => kind,
-        None => {
-            if items.len() < TrieKind::SIMPLE_LIMIT && are_ascii(items) {
-                TrieKind::Simple
-            } else {
-                TrieKind::Hash
-            }
-        }
+        None => kind_for_pairs(items),
     }
 }
 

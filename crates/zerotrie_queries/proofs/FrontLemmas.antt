@@ -46,7 +46,7 @@ prints_all text lines first count (Some f) before now after h is next pairs leav
 prints_all text lines first count None before now after h is none pairs leaves =
     let x = h pairs leaves in
     let old = x.3 in
-    let over = none x.0 x.1 in
+    let over = (none x.0 x.1).0 in
     let len : length (fronts_left now x.0) ≡ 0 = ap (λ l. length l) over in (
       sym (append-nil lines) ∙ ap (λ k. lines ++ front_lines text k) (sym over) ∙ x.2,
       omega arith,

@@ -95,8 +95,8 @@ made_opens one build input before after held files known same made file stdin aw
 
 -- what a build of an index returns is one of the pairs
 index_built : (sorted : Bool) (pairs : Pairs) (bytes : List ℕ) → IsBuiltAs an_index sorted pairs bytes → IsIndexOf pairs bytes
-index_built true pairs bytes built = built.1
-index_built false pairs bytes built = built
+index_built true pairs bytes built = built.1.0
+index_built false pairs bytes built = built.0
 
 -- what is opened of a file that is a sealed index is that index
 index_opened : OneContent → (pairs : Pairs) (bytes made : List ℕ) (file : TrieFile) → file.bare ≡ None → IsSealedIndex bytes made → IsIndexOf pairs bytes

@@ -1,7 +1,9 @@
 -- What messages on standard error say.
-use Rattle.std.specs.Prelude.{◌≡◌, ◌≢◌, ◌⊎◌, ◌<◌, ℕ, List, [], ◌∷◌, ◌++◌, Bool, true, take, codes, decimal}
+use Rattle.std.specs.Prelude.{◌≡◌, ◌≢◌, ◌⊎◌, ◌<◌, ℕ, List, [], ◌∷◌, ◌++◌, Bool, true, false, take, codes, decimal}
 use Rattle.zerotrie_core.specs.declared.ZeroTrieBuildError.TheVariants as cause
 use Rattle.zerotrie_core.specs.Faults.{rule_text}
+use Rattle.zerotrie_any.specs.declared.bytes.TagError.{TagError}
+use Rattle.zerotrie_any.specs.declared.bytes.TagError.TheVariants.{Empty, InvalidTag}
 use Rattle.zerotrie_lines.specs.Escapes.{escaped}
 use Rattle.zerotrie_lines.specs.declared.reading.Format.TheVariants.{Lines, Tsv, TsvRaw, Csv}
 use Rattle.zerotrie_lines.specs.declared.fault.BadLine.{BadLine}
@@ -127,9 +129,16 @@ TellsMade unit (made.Refused e) text = Unit {0}
 TellsMade unit (made.IndexRefused e) text = Unit {0}
 TellsMade unit made.OutOfMemory text = Unit {0}
 
--- a message tells why a file has no trie, by whether it looks like text: that it does, or the rule and the place of the first fault
+-- what is said of a file that does not begin as a trie: that it looks like text if it does, or is empty, or begins with another number
+abbrev pub tag_words : Bool → TagError → List ℕ
+tag_words true why = codes "it looks like text: build it first"
+tag_words false Empty = codes "the file is empty"
+tag_words false InvalidTag =
+    codes "no file of zerotrie build: no kind has the number that the file begins with; if it is bare bytes, name their kind by --bare"
+
+-- a message tells why a file has no trie: what it is, or the rule and the place of the first fault
 abbrev pub TellsNoTrie : OpenError → Bool → List ℕ → Type 0
-TellsNoTrie (unopened.BadTag why) is_text text = is_text ≡ true → Says text (codes "it looks like text: build it first")
+TellsNoTrie (unopened.BadTag why) is_text text = Says text (tag_words is_text why)
 TellsNoTrie (unopened.Damaged why) is_text text = Unit {0}
 TellsNoTrie (unopened.NotWellFormed kind first) is_text text = Says text (rule_text first.cause) × Names (codes "byte") text first.place
 TellsNoTrie unopened.OutOfMemory is_text text = Unit {0}

@@ -1,7 +1,8 @@
 //! A disk in memory, whose moments are known.
 
-ghost use Rattle.std.specs.Prelude.{◌≡◌, [], Some, option_map, reverse, OnOk, OnErr, eqb, codes, false};
+ghost use Rattle.std.specs.Prelude.{◌≡◌, ◌≢◌, [], Some, None, option_map, reverse, OnOk, OnErr, eqb, codes, false};
 ghost use Rattle.std.specs.List.{starts_with};
+ghost use Rattle.zerotrie_files.specs.Disks.{IsFound};
 ghost use Rattle.zerotrie_run_tests.specs.Steps.{files_after, story_of, IsRemoval};
 
 use std::alloc::Global;
@@ -24,7 +25,7 @@ enum Step {
 ///
 /// A path says what fails: there is no room for the bytes of a file whose name begins with `.full`,
 /// a file whose name begins with `locked` can't be written, none takes a path that begins with
-/// `held`, and none whose name begins with `.held-on` can be removed.
+/// `held`, none whose name begins with `.held-on` can be removed, and there is no folder `missing`.
 #[derive(Drop)]
 pub struct MemoryDisk {
     alloc: Global,
@@ -105,7 +106,16 @@ impl MemoryDisk {
 impl Disk for MemoryDisk {
     ghost story = { λ disk. Some (story_of disk.steps.items disk.unremoved) };
 
-    ghost is_stream = { λ _ _. ⊥ };
+    ghost deeds = { λ _. None };
+
+    ghost leads = { λ disk path found.
+        IsFound (files_after (reverse disk.steps.items) path) found };
+
+    ghost is_real = { λ _ path real. real ≡ path };
+
+    ghost is_taken = { λ disk path. files_after (reverse disk.steps.items) path ≢ None };
+
+    ghost is_fault = { λ _. Unit {0} };
 
     ghost is_writable = { λ _ path. starts_with eqb path (codes "locked") ≡ false };
 
@@ -143,6 +153,9 @@ impl Disk for MemoryDisk {
     }
 
     fn make(&mut self, path: &str) -> io::Result<bool> {
+        if path.starts_with("missing/") {
+            return Err(io::Error::from(ErrorKind::NotFound));
+        }
         if self.held(path).is_some() {
             return Ok(false);
         }

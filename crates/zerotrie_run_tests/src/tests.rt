@@ -6,7 +6,7 @@ use crate::memory::MemoryDisk;
 use planted::{are_planted, plant};
 use std::alloc::Global;
 use std::io;
-use std::io::{BufWriter, Cursor, ErrorKind, Read};
+use std::io::{BufWriter, Cursor, ErrorKind, Read, Write};
 use std::process::Abort;
 use std::test::Fail;
 use zerotrie_core::TrieKind;
@@ -17,8 +17,11 @@ use zerotrie_making::{Duplicates, FileForm, FilePlan, Plan, ReadPlan, Source};
 use zerotrie_queries::{
     Asked, Choice, Form, Language, Order, Query, ReportForm, Spelling, Style, View,
 };
-use zerotrie_run::{Build, Check, Command, Keys, Place, Question, Status, TrieFile, run};
+use zerotrie_run::{
+    Build, Check, Combine, Command, Diff, Keys, Place, Question, Status, TrieFile, run,
+};
 use zerotrie_sealed::seal_index;
+use zerotrie_sets::{Keep, Operation};
 
 /// A run of the program: the files that are there, the words that are typed in, and what is to come of it.
 struct Row {
@@ -132,6 +135,10 @@ const BUILDS: [Row; 4] = [
 const SEALED: &[u8] =
     b"ztri\x89\x8a\r\n\x01\0\0\0\x11\0\0\0\0\0\0\0\xc9\x0b\xf0\x8d\xC2bf\x0Aa\xC2rz\x01\x82zoo\x83oo\x81";
 
+/// The same with another last byte.
+const DAMAGED: &[u8] =
+    b"ztri\x89\x8a\r\n\x01\0\0\0\x11\0\0\0\0\0\0\0\xc9\x0b\xf0\x8d\xC2bf\x0Aa\xC2rz\x01\x82zoo\x83oo\x82";
+
 /// A build of that file where one is to be left as it is.
 const SPARING: Build<'static> = Build {
     plan: Plan {
@@ -162,7 +169,7 @@ const LONGEST: Query = Query {
 };
 
 /// Sealed files: made and asked, spared, and damaged.
-const SEALS: [Row; 6] = [
+const SEALS: [Row; 7] = [
     Row {
         files: &[("names.tsv", NAMES)],
         command: Command::Build(SPARING),
@@ -210,6 +217,14 @@ const SEALS: [Row; 6] = [
         left: ("names.trie", b"ztri\x89\x8a\r\n\x01\0"),
     },
     Row {
+        files: &[("names.trie", DAMAGED)],
+        command: Command::Ask(FILE, Question::Verify),
+        status: Status::BadInput,
+        printed: b"",
+        told: b"zerotrie: names.trie: the file is damaged: its bytes do not have the checksum that it was written with\n",
+        left: ("names.trie", DAMAGED),
+    },
+    Row {
         files: &[("names.trie", NAMES)],
         command: Command::Ask(FILE, Question::Verify),
         status: Status::BadInput,
@@ -220,7 +235,7 @@ const SEALS: [Row; 6] = [
 ];
 
 /// Builds that are refused, and leave the file that was there.
-const REFUSED: [Row; 6] = [
+const REFUSED: [Row; 7] = [
     Row {
         files: &[("names.tsv", b"a\t1\nb\t2\na\t3\n"), ("names.trie", TRIE)],
         command: Command::Build(INDEXING),
@@ -274,6 +289,17 @@ const REFUSED: [Row; 6] = [
         printed: b"",
         told: b"zerotrie: held: no storage space\n",
         left: ("held", TRIE),
+    },
+    Row {
+        files: &[("names.tsv", NAMES)],
+        command: Command::Build(Build {
+            to: Place::File("missing/names.trie"),
+            ..BUILD
+        }),
+        status: Status::Unwritten,
+        printed: b"",
+        told: b"zerotrie: missing/names.trie: the folder of the file is not there\n",
+        left: ("names.tsv", NAMES),
     },
 ];
 
@@ -413,8 +439,84 @@ const SHOWN: [Row; 6] = [
     },
 ];
 
+/// A key with a comma and its value: as a trie, as `csv` and as JSON.
+const QUOTED: &[u8] = b"\x00a,b\x83";
+
+const QUOTED_CSV: &[u8] = b"\"a,b\",3\n";
+
+const QUOTED_JSON: &[u8] = b"{\"a,b\":3}\n";
+
+/// How pairs are read of it, if the form is named.
+const READ: ReadPlan = ReadPlan {
+    source: Source::Json,
+    lower_case: false,
+    duplicates: Duplicates::Refuse,
+};
+
+/// Pairs that are listed as `csv` and as JSON, and the trie that is made of what was printed.
+const MADE_AGAIN: [Row; 4] = [
+    Row {
+        files: &[("names.trie", QUOTED)],
+        command: Command::Ask(
+            FILE,
+            Question::List(
+                Form::Lines(Style::Csv),
+                Choice::Prefix(b""),
+                Order::Stored,
+                None,
+            ),
+        ),
+        status: Status::Done,
+        printed: QUOTED_CSV,
+        told: b"",
+        left: ("names.trie", QUOTED),
+    },
+    Row {
+        files: &[("names.tsv", QUOTED_CSV)],
+        command: Command::Build(Build {
+            plan: Plan {
+                read: ReadPlan {
+                    source: Source::Text(Format::Csv, LineEnd::CrLf),
+                    ..READ
+                },
+                file: TAGGED,
+            },
+            ..BUILD
+        }),
+        status: Status::Done,
+        printed: b"",
+        told: b"",
+        left: ("names.trie", QUOTED),
+    },
+    Row {
+        files: &[("names.trie", QUOTED)],
+        command: Command::Ask(
+            FILE,
+            Question::List(Form::Json, Choice::Prefix(b""), Order::Stored, None),
+        ),
+        status: Status::Done,
+        printed: QUOTED_JSON,
+        told: b"",
+        left: ("names.trie", QUOTED),
+    },
+    Row {
+        files: &[("names.tsv", QUOTED_JSON)],
+        command: Command::Build(Build {
+            plan: Plan {
+                read: READ,
+                file: TAGGED,
+            },
+            ..BUILD
+        }),
+        status: Status::Done,
+        printed: b"",
+        told: b"",
+        left: ("names.trie", QUOTED),
+    },
+];
+
 /// Questions without an answer: the file has no trie, is the keys too, or is not there.
-const UNANSWERED: [Row; 4] = [
+const UNANSWERED: [Row; 5] = [
     Row {
         files: &[("names.trie", b"\x00a")],
         command: Command::Ask(FILE, Question::Report(ReportForm::Lines)),
@@ -452,6 +554,140 @@ const UNANSWERED: [Row; 4] = [
         printed: b"",
         told: b"zerotrie: names.trie: entity not found\n",
         left: ("names.tsv", NAMES),
+    },
+    Row {
+        files: &[("names.trie", b"")],
+        command: Command::Ask(FILE, Question::Verify),
+        status: Status::BadInput,
+        printed: b"",
+        told: b"zerotrie: names.trie: the file is empty\n",
+        left: ("names.trie", b""),
+    },
+];
+
+/// What changed from one file to another.
+const DIFF: Command<'static> = Command::Diff(Diff {
+    old: Place::File("old"),
+    new: Place::File("new"),
+    bare: None,
+});
+
+/// Tries that have other pairs or the same, and what is not compared.
+const DIFFS: [Row; 5] = [
+    Row {
+        files: &[("old", b"\x00a\x85"), ("new", b"\x00\xC2ab\x01\x86\x87")],
+        command: DIFF,
+        status: Status::Absent,
+        printed: b"~\ta\t5\t6\n+\tb\t7\n",
+        told: b"",
+        left: ("new", b"\x00\xC2ab\x01\x86\x87"),
+    },
+    Row {
+        files: &[("old", b"\x00b\x87"), ("new", b"\x00a\x85")],
+        command: DIFF,
+        status: Status::Absent,
+        printed: b"+\ta\t5\n-\tb\t7\n",
+        told: b"",
+        left: ("old", b"\x00b\x87"),
+    },
+    Row {
+        files: &[("old", b"\x00a\x85"), ("new", b"\x00a\x85")],
+        command: DIFF,
+        status: Status::Done,
+        printed: b"",
+        told: b"",
+        left: ("old", b"\x00a\x85"),
+    },
+    Row {
+        files: &[("old", b"\x00a\x85"), ("new", NAMES)],
+        command: DIFF,
+        status: Status::BadInput,
+        printed: b"",
+        told: b"zerotrie: new: it looks like text: build it first\n",
+        left: ("new", NAMES),
+    },
+    Row {
+        files: &[("new", b"\x00a\x85")],
+        command: DIFF,
+        status: Status::Unread,
+        printed: b"",
+        told: b"zerotrie: old: entity not found\n",
+        left: ("new", b"\x00a\x85"),
+    },
+];
+
+/// The file of the pairs of either of two others.
+const EITHER: Combine<'static> = Combine {
+    operation: Operation::Union(Keep::First),
+    first: Place::File("one"),
+    second: Place::File("two"),
+    to: Place::File("names.trie"),
+    kind: None,
+    form: FileForm::Tagged,
+    no_clobber: false,
+};
+
+/// The trie of `a` with 5 and `b` with 7.
+const BOTH: &[u8] = b"\x00\xC2ab\x01\x85\x87";
+
+/// Files that are made of two others, and one that is not.
+const COMBINED: [Row; 6] = [
+    Row {
+        files: &[("one", b"\x00a\x85"), ("two", b"\x00\xC2ab\x01\x86\x87")],
+        command: Command::Combine(EITHER),
+        status: Status::Done,
+        printed: b"",
+        told: b"",
+        left: ("names.trie", BOTH),
+    },
+    Row {
+        files: &[("one", b"\x00a\x85"), ("two", b"\x00\xC2ab\x01\x86\x87")],
+        command: Command::Combine(Combine {
+            operation: Operation::Intersection(Keep::Last),
+            ..EITHER
+        }),
+        status: Status::Done,
+        printed: b"",
+        told: b"",
+        left: ("names.trie", b"\x00a\x86"),
+    },
+    Row {
+        files: &[("one", BOTH), ("two", b"\x00b\x81")],
+        command: Command::Combine(Combine {
+            operation: Operation::Difference,
+            ..EITHER
+        }),
+        status: Status::Done,
+        printed: b"",
+        told: b"",
+        left: ("names.trie", b"\x00a\x85"),
+    },
+    Row {
+        files: &[("one", BOTH), ("two", b"")],
+        command: Command::Combine(EITHER),
+        status: Status::BadInput,
+        printed: b"",
+        told: b"zerotrie: two: the file is empty\n",
+        left: ("one", BOTH),
+    },
+    Row {
+        files: &[("one", BOTH), ("names.trie", TRIE)],
+        command: Command::Combine(EITHER),
+        status: Status::Unread,
+        printed: b"",
+        told: b"zerotrie: two: entity not found\n",
+        left: ("names.trie", TRIE),
+    },
+    Row {
+        files: &[("one", BOTH), ("two", BOTH), ("held", TRIE)],
+        command: Command::Combine(Combine {
+            to: Place::File("held"),
+            ..EITHER
+        }),
+        status: Status::Unwritten,
+        printed: b"",
+        told: b"zerotrie: held: no storage space\n",
+        left: ("held", TRIE),
     },
 ];
 
@@ -567,6 +803,21 @@ fn what_is_no_trie_is_not_asked(rt: HostRuntime) -> Result<(), Fail> {
 }
 
 #[test]
+fn what_is_listed_is_made_again(rt: HostRuntime) -> Result<(), Fail> {
+    are_run(&rt, rt.alloc(), &MADE_AGAIN)
+}
+
+#[test]
+fn files_are_compared(rt: HostRuntime) -> Result<(), Fail> {
+    are_run(&rt, rt.alloc(), &DIFFS)
+}
+
+#[test]
+fn a_file_is_made_of_two(rt: HostRuntime) -> Result<(), Fail> {
+    are_run(&rt, rt.alloc(), &COMBINED)
+}
+
+#[test]
 fn a_number_that_is_read_as_a_byte_is_told(rt: HostRuntime) -> Result<(), Fail> {
     are_run(&rt, rt.alloc(), &NOTED)
 }
@@ -584,6 +835,90 @@ impl Read for Broken {
         }
         self.left.read(buf)
     }
+}
+
+/// Streams of which a signal interrupts each other call, and that take few bytes at once.
+#[derive(Drop)]
+struct Interrupted {
+    left: &'static [u8],
+    written: Vec<u8>,
+    calls: u8,
+}
+
+impl Interrupted {
+    /// Returns a stream that has these bytes to read.
+    fn of(alloc: Global, left: &'static [u8]) -> Self {
+        Interrupted {
+            left,
+            written: Vec::new(alloc),
+            calls: 0,
+        }
+    }
+
+    /// Begins a call, or is interrupted.
+    fn begin(&mut self) -> io::Result<()> {
+        self.calls = u8::wrapping_add(self.calls, 1);
+        if self.calls.is_multiple_of(2) {
+            Ok(())
+        } else {
+            Err(io::Error::from(ErrorKind::Interrupted))
+        }
+    }
+}
+
+impl Read for Interrupted {
+    fn read(&mut self, buf: &mut [u8]) -> io::Result<usize> {
+        self.begin()?;
+        self.left.read(buf)
+    }
+}
+
+impl Write for Interrupted {
+    fn write(&mut self, buf: &[u8]) -> io::Result<usize> {
+        self.begin()?;
+        let taken = &buf[..usize::min(3, buf.len())];
+        self.written.extend_from_slice(taken)?;
+        Ok(taken.len())
+    }
+
+    fn flush(&mut self) -> io::Result<()> {
+        Ok(())
+    }
+}
+
+#[test]
+fn an_interrupted_call_is_made_again(rt: HostRuntime) -> Result<(), Fail> {
+    let alloc = rt.alloc();
+    let mut files = Store::new(disk_with(alloc, &[("names.trie", TRIE)])?);
+    let mut output = Noted::new(BufWriter::new(alloc, Interrupted::of(alloc, b""))?);
+    let mut messages = Noted::new(Interrupted::of(alloc, b""));
+    let mut input = Noted::new(Interrupted::of(alloc, b"barn\nfoo\n"));
+    let question = Question::LookUp(LONGEST, Keys::Lines);
+    let status = run(
+        alloc,
+        Command::Ask(FILE, question),
+        &mut files,
+        &mut input,
+        &mut output,
+        &mut messages,
+    );
+    assert!(rt; status == Status::Done);
+    assert!(rt; output.get_ref().get_ref().written.as_slice() == b"bar\t2\nfoo\t1\n".as_slice());
+    let command = Command::Build(BUILD);
+    let status = run(
+        alloc,
+        command,
+        &mut files,
+        &mut input,
+        &mut output,
+        &mut messages,
+    );
+    assert!(rt; status == Status::Unread);
+    assert!(rt;
+        messages.get_ref().written.as_slice()
+            == b"zerotrie: names.tsv: entity not found\n".as_slice()
+    );
+    Ok(())
 }
 
 /// If an input breaks off, the lines that came whole are answered, and the answers are handed on.

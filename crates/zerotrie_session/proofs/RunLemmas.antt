@@ -1,15 +1,17 @@
 -- Answering line by line.
-use Rattle.std.proofs.Common.{◌≡◌, ◌≢◌, ℕ, zero, suc, true, false, ◌+◌, ◌<◌, ◌≤◌, List, [], ◌∷◌, ◌++◌, length, map, drop, get_or, refl, sym, ◌∙◌, ap, subst, arith, Option, None, max, append_assoc}
+use Rattle.std.proofs.Common.{◌≡◌, ◌≢◌, ℕ, zero, suc, true, false, ◌+◌, ◌<◌, ◌≤◌, List, [], ◌∷◌, ◌++◌, length, map, take, drop, take-append-drop, get_or, refl, sym, ◌∙◌, ap, subst, arith, Option, None, max, append_assoc}
 use Rattle.std.specs.Borrow.{Bor}
 use Rattle.std.specs.Prelude.{◌==◌}
 use Rattle.std.proofs.lemmas.Bool.{eqb-true, eqb-false}
-use Rattle.std.proofs.lemmas.List.{append-nil, length-map}
+use Rattle.std.proofs.lemmas.List.{append-nil, length-map, length-take-le}
 use Rattle.std.proofs.Math.ListN.{drop_of_length-le}
 use Rattle.zerotrie_session.specs.declared.answer.Session.{Session}
 use Rattle.zerotrie_session.specs.Lines.{lines_of}
 use Rattle.zerotrie_session.specs.Commands.{Command, IsCommand}
 use Rattle.zerotrie_session.specs.Answers.{State, CanDo, AnswersLines, Answers}
 use Rattle.zerotrie_session.specs.Answers.AnswersLines.{end, empty, does, bad}
+use Rattle.zerotrie_session.specs.BadLines.{IsBadLine, HasBadLine}
+use Rattle.zerotrie_session.specs.declared.command.BadLine.{BadLine}
 use Rattle.zerotrie_session.specs.Replies.{bad_line}
 use Rattle.zerotrie_session.specs.answer.Sessions.{HasStateIfAny, AfterCommand}
 
@@ -82,3 +84,15 @@ answering_all input lines i session output status a l =
     let past : drop i (texts lines) ≡ [] = drop_of_length-le (texts lines) (omega (arith, length-map {B = List ℕ} lines (λ line. line.now))) in
     let most : max status 0 ≡ status = omega arith in
     rw most at (rw (append-nil output) at (a.rest [] 0 (subst (λ ls. AnswersLines (i + 1) a.held ls [] 0) (sym past) end)))
+
+-- the line at i, by its number
+pub bad_at : (input : List ℕ) (lines : List (Bor (List ℕ))) (i : ℕ) (why : BadLine) → texts lines ≡ lines_of input → i < length lines → IsBadLine (line_at lines i) why → HasBadLine input (i + 1) why
+bad_at input lines i why e l is =
+    let long : i ≤ length (texts lines) = omega (arith, length-map {B = List ℕ} lines (λ line. line.now)) in (
+      take i (texts lines),
+      line_at lines i,
+      drop (i + 1) (texts lines),
+      sym e ∙ sym (take-append-drop i (texts lines)) ∙ ap (λ rest. take i (texts lines) ++ rest) (at_line lines i l),
+      omega (arith, length-take-le i (texts lines) long),
+      is,
+    )

@@ -1,5 +1,5 @@
 -- What a session holds.
-use Rattle.std.proofs.Common.{◌≡◌, ◌≢◌, ℕ, List, [], ◌∷◌, ◌++◌, Option, Some, None, Result, Ok, Err, IfOk, refl, sym, ◌∙◌, ap, subst, arith}
+use Rattle.std.proofs.Common.{◌≡◌, ◌≢◌, ℕ, List, [], ◌∷◌, ◌++◌, Option, Some, None, Result, Ok, Err, IfOk, inr, refl, sym, ◌∙◌, ap, subst, arith}
 use Rattle.std.specs.Borrow.{Bor}
 use Rattle.std.proofs.lemmas.List.{map-append, append-nil}
 use Rattle.zerotrie.specs.Kind.{Kind}
@@ -157,7 +157,7 @@ not_done line command is before none (Some s) h = λ other reads can. none s h (
 after_line : (line : List ℕ) (command : Command) → IsCommand line command → (before after : Session) (old new : List ℕ) (outcome : Outcome) → AfterRequest command before after old new outcome → AfterLine line (Some before) (Some after) old new outcome
 after_line line command is before after old new Done done = acted line command is before after old new 0 done
 after_line line command is before after old new Refused done = acted line command is before after old new 1 done
-after_line line command is before after old new (Bad bad) done = (done.0, not_done line command is before done.1)
+after_line line command is before after old new (Bad bad) done = (done.0, not_done line command is before done.1, inr (inr (done.2, (done.3.0, subst (IsCommand line) done.3.1 is))))
 
 pub after_request : (line : List ℕ) (command : Command) → IsCommand line command → (before after : Session) (old new : List ℕ) (result : Result Outcome AllocError) → IfOk result (AfterRequest command before after old new) → IfOk result (AfterLine line (Some before) (Some after) old new)
 after_request line command is before after old new (Ok outcome) done = after_line line command is before after old new outcome done

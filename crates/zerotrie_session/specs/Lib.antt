@@ -2,9 +2,9 @@ pub mod Lines
 pub mod Numbers
 pub mod Calls
 pub mod Commands
-pub mod BadLines
 pub mod Replies
 pub mod Answers
+pub mod BadLines
 pub mod Noted
 pub mod Faults
 pub mod answer

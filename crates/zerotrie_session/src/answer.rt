@@ -1,10 +1,11 @@
 //! The output for an input.
 
-ghost use Rattle.std.specs.Prelude.{◌≡◌, ◌↔◌, ◌++◌, ◌∷◌, [], map, OnOk, OnErr, IfOk, IsSome, string_bytes};
+ghost use Rattle.std.specs.Prelude.{◌≡◌, ◌↔◌, ◌++◌, ◌∷◌, [], map, OnOk, OnErr, IfOk, IfSome, IsSome, string_bytes};
 ghost use Rattle.zerotrie.specs.Routes.{any_order, IsBuild};
 ghost use Rattle.zerotrie_session.specs.Lines.{lines_of};
 ghost use Rattle.zerotrie_session.specs.Commands.{kind_of, build, walk};
 ghost use Rattle.zerotrie.specs.Walks.{ops_of};
+ghost use Rattle.zerotrie_session.specs.BadLines.{HasBadLine};
 ghost use Rattle.zerotrie_session.specs.Answers.{Answers, State, without_trie, with_trie};
 ghost use Rattle.zerotrie_session.specs.answer.Parsing.{meaning};
 ghost use Rattle.zerotrie_session.specs.answer.Tries.{trie_bytes};
@@ -153,6 +154,8 @@ pub fn answer_all(alloc: Global, input: &[u8]) -> Result<Answered, AllocError>
     ensures answers { IfOk result (λ answered.
         Answers input.now (string_bytes answered.output) answered.status) }
     ensures bad { IfOk result (λ answered. IsSome answered.bad ↔ (answered.status ≡ 2)) }
+    ensures why { IfOk result (λ answered.
+        IfSome answered.bad (λ bad. HasBadLine input.now bad.0 bad.1)) }
 {
     let lines = split_lines(alloc, input)?;
     let mut held = None;

@@ -3,6 +3,7 @@
 ghost use Rattle.std.specs.Prelude.{◌≡◌, ◌≢◌, ◌↔◌, ℕ, List, false, true, IfOk, IfErr, IfSome, IsSome, IsErrOf};
 ghost use Rattle.std.specs.Io.KnownBytes.{Appends};
 ghost use Rattle.zerotrie_session.specs.Answers.{Answers};
+ghost use Rattle.zerotrie_session.specs.BadLines.{HasBadLine};
 ghost use Rattle.zerotrie_session.specs.declared.running.RunError.TheVariants.{OutOfMemory};
 
 use crate::answer::answer_all;
@@ -131,6 +132,8 @@ pub fn run_explained<R: Read, W: Write>(
         (output : List ℕ) × Answers input output ended.status
         × Appends (W.contents writer.old.inner) (W.contents writer.new.inner) output)) }
     ensures bad { IfOk result (λ ended. IsSome ended.bad ↔ (ended.status ≡ 2)) }
+    ensures why { IfOk result (λ ended. IfSome (R.remaining reader.old.inner) (λ input.
+        IfSome ended.bad (λ bad. HasBadLine input bad.0 bad.1))) }
     ensures unwritten { IfErr result (λ e. e ≢ RunError.Write → writer.new ≡ writer.old) }
 {
     let input = read_all(alloc, reader)?;

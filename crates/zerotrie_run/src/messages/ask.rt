@@ -3,7 +3,7 @@
 ghost use Rattle.std.specs.Prelude.{◌≡◌, List, ℕ, true, false, IfOk, IfSome, IfNone, OnOk, codes};
 ghost use Rattle.std.specs.Io.KnownBytes.{Appends};
 ghost use Rattle.zerotrie_core.specs.Faults.{rule_text};
-ghost use Rattle.zerotrie_run.specs.Messages.{BeginsWithNoDigit, IsLine, IsLineOn, Names, Says, TellsAsk, TellsNoTrie, source_name, told_key};
+ghost use Rattle.zerotrie_run.specs.Messages.{BeginsWithNoDigit, IsLine, IsLineOn, Names, Says, TellsAsk, TellsNoTrie, source_name, tag_words, told_key};
 ghost use Rattle.zerotrie_run.specs.Runs.{HasNumberToo};
 ghost use Rattle.zerotrie_run.specs.Told.{LineTold, TellsMore};
 
@@ -56,22 +56,18 @@ fn malformed(
     Ok(text)
 }
 
-/// Returns a line that says why the kind of a file is not known: it looks like text, or has no kind.
-fn no_kind(alloc: Global, place: &str, why: &TagError, is_text: bool) -> Result<Vec<u8>, AllocError>
-    ensures line { IfOk result (λ text. IsLineOn place.now text.items) }
-    ensures says { IfOk result (λ text. is_text ≡ true
-        → Says text.items (codes "it looks like text: build it first")) }
+/// Returns what is said of a file whose kind is not known: it looks like text, or has no kind.
+fn tag_words(why: &TagError, is_text: bool) -> &'static str
+    ensures { result.now ≡ tag_words is_text why.now }
 {
     if is_text {
-        return line_on(alloc, place, "it looks like text: build it first");
+        return "it looks like text: build it first";
     }
     match why {
-        TagError::Empty => line_on(alloc, place, "the file is empty"),
-        TagError::InvalidTag => line_on(
-            alloc,
-            place,
-            "no file of zerotrie build: no kind has the number that the file begins with; if it is bare bytes, name their kind by --bare",
-        ),
+        TagError::Empty => "the file is empty",
+        TagError::InvalidTag => {
+            "no file of zerotrie build: no kind has the number that the file begins with; if it is bare bytes, name their kind by --bare"
+        }
     }
 }
 
@@ -102,7 +98,7 @@ pub fn no_trie(
 {
     let path = source_name(file.place);
     match why {
-        OpenError::BadTag(why) => no_kind(alloc, path, why, is_text),
+        OpenError::BadTag(why) => line_on(alloc, path, tag_words(why, is_text)),
         OpenError::Damaged(why) => damaged(alloc, path, *why),
         OpenError::NotWellFormed(kind, fault) => malformed(alloc, file, *kind, *fault),
         OpenError::OutOfMemory => line_on(alloc, path, "out of memory"),

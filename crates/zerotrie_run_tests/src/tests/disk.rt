@@ -2,8 +2,9 @@
 //! names of its own.
 
 use std::fs;
-use std::fs::Permissions;
+use std::fs::{OpenOptions, Permissions};
 use std::io::ErrorKind;
+use std::os::fd::AsRawFd;
 use std::os::unix::fs::{PermissionsExt, symlink};
 use std::process::Abort;
 use std::test::Fail;
@@ -141,9 +142,23 @@ fn a_link_stays(rt: HostRuntime) -> Result<(), Fail> {
 }
 
 #[test]
+fn an_open_file_is_written_at_its_end(rt: HostRuntime) -> Result<(), Fail> {
+    fs::write(&rt, "opened", b"old, ")?;
+    let file = OpenOptions::new().write(true).open(&rt, "opened")?;
+    let number = file.as_raw_fd();
+    let path = format!(in rt.alloc(); "/dev/fd/{number}")?;
+    assert!(rt; replaces(&rt, path.as_str(), b"new, "));
+    assert!(rt; replaces(&rt, path.as_str(), b"newer"));
+    assert!(rt; holds(&rt, "opened", b"old, new, newer"));
+    assert!(rt; count_of(&rt, ".", ".opened")? == 0);
+    Ok(())
+}
+
+#[test]
 fn what_cannot_be_replaced_stays(rt: HostRuntime) -> Result<(), Fail> {
     fs::create_dir(&rt, "folder")?;
-    assert!(rt; !replaces(&rt, "folder", b"new"));
+    let folder = Store::new(disk_of(&rt)).replace(rt.alloc(), "folder", b"new");
+    assert!(rt; matches!(&folder, Err(error) if error.kind() == ErrorKind::IsADirectory));
     assert!(rt; !replaces(&rt, "missing/names", b"new"));
     fs::write(&rt, "folder/names", b"old")?;
     fs::set_permissions(&rt, "folder", Permissions::from_mode(0o555))?;

@@ -5,6 +5,9 @@ use Rattle.zerotrie.specs.Maps.{map_of}
 use Rattle.zerotrie.specs.Texts.{Means}
 use Rattle.zerotrie_session.specs.Commands.{Command, IsCommand}
 use Rattle.zerotrie_session.specs.Answers.{State, Does, CanDo}
+use Rattle.zerotrie_session.specs.BadLines.{IsBadLine}
+use Rattle.zerotrie_session.specs.declared.command.BadLine.TheVariants.{WalkUnderAuto}
+use Rattle.zerotrie_session.specs.answer.Parsing.{IsWalking}
 use Rattle.zerotrie_session.specs.answer.Tries.{trie_kind, trie_choice, trie_bytes}
 use Rattle.zerotrie_session.specs.declared.answer.Session.{Session}
 use Rattle.zerotrie_session.specs.declared.answer.Outcome.{Outcome}
@@ -34,11 +37,11 @@ pub record Performed (command : Command) (held : Option State) (after : Option S
   pub holds : HasStateIfAny after state
   pub output : new ≡ old ++ printed
 
--- how a command ended; a bad one prints nothing
+-- how a command ended; a bad one prints nothing, and is a walk
 abbrev pub AfterRequest : Command → Session → Session → List ℕ → List ℕ → Outcome → Type 0
 AfterRequest command before after old new Done = (s : State) → HasState before s → Performed command (Some s) (Some after) old new 0
 AfterRequest command before after old new Refused = (s : State) → HasState before s → Performed command (Some s) (Some after) old new 1
-AfterRequest command before after old new (Bad bad) = (new ≡ old) × ((s : State) → HasState before s → CanDo (Some s) command → ⊥)
+AfterRequest command before after old new (Bad bad) = (new ≡ old) × ((s : State) → HasState before s → CanDo (Some s) command → ⊥) × (bad ≡ WalkUnderAuto) × IsWalking command
 
 -- a line that is a command was done
 abbrev pub AfterCommand : List ℕ → Option Session → Option Session → List ℕ → List ℕ → ℕ → Type 0
@@ -50,4 +53,4 @@ abbrev pub AfterLine : List ℕ → Option Session → Option Session → List �
 AfterLine line before after old new Done = AfterCommand line before after old new 0
 AfterLine line before after old new Refused = AfterCommand line before after old new 1
 AfterLine line before after old new (Bad bad) = (new ≡ old)
-    × ((held : Option State) → HasStateIfAny before held → (command : Command) → IsCommand line command → CanDo held command → ⊥)
+    × ((held : Option State) → HasStateIfAny before held → (command : Command) → IsCommand line command → CanDo held command → ⊥) × IsBadLine line bad

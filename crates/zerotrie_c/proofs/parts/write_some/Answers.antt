@@ -7,7 +7,7 @@ loop-next_len-preserved g c =
     let l = c.loop-next_len in
     let key = c.key-key.result.now in
     let after = (g.L.PairStream.left c.advance.new.self).pairs in
-    let one = rw c.in-Ok-true.field-0-test at c.in-Ok-true.ensures in
+    let one = rw c.in-Ok-true.field-0-test at c.in-Ok-true.ensures.lists in
     let is : (g.L.PairStream.left l.pairs).pairs ≡ (key, c.value.result) ∷ after =
     ap (λ s. s.pairs) one.0 ∙ ap (λ k. (k, (g.L.PairStream.current c.advance.new.self).1) ∷ after) (sym c.key-key.ensures) ∙ ap (λ v. (key, v) ∷ after) (sym c.value.ensures) in
     let fits : l.used + length key ≤ length l.keys = omega (arith, c.if-key-keys.false, l.invariant.within) in

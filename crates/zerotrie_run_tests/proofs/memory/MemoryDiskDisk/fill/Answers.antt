@@ -5,8 +5,8 @@ use Rattle.zerotrie_run_tests.specs.Steps.{files_after}
 use Rattle.zerotrie_run_tests.proofs.StepLemmas.{one_step, now_after, written}
 use Rattle.zerotrie_run_tests.proofs.memory.MemoryDiskDisk.fill.Goals as goal
 
-pub returns : goal.returns
-returns c =
+pub returns-clause-story : goal.returns-clause-story
+returns-clause-story c =
     let path = c.args.path.now in
     let steps = c.args.self.now.steps.items in
     let step = Wrote c.in_ok-name.name c.in_ok-content.content in

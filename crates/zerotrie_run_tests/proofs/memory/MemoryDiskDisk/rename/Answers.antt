@@ -6,8 +6,8 @@ use Rattle.zerotrie_run_tests.specs.Steps.{files_after}
 use Rattle.zerotrie_run_tests.proofs.StepLemmas.{no_step, one_step, moved, moved_now}
 use Rattle.zerotrie_run_tests.proofs.memory.MemoryDiskDisk.rename.Goals as goal
 
-pub returns-in_err-push : goal.returns-in_err-push
-returns-in_err-push c =
+pub returns-in_err-push-clause-story : goal.returns-in_err-push-clause-story
+returns-in_err-push-clause-story c =
     let steps = c.args.self.now.steps.items in
     let old = files_after (reverse steps) in
     let unremoved = c.args.self.now.unremoved in
@@ -15,8 +15,8 @@ returns-in_err-push c =
     rw (p.1, c.in_err-push.ensures.items)
     (no_step (λ files. Same old files ⊎ Moved c.args.from.now c.args.to.now old files) steps unremoved unremoved (inl (λ path. refl)), λ path. refl)
 
-pub returns : goal.returns
-returns c =
+pub returns-clause-story : goal.returns-clause-story
+returns-clause-story c =
     let from = c.args.from.now in
     let to = c.args.to.now in
     let steps = c.args.self.now.steps.items in

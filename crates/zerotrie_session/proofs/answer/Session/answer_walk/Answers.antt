@@ -1,4 +1,5 @@
 use Rattle.std.proofs.Common.{◌≡◌, true, false, string_bytes, refl, sym, ◌∙◌}
+use Rattle.zerotrie.specs.Walks.{ops_of}
 use Rattle.zerotrie_session.proofs.SessionLemmas.{performed_walked}
 use Rattle.zerotrie_session.proofs.answer.Session.answer_walk.Goals as goal
 
@@ -7,6 +8,8 @@ returns-in-None c = (
   refl,
   λ s h named. absurd (
       let some : false ≡ true = rw c.in-None.is at (c.in_ok-walk.ensures.named.1 (λ auto. named (sym h.of ∙ auto))) in cc),
+  refl,
+  (ops_of c.args.ops.now, refl),
 )
 
 pub returns-in_ok-write_walk-in-Some : goal.returns-in_ok-write_walk-in-Some

@@ -1,6 +1,0 @@
-use Rattle.std.proofs.Common.{drop, map}
-use Rattle.zerotrie_cli.specs.Words.{HasNoHyphen}
-use Rattle.zerotrie_cli.proofs.keys.has_hyphen.Given as goal
-
-abbrev pub invariant-loop-word : goal.invariant-loop-word
-invariant-loop-word l = HasNoHyphen (map (λ word. word.now) (drop l.word-index l.words)) → HasNoHyphen (map (λ word. word.now) l.words)

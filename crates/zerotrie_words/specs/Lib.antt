@@ -1,0 +1,7 @@
+pub mod Words
+pub mod Refusals
+pub mod Diffs
+pub mod Arguments
+pub mod Tasks
+pub mod Replies
+pub mod Requests

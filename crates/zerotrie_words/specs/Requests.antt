@@ -1,0 +1,67 @@
+-- The command that the words of a command line ask for.
+use Rattle.std.specs.Prelude.{◌≡◌, ◌≢◌, ◌⊎◌, ℕ, List, Option, None, Bool, codes}
+use Rattle.clap.specs.declared.parser.matches.ArgMatches.{ArgMatches}
+use Rattle.zerotrie_sets.specs.declared.combined.Operation.{Operation}
+use Rattle.zerotrie_run.specs.declared.command.Build.{Build}
+use Rattle.zerotrie_run.specs.declared.command.Combine.{Combine}
+use Rattle.zerotrie_run.specs.declared.command.Command.{Command}
+use Rattle.zerotrie_run.specs.declared.command.Command.TheVariants as command
+use Rattle.zerotrie_run.specs.declared.command.Diff.{Diff}
+use Rattle.zerotrie_run.specs.declared.command.Place.{Place}
+use Rattle.zerotrie_run.specs.declared.command.Place.TheVariants.{File, Stream}
+use Rattle.zerotrie_words.specs.Diffs.{IsDiff}
+use Rattle.zerotrie_words.specs.Refusals.{IsNoContent, IsNoKind, IsNoPlan, IsNoQuestion}
+use Rattle.zerotrie_words.specs.Words.{AreTogether, IsAsk, IsFlag, IsForm, IsKind, IsPlan, IsProgress, IsSource, IsTarget, flag_of, given_words, word_of}
+use Rattle.zerotrie_words.specs.declared.task.Task.{Task}
+use Rattle.zerotrie_words.specs.declared.task.Task.TheVariants as task
+
+-- The build that the words ask for. Steps are told also if messages go to a terminal.
+pub record IsBuild (matches : ArgMatches) (to_terminal : Bool) (build : Build) : Type 0 where
+  pub from : IsSource (word_of matches (codes "IN")) build.from
+  pub to : IsTarget (word_of matches (codes "output")) build.to
+  pub plan : IsPlan matches build.plan
+  pub no_clobber : IsFlag (flag_of matches (codes "no-clobber")) build.no_clobber
+  pub progress : IsProgress to_terminal (flag_of matches (codes "progress")) build.progress
+
+-- The combination that they ask for.
+pub record IsCombination (matches : ArgMatches) (operation : Operation) (both : Combine) : Type 0 where
+  pub made : both.operation ≡ operation
+  pub first : IsSource (word_of matches (codes "A")) both.first
+  pub second : IsSource (word_of matches (codes "B")) both.second
+  pub to : IsTarget (word_of matches (codes "output")) both.to
+  pub kind : IsKind (word_of matches (codes "kind")) both.kind
+  pub form : IsForm (flag_of matches (codes "tagged")) (flag_of matches (codes "bare")) (flag_of matches (codes "index")) both.form
+  pub together : AreTogether both.form both.kind
+  pub no_clobber : IsFlag (flag_of matches (codes "no-clobber")) both.no_clobber
+
+-- two places are not the file of one path
+abbrev pub AreApart : Place → Place → Type 0
+AreApart (File from) (File to) = from.now ≢ to.now
+AreApart (File from) Stream = Unit {0}
+AreApart Stream to = Unit {0}
+
+abbrev pub AreOneFile : Place → Place → Type 0
+AreOneFile (File from) (File to) = from.now ≡ to.now
+AreOneFile (File from) Stream = ⊥
+AreOneFile Stream to = ⊥
+
+-- the keys or texts among the words of a task
+abbrev pub keys_by : ArgMatches → Task → Option (List (List ℕ))
+keys_by matches task.Build = None
+keys_by matches (task.Ask topic) = given_words matches topic
+keys_by matches task.Diff = None
+keys_by matches (task.Combine operation) = None
+
+-- the command of a task: a build does not replace its own input
+abbrev pub IsCommand : ArgMatches → Option (List (List ℕ)) → Bool → Task → Command → Type 0
+IsCommand matches texts to_terminal task.Build c = (build : Build) × IsBuild matches to_terminal build × AreApart build.from build.to × (c ≡ command.Build build)
+IsCommand matches texts to_terminal (task.Ask topic) c = IsAsk matches topic texts c
+IsCommand matches texts to_terminal task.Diff c = (diff : Diff) × IsDiff matches diff × (c ≡ command.Diff diff)
+IsCommand matches texts to_terminal (task.Combine operation) c = (both : Combine) × IsCombination matches operation both × (c ≡ command.Combine both)
+
+-- the words of a task are no command, or a build would replace its own input
+abbrev pub IsNoCommand : ArgMatches → Option (List (List ℕ)) → Task → Type 0
+IsNoCommand matches texts task.Build = IsNoPlan matches ⊎ ((from : Place) × (to : Place) × IsSource (word_of matches (codes "IN")) from × IsTarget (word_of matches (codes "output")) to × AreOneFile from to)
+IsNoCommand matches texts (task.Ask topic) = IsNoKind (word_of matches (codes "bare")) ⊎ IsNoQuestion matches topic texts
+IsNoCommand matches texts task.Diff = IsNoKind (word_of matches (codes "bare"))
+IsNoCommand matches texts (task.Combine operation) = IsNoContent matches

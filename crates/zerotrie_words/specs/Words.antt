@@ -1,0 +1,456 @@
+-- The words of a command line, and what they ask for.
+use Rattle.std.specs.Prelude.{◌≡◌, ◌≢◌, ◌⊎◌, ℕ, ◌-◌, List, [], ◌∷◌, Option, Some, None, Bool, true, false, Vec, codes, drop, eqb, length, map, unwrap_or}
+use Rattle.std.specs.Char.{to_ascii_lowercase}
+use Rattle.std.specs.Global.{Global}
+use Rattle.std.specs.Borrow.{Bor}
+use Rattle.std.specs.declared.ops.Bound.{Bound}
+use Rattle.std.specs.declared.ops.Bound.TheVariants.{Included, Excluded, Unbounded}
+use Rattle.std.specs.List.{starts_with}
+use Rattle.std.specs.Option.{option_map}
+use Rattle.std.specs.Str.{chars}
+use Rattle.std.specs.Str.Parse.{IsNumeral, digits_value, without_leading_plus}
+use Rattle.clap.specs.Matches.{found_of, first_value, matched_of, one_text, raw_values}
+use Rattle.clap.specs.declared.parser.matches.ArgMatches.{ArgMatches}
+use Rattle.zerotrie_words.specs.declared.task.Topic.{Topic}
+use Rattle.zerotrie_words.specs.declared.task.Topic.TheVariants as topic
+use Rattle.zerotrie_words.specs.declared.input.Input.{Input}
+use Rattle.zerotrie_words.specs.declared.input.Input.TheVariants as input
+use Rattle.zerotrie_core.specs.Kinds.{kind_name}
+use Rattle.zerotrie_core.specs.declared.TrieKind.{TrieKind}
+use Rattle.zerotrie_lines.specs.declared.reading.Format.TheVariants.{Tsv, TsvRaw, Csv, Lines}
+use Rattle.zerotrie_lines.specs.declared.reading.LineEnd.{LineEnd}
+use Rattle.zerotrie_lines.specs.declared.reading.LineEnd.TheVariants.{CrLf, Lf}
+use Rattle.zerotrie_queries.specs.code.Names.{is_name}
+use Rattle.zerotrie_queries.specs.code.Texts.{usual_name}
+use Rattle.zerotrie_queries.specs.declared.code.Language.{Language}
+use Rattle.zerotrie_queries.specs.declared.code.Language.TheVariants as lang
+use Rattle.zerotrie_queries.specs.declared.question.Asked.{Asked}
+use Rattle.zerotrie_queries.specs.declared.question.Asked.TheVariants as asked
+use Rattle.zerotrie_queries.specs.declared.question.Spelling.{Spelling}
+use Rattle.zerotrie_queries.specs.declared.question.Spelling.TheVariants as spelling
+use Rattle.zerotrie_queries.specs.declared.question.Query.{Query}
+use Rattle.zerotrie_queries.specs.declared.reports.ReportForm.{ReportForm}
+use Rattle.zerotrie_queries.specs.declared.reports.ReportForm.TheVariants as report
+use Rattle.zerotrie_queries.specs.declared.question.Choice.{Choice}
+use Rattle.zerotrie_queries.specs.declared.question.Choice.TheVariants as choice
+use Rattle.zerotrie_queries.specs.declared.question.Order.{Order}
+use Rattle.zerotrie_queries.specs.declared.question.Order.TheVariants as order
+use Rattle.zerotrie_search.specs.Words.{letters_of}
+use Rattle.zerotrie_search.specs.declared.range.KeyRange.{KeyRange}
+use Rattle.zerotrie_queries.specs.declared.views.View.{View}
+use Rattle.zerotrie_queries.specs.declared.print.Form.{Form}
+use Rattle.zerotrie_queries.specs.declared.print.Form.TheVariants as form
+use Rattle.zerotrie_queries.specs.declared.print.Style.TheVariants as style
+use Rattle.zerotrie_queries.specs.declared.views.View.TheVariants as view
+use Rattle.zerotrie_making.specs.declared.plan.Plan.{Plan}
+use Rattle.zerotrie_making.specs.declared.duplicates.Duplicates.{Duplicates}
+use Rattle.zerotrie_making.specs.declared.duplicates.Duplicates.TheVariants as again
+use Rattle.zerotrie_making.specs.declared.plan.FileForm.{FileForm}
+use Rattle.zerotrie_making.specs.declared.plan.FileForm.TheVariants as made
+use Rattle.zerotrie_making.specs.declared.plan.Source.{Source}
+use Rattle.zerotrie_making.specs.declared.plan.Source.TheVariants.{Text, Json}
+use Rattle.zerotrie_run.specs.declared.command.Check.{Check}
+use Rattle.zerotrie_run.specs.declared.command.Check.TheVariants as check
+use Rattle.zerotrie_run.specs.declared.command.Keys.{Keys}
+use Rattle.zerotrie_run.specs.declared.command.Keys.TheVariants as keys
+use Rattle.zerotrie_run.specs.declared.command.Question.{Question}
+use Rattle.zerotrie_run.specs.declared.command.Question.TheVariants as question
+use Rattle.zerotrie_run.specs.declared.command.TrieFile.{TrieFile}
+use Rattle.zerotrie_run.specs.declared.command.Command.{Command}
+use Rattle.zerotrie_run.specs.declared.command.Command.TheVariants.{Ask}
+use Rattle.zerotrie_run.specs.declared.command.Place.{Place}
+use Rattle.zerotrie_run.specs.declared.command.Place.TheVariants.{File, Stream}
+
+-- the word of an argument
+abbrev pub word_of : ArgMatches → List ℕ → Option (List ℕ)
+word_of matches name = first_value (found_of matches) name
+
+-- the word that says whether a flag is there
+abbrev pub flag_of : ArgMatches → List ℕ → Option (List ℕ)
+flag_of matches name = one_text (found_of matches) name
+
+-- whether a flag is there, by its word
+abbrev pub IsFlag : Option (List ℕ) → Bool → Type 0
+IsFlag word flag = (word ≡ Some (codes "true") → flag ≡ true) × (word ≡ Some (codes "false") → flag ≡ false) × (word ≡ None → flag ≡ false)
+
+-- how a format of input is named
+abbrev pub format_word : Input → List ℕ
+format_word input.Tsv = codes "tsv"
+format_word input.Csv = codes "csv"
+format_word input.Lines = codes "lines"
+format_word input.Json = codes "json"
+
+-- a path ends so, in either case of ASCII letters: its last bytes, as many as the ending has
+abbrev pub EndsIn : List ℕ → List ℕ → Type 0
+EndsIn path ending = map to_ascii_lowercase (drop (length path - length ending) path) ≡ map to_ascii_lowercase ending
+
+-- the format of a file by the ending of its path
+abbrev pub IsOfPath : List ℕ → Input → Type 0
+IsOfPath path input.Csv = EndsIn path (codes ".csv")
+IsOfPath path input.Json = EndsIn path (codes ".json")
+IsOfPath path input.Lines = EndsIn path (codes ".txt")
+IsOfPath path input.Tsv = (EndsIn path (codes ".csv") → ⊥) × (EndsIn path (codes ".json") → ⊥) × (EndsIn path (codes ".txt") → ⊥)
+
+-- the format of an input: the one that is named, or by the ending of its path
+abbrev pub IsFormat : Option (List ℕ) → Option (List ℕ) → Input → Type 0
+IsFormat (Some word) path format = word ≡ format_word format
+IsFormat None path format = IsOfPath (unwrap_or path []) format
+
+-- what ends a line, by its word
+abbrev pub end_word : LineEnd → List ℕ
+end_word CrLf = codes "crlf"
+end_word Lf = codes "lf"
+
+-- what ends a line: a carriage return may be before the line feed, unless a word says otherwise
+abbrev pub IsEnd : Option (List ℕ) → LineEnd → Type 0
+IsEnd None end = end ≡ CrLf
+IsEnd (Some word) end = word ≡ end_word end
+
+-- a format may have a word for the end of its lines: JSON has no lines
+abbrev pub MayNameEnd : Input → Option (List ℕ) → Type 0
+MayNameEnd input.Tsv word = Unit {0}
+MayNameEnd input.Csv word = Unit {0}
+MayNameEnd input.Lines word = Unit {0}
+MayNameEnd input.Json word = word ≡ None
+
+-- an input of a format is such pairs, by whether it is raw: only `tsv` is
+abbrev pub IsSourceOf : Input → Bool → LineEnd → Source → Type 0
+IsSourceOf input.Tsv true end source = source ≡ Text TsvRaw end
+IsSourceOf input.Tsv false end source = source ≡ Text Tsv end
+IsSourceOf input.Csv raw end source = (raw ≡ false) × (source ≡ Text Csv end)
+IsSourceOf input.Lines raw end source = (raw ≡ false) × (source ≡ Text Lines end)
+IsSourceOf input.Json raw end source = (raw ≡ false) × (source ≡ Json)
+
+-- What the input of a build is, by its words.
+pub record IsInput (matches : ArgMatches) (source : Source) : Type 0 where
+  pub format : Input
+  pub named : IsFormat (word_of matches (codes "format")) (word_of matches (codes "IN")) format
+  pub end : LineEnd
+  pub ended : IsEnd (word_of matches (codes "eol")) end
+  pub lines : MayNameEnd format (word_of matches (codes "eol"))
+  pub raw : Bool
+  pub flag : IsFlag (flag_of matches (codes "raw")) raw
+  pub of : IsSourceOf format raw end source
+
+-- what becomes of a key that comes again, by its word
+abbrev pub duplicates_word : Duplicates → List ℕ
+duplicates_word again.Refuse = codes "refuse"
+duplicates_word again.First = codes "first"
+duplicates_word again.Last = codes "last"
+
+-- what a file has, by whether it is to be tagged, bare or an index
+abbrev pub form_by : Bool → Bool → Bool → Option FileForm
+form_by false false false = Some made.Sealed
+form_by true false false = Some made.Tagged
+form_by false true false = Some made.Bare
+form_by false false true = Some made.Index
+form_by true true false = None
+form_by true bare true = None
+form_by false true true = None
+
+-- what it has by the words of these flags
+abbrev pub IsForm : Option (List ℕ) → Option (List ℕ) → Option (List ℕ) → FileForm → Type 0
+IsForm tagged bare index form = (t : Bool) × (b : Bool) × (x : Bool) × IsFlag tagged t × IsFlag bare b × IsFlag index x × (form_by t b x ≡ Some form)
+
+-- a file that has this may have such a kind: an index has none
+abbrev pub AreTogether : FileForm → Option TrieKind → Type 0
+AreTogether made.Sealed kind = Unit {0}
+AreTogether made.Tagged kind = Unit {0}
+AreTogether made.Bare kind = Unit {0}
+AreTogether made.Index kind = kind ≡ None
+
+-- how a form of output is, if it is named by a word
+abbrev pub form_word : Form → Option (List ℕ)
+form_word (form.Lines style.Tsv) = Some (codes "tsv")
+form_word (form.Lines style.TsvRaw) = None
+form_word (form.Lines style.Csv) = Some (codes "csv")
+form_word (form.Lines style.Keys) = Some (codes "keys")
+form_word (form.Lines style.Values) = Some (codes "values")
+form_word (form.Lines style.JsonLines) = Some (codes "jsonl")
+form_word form.Json = Some (codes "json")
+form_word form.Count = None
+
+-- the form of a list: a number if it is only to be counted, and then there is no word; else by its word, or lines with a tab
+abbrev pub IsFormOf : Bool → Option (List ℕ) → Form → Type 0
+IsFormOf true word f = (word ≡ None) × (f ≡ form.Count)
+IsFormOf false None f = f ≡ form.Lines style.Tsv
+IsFormOf false (Some word) f = Some word ≡ form_word f
+
+abbrev pub IsListForm : Option (List ℕ) → Option (List ℕ) → Form → Type 0
+IsListForm count word f = (flag : Bool) × IsFlag count flag × IsFormOf flag word f
+
+-- the order of a list: that of the bytes by a flag, but not if it is only to be counted
+abbrev pub order_by : Bool → Bool → Order
+order_by true count = order.Stored
+order_by false true = order.ByBytes
+order_by false false = order.Stored
+
+abbrev pub IsOrder : Option (List ℕ) → Option (List ℕ) → Order → Type 0
+IsOrder count sorted o = (c : Bool) × (s : Bool) × IsFlag count c × IsFlag sorted s × (o ≡ order_by c s)
+
+-- the decimal number of a word, which may begin with a plus
+abbrev pub IsNumberOf : List ℕ → ℕ → Type 0
+IsNumberOf word n = IsNumeral 10 (without_leading_plus word) × (n ≡ digits_value 10 (without_leading_plus word))
+
+-- a limit: none without a word, else its number
+abbrev pub IsLimit : Option (List ℕ) → Option ℕ → Type 0
+IsLimit None limit = limit ≡ None
+IsLimit (Some word) None = ⊥
+IsLimit (Some word) (Some limit) = IsNumberOf word limit
+
+-- the byte at which a key may end: the one byte of the word
+abbrev pub IsBorder : Option (List ℕ) → Option ℕ → Type 0
+IsBorder word None = word ≡ None
+IsBorder word (Some byte) = word ≡ Some (byte ∷ [])
+
+-- what is asked of texts: the longest key, at a byte or anywhere, or all of them
+abbrev pub IsLongestOf : Bool → Option ℕ → Asked → Type 0
+IsLongestOf false None a = a ≡ asked.Longest
+IsLongestOf true None a = a ≡ asked.Prefixes
+IsLongestOf false (Some byte) a = a ≡ asked.LongestAt byte
+IsLongestOf true (Some byte) a = ⊥
+
+abbrev pub IsLongest : ArgMatches → Asked → Type 0
+IsLongest matches a = (all : Bool) × (border : Option ℕ) × IsFlag (flag_of matches (codes "all")) all × IsBorder (word_of matches (codes "at")) border × IsLongestOf all border a
+
+-- what is asked of keys: their values, and the keys, too, by the flag
+abbrev pub get_by : Bool → Asked
+get_by true = asked.Pair
+get_by false = asked.Value
+
+abbrev pub IsGet : Option (List ℕ) → Asked → Type 0
+IsGet word a = (flag : Bool) × IsFlag word flag × (a ≡ get_by flag)
+
+-- how keys and texts are written: with escapes by the flag
+abbrev pub spelling_by : Bool → Spelling
+spelling_by true = spelling.Escaped
+spelling_by false = spelling.Plain
+
+abbrev pub IsSpelling : Option (List ℕ) → Spelling → Type 0
+IsSpelling word s = (flag : Bool) × IsFlag word flag × (s ≡ spelling_by flag)
+
+-- how a report is printed: as JSON by the flag
+abbrev pub report_by : Bool → ReportForm
+report_by true = report.Json
+report_by false = report.Lines
+
+abbrev pub IsReportForm : Option (List ℕ) → ReportForm → Type 0
+IsReportForm word form = (flag : Bool) × IsFlag word flag × (form ≡ report_by flag)
+
+-- how many nodes are drawn: the number of the word, or a hundred
+abbrev pub IsDrawn : Option (List ℕ) → ℕ → Type 0
+IsDrawn None most = most ≡ 100
+IsDrawn (Some word) most = IsNumberOf word most
+
+-- how nodes are shown, by the word, and by that of the limit, which only a drawing has
+abbrev pub IsView : Option (List ℕ) → Option (List ℕ) → View → Type 0
+IsView word limit view.Dump = (word ≡ Some (codes "dump")) × (limit ≡ None)
+IsView word limit (view.Dot most) = (word ≡ Some (codes "dot")) × IsDrawn limit most
+
+-- how a language is
+abbrev pub language_word : Language → List ℕ
+language_word lang.Rust = codes "rust"
+language_word lang.C = codes "c"
+language_word lang.CAlone = codes "c"
+language_word lang.Rattle = codes "rattle"
+language_word lang.JavaScript = codes "js"
+
+-- whether its code needs no library
+abbrev pub is_alone : Language → Bool
+is_alone lang.CAlone = true
+is_alone lang.C = false
+is_alone lang.Rust = false
+is_alone lang.Rattle = false
+is_alone lang.JavaScript = false
+
+-- the kind that a word names: none without a word, or if it is `auto`
+abbrev pub IsKind : Option (List ℕ) → Option TrieKind → Type 0
+IsKind word None = (word ≡ None) ⊎ (word ≡ Some (codes "auto"))
+IsKind word (Some kind) = word ≡ Some (kind_name kind)
+
+-- the place that a word names: a stream without a word, or if it is a hyphen
+abbrev pub IsPlace : Option (List ℕ) → Place → Type 0
+IsPlace word (File path) = (word ≡ Some path.now) × (path.now ≢ codes "-")
+IsPlace word Stream = (word ≡ None) ⊎ (word ≡ Some (codes "-"))
+
+-- the place to read: a path of standard input is that stream
+abbrev pub IsSource : Option (List ℕ) → Place → Type 0
+IsSource word (File path) = IsPlace word (File path) × (path.now ≢ codes "/dev/stdin") × (path.now ≢ codes "/dev/fd/0")
+IsSource word Stream = IsPlace word Stream ⊎ (word ≡ Some (codes "/dev/stdin")) ⊎ (word ≡ Some (codes "/dev/fd/0"))
+
+-- the place to write: a path of standard output is that stream
+abbrev pub IsTarget : Option (List ℕ) → Place → Type 0
+IsTarget word (File path) = IsPlace word (File path) × (path.now ≢ codes "/dev/stdout") × (path.now ≢ codes "/dev/fd/1")
+IsTarget word Stream = IsPlace word Stream ⊎ (word ≡ Some (codes "/dev/stdout")) ⊎ (word ≡ Some (codes "/dev/fd/1"))
+
+-- How a file is to be made, by the words of a build.
+pub record IsPlan (matches : ArgMatches) (plan : Plan) : Type 0 where
+  pub source : IsInput matches plan.read.source
+  pub duplicates : word_of matches (codes "duplicates") ≡ Some (duplicates_word plan.read.duplicates)
+  pub kind : IsKind (word_of matches (codes "kind")) plan.file.kind
+  pub sorted : IsFlag (flag_of matches (codes "sorted")) plan.file.sorted
+  pub lower_case : IsFlag (flag_of matches (codes "lower-case")) plan.read.lower_case
+  pub form : IsForm (flag_of matches (codes "tagged")) (flag_of matches (codes "bare")) (flag_of matches (codes "index")) plan.file.form
+  pub together : AreTogether plan.file.form plan.file.kind
+
+-- whether steps are reported: if messages go to a terminal, and else by the flag
+abbrev pub IsProgress : Bool → Option (List ℕ) → Bool → Type 0
+IsProgress true word progress = progress ≡ true
+IsProgress false word progress = IsFlag word progress
+
+-- the words of an argument, of all its uses
+abbrev pub words_of : ArgMatches → List ℕ → Option (List (List ℕ))
+words_of matches name = option_map raw_values (matched_of (found_of matches) name)
+
+-- the keys or texts that are words of the command line
+abbrev pub given_words : ArgMatches → Topic → Option (List (List ℕ))
+given_words matches topic.Get = words_of matches (codes "KEY")
+given_words matches topic.Longest = words_of matches (codes "TEXT")
+given_words matches topic.List = None
+given_words matches topic.Search = None
+given_words matches topic.Verify = None
+given_words matches topic.Stats = None
+given_words matches topic.Inspect = None
+given_words matches topic.Code = None
+
+-- words as bytes
+abbrev pub texts_of : Option (Vec (Bor (List ℕ)) Global) → Option (List (List ℕ))
+texts_of words = option_map (λ w. map (λ text. text.now) w.items) words
+
+-- no word is a hyphen
+abbrev pub HasNoHyphen : List (List ℕ) → Type 0
+HasNoHyphen [] = Unit {0}
+HasNoHyphen (word ∷ words) = (word ≢ codes "-") × HasNoHyphen words
+
+-- the keys that are asked for: these words, or the lines of standard input if the only one is a hyphen
+abbrev pub AreKeysOf : Option (List (List ℕ)) → Keys → Type 0
+AreKeysOf None of = ⊥
+AreKeysOf (Some texts) (keys.Words words) = (map (λ w. w.now) words.now ≡ texts) × HasNoHyphen texts
+AreKeysOf (Some texts) keys.Lines = texts ≡ codes "-" ∷ []
+
+-- a test as usual, or none but of the seal by the flag
+abbrev pub by_flag : Bool → Check
+by_flag true = check.Skip
+by_flag false = check.Usual
+
+abbrev pub IsChecked : Option (List ℕ) → Check → Type 0
+IsChecked word by = (flag : Bool) × IsFlag word flag × (by ≡ by_flag flag)
+
+-- how a file is tested: in full by `verify`, and by others as usual unless a flag leaves that out
+abbrev pub IsCheck : Topic → Option (List ℕ) → Check → Type 0
+IsCheck topic.Get word by = IsChecked word by
+IsCheck topic.Longest word by = IsChecked word by
+IsCheck topic.List word by = IsChecked word by
+IsCheck topic.Search word by = IsChecked word by
+IsCheck topic.Verify word by = by ≡ check.Full
+IsCheck topic.Stats word by = IsChecked word by
+IsCheck topic.Inspect word by = IsChecked word by
+IsCheck topic.Code word by = IsChecked word by
+
+-- The file that is asked, by the words of a question.
+pub record IsFile (matches : ArgMatches) (about : Topic) (file : TrieFile) : Type 0 where
+  pub place : IsSource (word_of matches (codes "FILE")) file.place
+  pub bare : IsKind (word_of matches (codes "bare")) file.bare
+  pub check : IsCheck about (flag_of matches (codes "no-check")) file.check
+
+-- The pairs that are listed, by the words of a listing.
+pub record IsListing (matches : ArgMatches) (form : Form) (prefix : List ℕ) (o : Order) (limit : Option ℕ) : Type 0 where
+  pub format : IsListForm (flag_of matches (codes "count")) (word_of matches (codes "format")) form
+  pub front : prefix ≡ unwrap_or (word_of matches (codes "prefix")) []
+  pub ordered : IsOrder (flag_of matches (codes "count")) (flag_of matches (codes "sorted")) o
+  pub most : IsLimit (word_of matches (codes "limit")) limit
+
+-- the pattern that is looked for
+abbrev pub IsGlob : List ℕ → Choice → Type 0
+IsGlob word (choice.Glob g) = g.pattern.now ≡ word
+IsGlob word (choice.Prefix p) = ⊥
+IsGlob word (choice.Fuzzy l) = ⊥
+IsGlob word (choice.Subsequence s) = ⊥
+IsGlob word (choice.Range r) = ⊥
+
+-- how many edits are allowed: the number of the word, or one
+abbrev pub IsEdits : Option (List ℕ) → ℕ → Type 0
+IsEdits None edits = edits ≡ 1
+IsEdits (Some word) edits = IsNumberOf word edits
+
+-- the word that is looked for, with this number of edits
+abbrev pub IsFuzzy : List ℕ → ℕ → Choice → Type 0
+IsFuzzy word edits (choice.Fuzzy l) = (letters_of l.word ≡ chars word) × (l.edits ≡ edits)
+IsFuzzy word edits (choice.Prefix p) = ⊥
+IsFuzzy word edits (choice.Glob g) = ⊥
+IsFuzzy word edits (choice.Subsequence s) = ⊥
+IsFuzzy word edits (choice.Range r) = ⊥
+
+-- a range from a key on, if its word is there, and below another
+abbrev pub IsFrom : Option (List ℕ) → Bound (Bor (List ℕ)) → Type 0
+IsFrom word (Included key) = word ≡ Some key.now
+IsFrom word (Excluded key) = ⊥
+IsFrom word Unbounded = word ≡ None
+
+abbrev pub IsBelow : Option (List ℕ) → Bound (Bor (List ℕ)) → Type 0
+IsBelow word (Included key) = ⊥
+IsBelow word (Excluded key) = word ≡ Some key.now
+IsBelow word Unbounded = word ≡ None
+
+abbrev pub IsRange : ArgMatches → KeyRange → Type 0
+IsRange matches r = IsFrom (word_of matches (codes "from")) r.from × IsBelow (word_of matches (codes "below")) r.to
+
+-- neither end of a range is there
+abbrev pub HasNoRange : ArgMatches → Type 0
+HasNoRange matches = (word_of matches (codes "from") ≡ None) × (word_of matches (codes "below") ≡ None)
+
+-- no number of edits is there
+abbrev pub HasNoEdits : ArgMatches → Type 0
+HasNoEdits matches = word_of matches (codes "edits") ≡ None
+
+-- what is looked for, by the word of its option; the others are not there, nor are edits but of a fuzzy search
+abbrev pub IsSought : ArgMatches → Choice → Type 0
+IsSought matches (choice.Prefix p) = ⊥
+IsSought matches (choice.Glob g) = (word_of matches (codes "glob") ≡ Some g.pattern.now) × (word_of matches (codes "fuzzy") ≡ None) × (word_of matches (codes "subsequence") ≡ None)
+    × HasNoRange matches × HasNoEdits matches
+IsSought matches (choice.Fuzzy l) = (word : List ℕ) × (word_of matches (codes "fuzzy") ≡ Some word) × (letters_of l.word ≡ chars word) × IsEdits (word_of matches (codes "edits")) l.edits
+    × (word_of matches (codes "glob") ≡ None) × (word_of matches (codes "subsequence") ≡ None) × HasNoRange matches
+IsSought matches (choice.Subsequence s) = (word_of matches (codes "subsequence") ≡ Some s.0.now) × (word_of matches (codes "glob") ≡ None) × (word_of matches (codes "fuzzy") ≡ None)
+    × HasNoRange matches × HasNoEdits matches
+IsSought matches (choice.Range r) = IsRange matches r × (word_of matches (codes "glob") ≡ None) × (word_of matches (codes "fuzzy") ≡ None) × (word_of matches (codes "subsequence") ≡ None)
+    × HasNoEdits matches
+
+-- The pairs that are listed, by the words of a search.
+pub record IsSearch (matches : ArgMatches) (form : Form) (c : Choice) (o : Order) (limit : Option ℕ) : Type 0 where
+  pub format : IsListForm (flag_of matches (codes "count")) (word_of matches (codes "format")) form
+  pub sought : IsSought matches c
+  pub ordered : IsOrder (flag_of matches (codes "count")) (flag_of matches (codes "sorted")) o
+  pub most : IsLimit (word_of matches (codes "limit")) limit
+
+-- a name is none of those in zerotrie.h, if the language is C; of keywords, tests show it
+abbrev pub IsFree : Language → List ℕ → Type 0
+IsFree lang.Rust name = Unit {0}
+IsFree lang.C name = starts_with eqb name (codes "zerotrie") ≡ false
+IsFree lang.CAlone name = starts_with eqb name (codes "zerotrie") ≡ false
+IsFree lang.Rattle name = Unit {0}
+IsFree lang.JavaScript name = Unit {0}
+
+-- The code that is written, by the words of its command.
+pub record IsCode (matches : ArgMatches) (language : Language) (name : List ℕ) : Type 0 where
+  pub lang : word_of matches (codes "lang") ≡ Some (language_word language)
+  pub alone : IsFlag (flag_of matches (codes "alone")) (is_alone language)
+  pub called : name ≡ unwrap_or (word_of matches (codes "name")) (usual_name language)
+  pub word : is_name name ≡ true
+  pub free : IsFree language name
+
+-- what a trie is asked, by the words of a command
+abbrev pub IsQuestion : ArgMatches → Topic → Option (List (List ℕ)) → Question → Type 0
+IsQuestion matches topic.Get texts q = (query : Query) × (of : Keys) × IsGet (flag_of matches (codes "keys")) query.asked × IsSpelling (flag_of matches (codes "escaped")) query.spelling
+    × AreKeysOf texts of × (q ≡ question.LookUp query of)
+IsQuestion matches topic.Longest texts q = (query : Query) × (of : Keys) × IsLongest matches query.asked × IsSpelling (flag_of matches (codes "escaped")) query.spelling
+    × AreKeysOf texts of × (q ≡ question.LookUp query of)
+IsQuestion matches topic.List texts q = (f : Form) × (prefix : Bor (List ℕ)) × (o : Order) × (limit : Option ℕ) × IsListing matches f prefix.now o limit × (q ≡ question.List f (choice.Prefix prefix) o limit)
+IsQuestion matches topic.Search texts q = (f : Form) × (c : Choice) × (o : Order) × (limit : Option ℕ) × IsSearch matches f c o limit × (q ≡ question.List f c o limit)
+IsQuestion matches topic.Verify texts q = q ≡ question.Verify
+IsQuestion matches topic.Stats texts q = (f : ReportForm) × IsReportForm (flag_of matches (codes "json")) f × (q ≡ question.Report f)
+IsQuestion matches topic.Inspect texts q = (v : View) × IsView (word_of matches (codes "VIEW")) (word_of matches (codes "limit")) v × (q ≡ question.View v)
+IsQuestion matches topic.Code texts q = (language : Language) × (name : Bor (List ℕ)) × IsCode matches language name.now × (q ≡ question.Code language name)
+
+-- the command that asks it of the file
+abbrev pub IsAsk : ArgMatches → Topic → Option (List (List ℕ)) → Command → Type 0
+IsAsk matches about texts command = (file : TrieFile) × (q : Question) × IsFile matches about file × IsQuestion matches about texts q × (command ≡ Ask file q)

@@ -1,0 +1,22 @@
+//! The words of the command line: which command they ask for, or what is said in place of one.
+#![tactic(auto)]
+
+mod arguments;
+mod build;
+mod code;
+mod combine;
+mod diff;
+mod help;
+mod input;
+mod keys;
+mod listing;
+mod names;
+mod question;
+mod reply;
+mod request;
+mod search;
+mod table;
+mod task;
+
+pub use reply::Reply;
+pub use request::Request;

@@ -1,0 +1,67 @@
+//! How the command line asks for pairs to be listed.
+
+ghost use Rattle.std.specs.Prelude.{◌≡◌, Some, IfErr, IfOk, IfSome, IfNone, codes};
+ghost use Rattle.zerotrie_words.specs.Refusals.{HasNoNumber, IsNoForm};
+ghost use Rattle.zerotrie_words.specs.Words.{IsLimit, IsListForm, IsOrder, flag_of, form_word, word_of};
+ghost use Rattle.zerotrie_queries.specs.declared.print.Form.{Form};
+
+use clap::ArgMatches;
+use zerotrie_queries::{Form, Order, Style};
+
+/// Returns the form with this name, or `None` if no form of pairs has it.
+fn form_named(name: &str) -> Option<Form>
+    ensures some { IfSome result (λ form. Some name.now ≡ form_word form) }
+    ensures none { IfNone result ((form : Form) → Some name.now ≡ form_word form → ⊥) }
+{
+    match name {
+        "tsv" => Some(Form::Lines(Style::Tsv)),
+        "keys" => Some(Form::Lines(Style::Keys)),
+        "values" => Some(Form::Lines(Style::Values)),
+        "csv" => Some(Form::Lines(Style::Csv)),
+        "jsonl" => Some(Form::Lines(Style::JsonLines)),
+        "json" => Some(Form::Json),
+        _ => None,
+    }
+}
+
+/// Returns how pairs are to be printed. It is an error, with the message, if they are only to be
+/// counted, and a format is named.
+pub fn form_in(matches: &ArgMatches<'_>) -> Result<Form, &'static str>
+    ensures form { IfOk result (IsListForm (flag_of matches.now (codes "count"))
+        (word_of matches.now (codes "format"))) }
+    ensures refused { IfErr result (λ _. IsNoForm (flag_of matches.now (codes "count"))
+        (word_of matches.now (codes "format"))) }
+{
+    match (matches.get_flag("count"), matches.get_str("format")) {
+        (true, None) => Ok(Form::Count),
+        (true, Some(_)) => Err("--count prints no pairs: leave out --format"),
+        (false, None) => Ok(Form::Lines(Style::Tsv)),
+        (false, Some(name)) => form_named(name).ok_or("--format asks for a format"),
+    }
+}
+
+/// Returns the order in which pairs are to be printed. What is only to be counted needs none.
+pub fn order_in(matches: &ArgMatches<'_>) -> Order
+    ensures { IsOrder (flag_of matches.now (codes "count")) (flag_of matches.now (codes "sorted"))
+        result }
+{
+    match (matches.get_flag("count"), matches.get_flag("sorted")) {
+        (false, true) => Order::ByBytes,
+        (true, _) | (false, false) => Order::Stored,
+    }
+}
+
+/// Returns the number that a limit is, or `None` if there is none. It is an error, with the
+/// message, if the word is no number, which clap refuses.
+pub fn limit_in(matches: &ArgMatches<'_>) -> Result<Option<usize>, &'static str>
+    ensures limit { IfOk result (IsLimit (word_of matches.now (codes "limit"))) }
+    ensures refused { IfErr result (λ _. HasNoNumber 64 (word_of matches.now (codes "limit"))) }
+{
+    let Some(word) = matches.get_str("limit") else {
+        return Ok(None);
+    };
+    match word.parse() {
+        Ok(limit) => Ok(Some(limit)),
+        Err(_) => Err("--limit asks for a number"),
+    }
+}

@@ -1,0 +1,42 @@
+//! The kinds and places that words name.
+
+ghost use Rattle.std.specs.Prelude.{IfErr, IfOk, codes};
+ghost use Rattle.zerotrie_words.specs.Refusals.{IsNoKind};
+ghost use Rattle.zerotrie_words.specs.Words.{IsKind, IsPlace, IsSource, word_of};
+
+use clap::ArgMatches;
+use zerotrie_core::TrieKind;
+use zerotrie_run::Place;
+
+/// Returns the kind that an option names. `None` if it is left out, or the build chooses. It is an
+/// error, with the message, if the word is no kind.
+pub fn kind_in(matches: &ArgMatches<'_>, name: &str) -> Result<Option<TrieKind>, &'static str>
+    ensures kind { IfOk result (IsKind (word_of matches.now name.now)) }
+    ensures refused { IfErr result (λ _. IsNoKind (word_of matches.now name.now)) }
+{
+    match matches.get_str(name) {
+        None | Some("auto") => Ok(None),
+        Some(word) => match TrieKind::named(word) {
+            Some(kind) => Ok(Some(kind)),
+            None => Err("simple, ignore, hash and ext are the kinds"),
+        },
+    }
+}
+
+/// Returns the place that an argument names.
+pub fn place_in<'a>(matches: &ArgMatches<'a>, name: &str) -> Place<'a>
+    ensures { IsPlace (word_of matches.now name.now) result }
+{
+    Place::named(matches.get_str(name).unwrap_or("-"))
+}
+
+/// Returns the place to read that an argument names. A path of standard input is that stream, so
+/// that it is not read twice.
+pub fn source_in<'a>(matches: &ArgMatches<'a>, name: &str) -> Place<'a>
+    ensures { IsSource (word_of matches.now name.now) result }
+{
+    match matches.get_str(name) {
+        Some("/dev/stdin" | "/dev/fd/0") => Place::Stream,
+        _ => place_in(matches, name),
+    }
+}

@@ -1,0 +1,95 @@
+//! The words of a command line as a command.
+
+ghost use Rattle.std.specs.Prelude.{◌≡◌, IfOk, IfErr};
+ghost use Rattle.zerotrie_run.specs.declared.status.Status.TheVariants.{BadUsage};
+ghost use Rattle.zerotrie_words.specs.Replies.{status_of};
+ghost use Rattle.zerotrie_words.specs.Requests.{AreApart, AreOneFile, IsCommand, IsNoCommand, keys_by};
+ghost use Rattle.zerotrie_words.specs.Words.{texts_of};
+
+use crate::arguments::program;
+use crate::build::build_in;
+use crate::combine::combine_in;
+use crate::diff::diff_in;
+use crate::keys::words_in;
+use crate::question::ask_in;
+use crate::reply::{Reply, reply_to};
+use crate::table::commands;
+use crate::task::{Task, task_in};
+use clap::ArgMatches;
+use std::alloc::Global;
+use zerotrie_run::{Build, Command, Place};
+
+/// The words of a command line that name a command.
+#[derive(Drop)]
+pub struct Request<'a> {
+    task: Task,
+    matches: ArgMatches<'a>,
+    /// The words that are keys or texts.
+    keys: Option<Vec<&'a [u8]>>,
+}
+
+/// Returns the words of a command, or what is said in place of it.
+fn matches_in<'a>(alloc: Global, words: &'a [String]) -> Result<ArgMatches<'a>, Reply<'a>> {
+    let known = program(alloc, &commands())?;
+    match known.try_get_matches_from(words) {
+        Ok(matches) => Ok(matches),
+        Err(error) => Err(reply_to(alloc, &error)),
+    }
+}
+
+/// Returns a build, unless it would replace its own input. Paths that lead to one file by links are
+/// not seen here.
+fn kept_apart<'a>(build: Build<'a>) -> Result<Build<'a>, Reply<'a>>
+    ensures apart { IfOk result (λ same. (same ≡ build.entry) × AreApart same.from same.to) }
+    ensures refused { IfErr result (λ reply. AreOneFile build.entry.from build.entry.to
+        × (status_of reply ≡ BadUsage)) }
+{
+    match (build.from, build.to) {
+        (Place::File(from), Place::File(to)) if from == to => Err(Reply::OneFile(from, to)),
+        _ => Ok(build),
+    }
+}
+
+impl<'a> Request<'a> {
+    /// Reads the words of a command line, of which the first is the name of the program.
+    pub fn read(alloc: Global, words: &'a [String]) -> Result<Self, Reply<'a>>
+        ensures { IfOk result (λ r. texts_of r.keys ≡ keys_by r.matches r.task) }
+    {
+        let mut matches = matches_in(alloc, words)?;
+        let Some((task, matches)) = task_in(&mut matches) else {
+            return Err(Reply::Refusal("give a command, or --help"));
+        };
+        let keys = match task {
+            Task::Ask(topic) => words_in(alloc, &matches, topic)?,
+            Task::Build | Task::Diff | Task::Combine(_) => None,
+        };
+        Ok(Request {
+            task,
+            matches,
+            keys,
+        })
+    }
+
+    /// Returns the command that the words ask for. A build reports its steps also if messages go to
+    /// a terminal. It is an error if an option has a wrong word, if options exclude each other, or
+    /// if a build would replace its own input.
+    pub fn command(&self, to_terminal: bool) -> Result<Command<'_>, Reply<'a>>
+        ensures command { IfOk result
+            (IsCommand self.now.matches (texts_of self.now.keys) to_terminal self.now.task) }
+        ensures refused { IfErr result (λ _.
+            IsNoCommand self.now.matches (texts_of self.now.keys) self.now.task) }
+        ensures status { IfErr result (λ reply. status_of reply ≡ BadUsage) }
+    {
+        match self.task {
+            Task::Build => {
+                let build = build_in(&self.matches, to_terminal)?;
+                Ok(Command::Build(kept_apart(build)?))
+            }
+            Task::Ask(topic) => Ok(ask_in(&self.matches, topic, &self.keys)?),
+            Task::Diff => Ok(Command::Diff(diff_in(&self.matches)?)),
+            Task::Combine(operation) => {
+                Ok(Command::Combine(combine_in(&self.matches, operation)?))
+            }
+        }
+    }
+}

@@ -1,0 +1,465 @@
+//! The commands, as rows.
+
+use crate::arguments::{Argument, Form, Otherwise, Subcommand};
+use crate::input::INPUTS;
+
+const KINDS: &[&str] = &["simple", "ignore", "hash", "ext"];
+
+const KINDS_OR_AUTO: &[&str] = &["auto", "simple", "ignore", "hash", "ext"];
+
+const OUTPUTS: &[&str] = &["tsv", "csv", "keys", "values", "json", "jsonl"];
+
+const ENDS: &[&str] = &["crlf", "lf"];
+
+const CHOICES: &[&str] = &["refuse", "first", "last"];
+
+const LANGUAGES: &[&str] = &["rust", "c", "rattle", "js"];
+
+const VIEWS: &[&str] = &["dump", "dot"];
+
+/// The greatest number that an option takes.
+const GREATEST: u64 = u64::MAX;
+
+/// The file of a trie.
+const FILE: Argument = Argument {
+    name: "FILE",
+    form: Form::Place,
+    help: "A trie, or - for standard input",
+};
+
+const BARE: Argument = Argument {
+    name: "bare",
+    form: Form::OneOf("K", Some('b'), KINDS, Otherwise::Nothing),
+    help: "Read FILE as bare bytes of this kind",
+};
+
+const NO_CHECK: Argument = Argument {
+    name: "no-check",
+    form: Form::Flag(None),
+    help: "Skip the test of the bytes of a file that is not sealed",
+};
+
+/// How keys and texts are written.
+const ESCAPED: Argument = Argument {
+    name: "escaped",
+    form: Form::Flag(None),
+    help: "Read \\t, \\n, \\r, \\\\ and \\xHH, as list writes them",
+};
+
+const SORTED: Argument = Argument {
+    name: "sorted",
+    form: Form::Flag(Some('S')),
+    help: "Print the pairs in the order of the keys' bytes",
+};
+
+/// The file that is made.
+const OUTPUT: Argument = Argument {
+    name: "output",
+    form: Form::Text("OUT", Some('o'), Otherwise::Refused),
+    help: "The file to make, or - for standard output",
+};
+
+const NO_CLOBBER: Argument = Argument {
+    name: "no-clobber",
+    form: Form::Flag(Some('n')),
+    help: "Refuse the build if OUT is there already",
+};
+
+const KIND: Argument = Argument {
+    name: "kind",
+    form: Form::OneOf("K", Some('k'), KINDS_OR_AUTO, Otherwise::Is("auto")),
+    help: "The kind of the trie: auto is simple for fewer than 512 ASCII keys, else hash",
+};
+
+const TAGGED: Argument = Argument {
+    name: "tagged",
+    form: Form::Flag(Some('t')),
+    help: "Put the number of the kind in front, and no checksum",
+};
+
+const BARE_OUTPUT: Argument = Argument {
+    name: "bare",
+    form: Form::Flag(Some('b')),
+    help: "Put nothing in front; name the kind too",
+};
+
+const INDEX: Argument = Argument {
+    name: "index",
+    form: Form::Flag(Some('i')),
+    help: "Make an index in place of a trie, only for get and verify",
+};
+
+/// What a command has that makes a file of two tries.
+const BOTH: &[Argument] = &[
+    Argument {
+        name: "A",
+        form: Form::Place,
+        help: "A trie that is sealed or tagged, or - for standard input",
+    },
+    Argument {
+        name: "B",
+        form: Form::Place,
+        help: "Another, whose kind may differ",
+    },
+    OUTPUT,
+    NO_CLOBBER,
+    KIND,
+    TAGGED,
+    BARE_OUTPUT,
+    INDEX,
+];
+
+/// What a status says, in the help of the program.
+pub const STATUSES: &str = "Status: 0 if all is done or found; 1 if a key is not there, a text\n\
+    begins with none, pairs differ, or a build is refused; 2 if the command\n\
+    line is wrong, FILE is no trie, or IN is no pairs; 3 if a file can't be read\n\
+    or written, or memory runs out; 4 if whoever reads the output has\n\
+    closed it.";
+
+/// The commands that build a trie and look up in it.
+const LOOK_UPS: &[Subcommand] = &[
+    Subcommand {
+        name: "build",
+        about: "Make a trie or an index from a file of pairs",
+        help: "Example: zerotrie build names.tsv -o names.trie\n\
+            In every format of text a byte order mark in front is left out,\n\
+            and a carriage return before a line feed.\n\
+            Status: 1 if the build is refused, 2 if IN is no pairs.",
+        arguments: &[
+            Argument {
+                name: "IN",
+                form: Form::Place,
+                help: "A file of pairs, or - for standard input",
+            },
+            OUTPUT,
+            NO_CLOBBER,
+            Argument {
+                name: "format",
+                form: Form::OneOf("F", Some('f'), INPUTS, Otherwise::Nothing),
+                help: "The format of IN, else by its ending, else tsv",
+            },
+            Argument {
+                name: "raw",
+                form: Form::Flag(Some('r')),
+                help: "Read tsv without escapes",
+            },
+            Argument {
+                name: "eol",
+                form: Form::OneOf("E", None, ENDS, Otherwise::Nothing),
+                help: "What ends a line, else crlf: lf keeps carriage returns",
+            },
+            Argument {
+                name: "duplicates",
+                form: Form::OneOf("D", Some('d'), CHOICES, Otherwise::Is("refuse")),
+                help: "What becomes of a key that comes again",
+            },
+            Argument {
+                name: "lower-case",
+                form: Form::Flag(Some('l')),
+                help: "Bring ASCII letters of keys into lower case first",
+            },
+            Argument {
+                name: "sorted",
+                form: Form::Flag(Some('s')),
+                help: "Refuse keys that do not ascend by their bytes",
+            },
+            KIND,
+            TAGGED,
+            BARE_OUTPUT,
+            INDEX,
+            Argument {
+                name: "progress",
+                form: Form::Flag(Some('p')),
+                help: "Report each step on standard error, even if it is no terminal",
+            },
+        ],
+    },
+    Subcommand {
+        name: "get",
+        about: "Print the values of keys",
+        help: "Example: zerotrie get names.trie amp lt\n\
+            Status: 1 if a key is not there, 2 if FILE is no trie or index.",
+        arguments: &[
+            FILE,
+            Argument {
+                name: "KEY",
+                form: Form::Words,
+                help: "Keys; - alone reads them from standard input, one a line",
+            },
+            Argument {
+                name: "keys",
+                form: Form::Flag(Some('k')),
+                help: "Print each key in front of its value",
+            },
+            ESCAPED,
+            BARE,
+            NO_CHECK,
+        ],
+    },
+    Subcommand {
+        name: "longest",
+        about: "Print the longest key that each text begins with, and its value",
+        help: "Example: zerotrie longest names.trie ampersand\n\
+            Status: 1 if a text begins with no key, 2 if FILE is no trie.",
+        arguments: &[
+            FILE,
+            Argument {
+                name: "TEXT",
+                form: Form::Words,
+                help: "Texts; - alone reads them from standard input, one a line",
+            },
+            Argument {
+                name: "all",
+                form: Form::Flag(Some('a')),
+                help: "Print all keys that a text begins with, shortest first",
+            },
+            Argument {
+                name: "at",
+                form: Form::AnyText("BYTE", None),
+                help: "Take only keys that end with the text or before this byte",
+            },
+            ESCAPED,
+            BARE,
+            NO_CHECK,
+        ],
+    },
+];
+
+/// The commands that list pairs.
+const LISTINGS: &[Subcommand] = &[
+    Subcommand {
+        name: "list",
+        about: "Print the pairs",
+        help: "Example: zerotrie list names.trie --prefix am\n\
+            Status: 0 also if no key begins so, 2 if FILE is no trie.",
+        arguments: &[
+            FILE,
+            Argument {
+                name: "prefix",
+                form: Form::AnyText("P", Some('p')),
+                help: "Only keys that begin so",
+            },
+            Argument {
+                name: "format",
+                form: Form::OneOf("F", Some('f'), OUTPUTS, Otherwise::Nothing),
+                help: "The format of the output, else tsv",
+            },
+            Argument {
+                name: "limit",
+                form: Form::Number("N", Some('n'), GREATEST),
+                help: "At most this many pairs",
+            },
+            Argument {
+                name: "count",
+                form: Form::Flag(Some('c')),
+                help: "Print how many pairs there are",
+            },
+            SORTED,
+            BARE,
+            NO_CHECK,
+        ],
+    },
+    Subcommand {
+        name: "search",
+        about: "Print the pairs whose keys match, are near a word, or are in a range",
+        help: "Example: zerotrie search names.trie --fuzzy ampersend\n\
+            Give one of --glob, --fuzzy and --subsequence, or --from and --below.\n\
+            Status: 0 also if no key is found, 2 if FILE is no trie.",
+        arguments: &[
+            FILE,
+            Argument {
+                name: "glob",
+                form: Form::AnyText("P", Some('g')),
+                help: "Keys that match *, ?, [a-z], [!a-z] and \\ before any of these",
+            },
+            Argument {
+                name: "fuzzy",
+                form: Form::AnyText("WORD", Some('z')),
+                help: "Keys that few edits make of this word of at most 63 characters",
+            },
+            Argument {
+                name: "edits",
+                form: Form::Number("E", Some('e'), 254),
+                help: "How many characters --fuzzy may insert, delete or change, else 1",
+            },
+            Argument {
+                name: "subsequence",
+                form: Form::AnyText("S", Some('s')),
+                help: "Keys that have these bytes in this order",
+            },
+            Argument {
+                name: "from",
+                form: Form::AnyText("A", None),
+                help: "Keys from this one on, by their bytes",
+            },
+            Argument {
+                name: "below",
+                form: Form::AnyText("B", None),
+                help: "Keys below this one, by their bytes",
+            },
+            Argument {
+                name: "format",
+                form: Form::OneOf("F", Some('f'), OUTPUTS, Otherwise::Nothing),
+                help: "The format of the output, else tsv",
+            },
+            Argument {
+                name: "limit",
+                form: Form::Number("N", Some('n'), GREATEST),
+                help: "At most this many pairs",
+            },
+            Argument {
+                name: "count",
+                form: Form::Flag(Some('c')),
+                help: "Print how many pairs there are",
+            },
+            SORTED,
+            BARE,
+            NO_CHECK,
+        ],
+    },
+    Subcommand {
+        name: "diff",
+        about: "Print the pairs that were added, removed and changed",
+        help: "Example: zerotrie diff old.trie new.trie\n\
+            Prints +, key and value of an added pair; -, key and value of a removed\n\
+            one; and ~, key, old and new value. Tabs are between.\n\
+            Status: 0 if the pairs are the same, 1 if not, 2 if a file is no trie.",
+        arguments: &[
+            Argument {
+                name: "OLD",
+                form: Form::Place,
+                help: "A trie, or - for standard input",
+            },
+            Argument {
+                name: "NEW",
+                form: Form::Place,
+                help: "Another one, of any kind",
+            },
+            Argument {
+                name: "bare",
+                form: Form::OneOf("K", Some('b'), KINDS, Otherwise::Nothing),
+                help: "Read both as bare bytes of this kind",
+            },
+        ],
+    },
+];
+
+/// The commands that show what a file has.
+const REPORTS: &[Subcommand] = &[
+    Subcommand {
+        name: "verify",
+        about: "Test all bytes, and print nothing if they are a trie or an index",
+        help: "Example: zerotrie verify names.trie\nStatus: 2 if FILE is no trie or index.",
+        arguments: &[FILE, BARE],
+    },
+    Subcommand {
+        name: "stats",
+        about: "Print what the trie is made of",
+        help: "Example: zerotrie stats names.trie --json\nStatus: 2 if FILE is no trie.",
+        arguments: &[
+            FILE,
+            Argument {
+                name: "json",
+                form: Form::Flag(Some('j')),
+                help: "Print one JSON object",
+            },
+            BARE,
+            NO_CHECK,
+        ],
+    },
+    Subcommand {
+        name: "inspect",
+        about: "Print each node of the trie, or a drawing for Graphviz",
+        help: "Example: zerotrie inspect dot names.trie -n 40 | dot -Tsvg",
+        arguments: &[
+            Argument {
+                name: "VIEW",
+                form: Form::Word(VIEWS),
+                help: "A line for each node, or a drawing",
+            },
+            FILE,
+            Argument {
+                name: "limit",
+                form: Form::Number("N", Some('n'), GREATEST),
+                help: "At most this many nodes of a drawing, else 100",
+            },
+            BARE,
+            NO_CHECK,
+        ],
+    },
+    Subcommand {
+        name: "code",
+        about: "Print the bytes as a constant of a program, with the call that reads it",
+        help: "Example: zerotrie code names.trie --lang c --name names",
+        arguments: &[
+            FILE,
+            Argument {
+                name: "lang",
+                form: Form::OneOf("L", Some('l'), LANGUAGES, Otherwise::Refused),
+                help: "The language",
+            },
+            Argument {
+                name: "name",
+                form: Form::Text("NAME", None, Otherwise::Nothing),
+                help: "The name of what is made, else TRIE, get and trie",
+            },
+            Argument {
+                name: "alone",
+                form: Form::Flag(Some('a')),
+                help: "Print a reader in front, so that the code of C needs no library",
+            },
+            BARE,
+            NO_CHECK,
+        ],
+    },
+];
+
+/// The commands that make a trie of two others.
+const COMBINATIONS: &[Subcommand] = &[
+    Subcommand {
+        name: "union",
+        about: "Make a trie of the pairs of two others",
+        help: "Example: zerotrie union new.trie old.trie -o all.trie\n\
+            If both have a key, the value in A counts. OUT may be A or B.\n\
+            Status: 1 if the build is refused, 2 if A or B is no trie.",
+        arguments: BOTH,
+    },
+    Subcommand {
+        name: "intersect",
+        about: "Make a trie of the keys that two others have",
+        help: "Example: zerotrie intersect names.trie wanted.trie -o found.trie\n\
+            The values are those in A. OUT may be A or B.\n\
+            Status: 1 if the build is refused, 2 if A or B is no trie.",
+        arguments: BOTH,
+    },
+    Subcommand {
+        name: "minus",
+        about: "Make a trie of the keys of one that another has not",
+        help: "Example: zerotrie minus names.trie old.trie -o new.trie\n\
+            The keys are those of A that B has not. OUT may be A or B.\n\
+            Status: 1 if the build is refused, 2 if A or B is no trie.",
+        arguments: BOTH,
+    },
+];
+
+fn look_ups() -> &'static [Subcommand] {
+    LOOK_UPS
+}
+
+fn listings() -> &'static [Subcommand] {
+    LISTINGS
+}
+
+fn reports() -> &'static [Subcommand] {
+    REPORTS
+}
+
+fn combinations() -> &'static [Subcommand] {
+    COMBINATIONS
+}
+
+/// What the program can be asked to do, in the order of the help. Each part is behind a function of
+/// its own, since a proof writes out the rows that it sees.
+pub fn commands() -> [&'static [Subcommand]; 4] {
+    [look_ups(), listings(), reports(), combinations()]
+}

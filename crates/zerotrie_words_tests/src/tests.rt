@@ -1,0 +1,190 @@
+//! Which words ask for which command, and what is said in place of one. No clause says it, since `clap` has none on words
+//! of a command with options whose words may begin with a hyphen.
+
+use std::alloc::{AllocError, Global};
+use std::process::Abort;
+use std::test::Fail;
+use zerotrie_words::{Reply, Request};
+
+/// Words after the name of the program, and what they ask for, where `..` is for any text. A reply begins with its status;
+/// the lines after its first are left out.
+const ROWS: &str =
+    r#"build a -o b => Build(Build { from: File("a"), to: File("b"), plan: Plan { read: ReadPlan { source: Text(Tsv, CrLf), lower_case: false, duplicates: Refuse }, file: FilePlan { kind: None, sorted: false, form: Sealed } }, no_clobber: false, progress: false })
+get f k => Ask(TrieFile { place: File("f"), bare: None, check: Usual }, LookUp(Query { asked: Value, spelling: Plain }, Words([[107]])))
+longest f t => Ask(TrieFile { place: File("f"), bare: None, check: Usual }, LookUp(Query { asked: Longest, spelling: Plain }, Words([[116]])))
+list f => Ask(TrieFile { place: File("f"), bare: None, check: Usual }, List(Lines(Tsv), Prefix([]), Stored, None))
+search f --glob x* => Ask(TrieFile { place: File("f"), bare: None, check: Usual }, List(Lines(Tsv), Glob(Glob { pattern: [120, 42] }), Stored, None))
+diff a b => Diff(Diff { old: File("a"), new: File("b"), bare: None })
+verify f => Ask(TrieFile { place: File("f"), bare: None, check: Full }, Verify)
+verify f -b simple => Ask(TrieFile { place: File("f"), bare: Some(Simple), check: Full }, Verify)
+stats f => Ask(TrieFile { place: File("f"), bare: None, check: Usual }, Report(Lines))
+inspect dump f => Ask(TrieFile { place: File("f"), bare: None, check: Usual }, View(Dump))
+inspect dot f => Ask(TrieFile { place: File("f"), bare: None, check: Usual }, View(Dot(100)))
+code f --lang rust => Ask(TrieFile { place: File("f"), bare: None, check: Usual }, Code(Rust, "TRIE"))
+union a b -o c => Combine(Combine { operation: Union(First), first: File("a"), second: File("b"), to: File("c"), kind: None, form: Sealed, no_clobber: false })
+intersect a b -o c => Combine(Combine { operation: Intersection(First), first: File("a"), second: File("b"), to: File("c"), kind: None, form: Sealed, no_clobber: false })
+minus a b -o c => Combine(Combine { operation: Difference, first: File("a"), second: File("b"), to: File("c"), kind: None, form: Sealed, no_clobber: false })
+build a.csv --output b => Build(Build { from: File("a.csv"), to: File("b"), plan: Plan { read: ReadPlan { source: Text(Csv, CrLf), lower_case: false, duplicates: Refuse }, file: FilePlan { kind: None, sorted: false, form: Sealed } }, no_clobber: false, progress: false })
+build a.TXT -o b => Build(Build { from: File("a.TXT"), to: File("b"), plan: Plan { read: ReadPlan { source: Text(Lines, CrLf), lower_case: false, duplicates: Refuse }, file: FilePlan { kind: None, sorted: false, form: Sealed } }, no_clobber: false, progress: false })
+build a.json -o b => Build(Build { from: File("a.json"), to: File("b"), plan: Plan { read: ReadPlan { source: Json, lower_case: false, duplicates: Refuse }, file: FilePlan { kind: None, sorted: false, form: Sealed } }, no_clobber: false, progress: false })
+build - -o - => Build(Build { from: Stream, to: Stream, plan: Plan { read: ReadPlan { source: Text(Tsv, CrLf), lower_case: false, duplicates: Refuse }, file: FilePlan { kind: None, sorted: false, form: Sealed } }, no_clobber: false, progress: false })
+build /dev/stdin -o /dev/stdout => Build(Build { from: Stream, to: Stream, plan: Plan { read: ReadPlan { source: Text(Tsv, CrLf), lower_case: false, duplicates: Refuse }, file: FilePlan { kind: None, sorted: false, form: Sealed } }, no_clobber: false, progress: false })
+build a -o b -f csv => Build(Build { from: File("a"), to: File("b"), plan: Plan { read: ReadPlan { source: Text(Csv, CrLf), lower_case: false, duplicates: Refuse }, file: FilePlan { kind: None, sorted: false, form: Sealed } }, no_clobber: false, progress: false })
+build a.csv -o b --format lines => Build(Build { from: File("a.csv"), to: File("b"), plan: Plan { read: ReadPlan { source: Text(Lines, CrLf), lower_case: false, duplicates: Refuse }, file: FilePlan { kind: None, sorted: false, form: Sealed } }, no_clobber: false, progress: false })
+build a -o b --format json => Build(Build { from: File("a"), to: File("b"), plan: Plan { read: ReadPlan { source: Json, lower_case: false, duplicates: Refuse }, file: FilePlan { kind: None, sorted: false, form: Sealed } }, no_clobber: false, progress: false })
+build a.json -o b --format tsv => Build(Build { from: File("a.json"), to: File("b"), plan: Plan { read: ReadPlan { source: Text(Tsv, CrLf), lower_case: false, duplicates: Refuse }, file: FilePlan { kind: None, sorted: false, form: Sealed } }, no_clobber: false, progress: false })
+build a -o b --raw --eol lf => Build(Build { from: File("a"), to: File("b"), plan: Plan { read: ReadPlan { source: Text(TsvRaw, Lf), lower_case: false, duplicates: Refuse }, file: FilePlan { kind: None, sorted: false, form: Sealed } }, no_clobber: false, progress: false })
+build a -o b --eol crlf => Build(Build { from: File("a"), to: File("b"), plan: Plan { read: ReadPlan { source: Text(Tsv, CrLf), lower_case: false, duplicates: Refuse }, file: FilePlan { kind: None, sorted: false, form: Sealed } }, no_clobber: false, progress: false })
+build a -o b -d first => Build(Build { from: File("a"), to: File("b"), plan: Plan { read: ReadPlan { source: Text(Tsv, CrLf), lower_case: false, duplicates: First }, file: FilePlan { kind: None, sorted: false, form: Sealed } }, no_clobber: false, progress: false })
+build a -o b --duplicates last => Build(Build { from: File("a"), to: File("b"), plan: Plan { read: ReadPlan { source: Text(Tsv, CrLf), lower_case: false, duplicates: Last }, file: FilePlan { kind: None, sorted: false, form: Sealed } }, no_clobber: false, progress: false })
+build a -o b --duplicates refuse => Build(Build { from: File("a"), to: File("b"), plan: Plan { read: ReadPlan { source: Text(Tsv, CrLf), lower_case: false, duplicates: Refuse }, file: FilePlan { kind: None, sorted: false, form: Sealed } }, no_clobber: false, progress: false })
+build a -o b -l -s -p => Build(Build { from: File("a"), to: File("b"), plan: Plan { read: ReadPlan { source: Text(Tsv, CrLf), lower_case: true, duplicates: Refuse }, file: FilePlan { kind: None, sorted: true, form: Sealed } }, no_clobber: false, progress: true })
+build a -o b --lower-case => Build(Build { from: File("a"), to: File("b"), plan: Plan { read: ReadPlan { source: Text(Tsv, CrLf), lower_case: true, duplicates: Refuse }, file: FilePlan { kind: None, sorted: false, form: Sealed } }, no_clobber: false, progress: false })
+build a -o b --sorted => Build(Build { from: File("a"), to: File("b"), plan: Plan { read: ReadPlan { source: Text(Tsv, CrLf), lower_case: false, duplicates: Refuse }, file: FilePlan { kind: None, sorted: true, form: Sealed } }, no_clobber: false, progress: false })
+build a -o b -n => Build(Build { from: File("a"), to: File("b"), plan: Plan { read: ReadPlan { source: Text(Tsv, CrLf), lower_case: false, duplicates: Refuse }, file: FilePlan { kind: None, sorted: false, form: Sealed } }, no_clobber: true, progress: false })
+build a -o b --no-clobber --progress => Build(Build { from: File("a"), to: File("b"), plan: Plan { read: ReadPlan { source: Text(Tsv, CrLf), lower_case: false, duplicates: Refuse }, file: FilePlan { kind: None, sorted: false, form: Sealed } }, no_clobber: true, progress: true })
+build a -o b -k simple -t => Build(Build { from: File("a"), to: File("b"), plan: Plan { read: ReadPlan { source: Text(Tsv, CrLf), lower_case: false, duplicates: Refuse }, file: FilePlan { kind: Some(Simple), sorted: false, form: Tagged } }, no_clobber: false, progress: false })
+build a -o b --kind ignore --tagged => Build(Build { from: File("a"), to: File("b"), plan: Plan { read: ReadPlan { source: Text(Tsv, CrLf), lower_case: false, duplicates: Refuse }, file: FilePlan { kind: Some(Ignore), sorted: false, form: Tagged } }, no_clobber: false, progress: false })
+build a -o b --kind hash --bare => Build(Build { from: File("a"), to: File("b"), plan: Plan { read: ReadPlan { source: Text(Tsv, CrLf), lower_case: false, duplicates: Refuse }, file: FilePlan { kind: Some(Hash), sorted: false, form: Bare } }, no_clobber: false, progress: false })
+build a -o b -k ext -b => Build(Build { from: File("a"), to: File("b"), plan: Plan { read: ReadPlan { source: Text(Tsv, CrLf), lower_case: false, duplicates: Refuse }, file: FilePlan { kind: Some(Ext), sorted: false, form: Bare } }, no_clobber: false, progress: false })
+build a -o b -k auto => Build(Build { from: File("a"), to: File("b"), plan: Plan { read: ReadPlan { source: Text(Tsv, CrLf), lower_case: false, duplicates: Refuse }, file: FilePlan { kind: None, sorted: false, form: Sealed } }, no_clobber: false, progress: false })
+build a -o b -i => Build(Build { from: File("a"), to: File("b"), plan: Plan { read: ReadPlan { source: Text(Tsv, CrLf), lower_case: false, duplicates: Refuse }, file: FilePlan { kind: None, sorted: false, form: Index } }, no_clobber: false, progress: false })
+union a b -o c -k hash -t -n => Combine(Combine { operation: Union(First), first: File("a"), second: File("b"), to: File("c"), kind: Some(Hash), form: Tagged, no_clobber: true })
+minus - b -o - --index => Combine(Combine { operation: Difference, first: Stream, second: File("b"), to: Stream, kind: None, form: Index, no_clobber: false })
+intersect a /dev/fd/0 -o c --bare => Combine(Combine { operation: Intersection(First), first: File("a"), second: Stream, to: File("c"), kind: None, form: Bare, no_clobber: false })
+get - k l --keys --bare simple => Ask(TrieFile { place: Stream, bare: Some(Simple), check: Usual }, LookUp(Query { asked: Pair, spelling: Plain }, Words([[107], [108]])))
+get f - => Ask(TrieFile { place: File("f"), bare: None, check: Usual }, LookUp(Query { asked: Value, spelling: Plain }, Lines))
+get f - -k --escaped --no-check => Ask(TrieFile { place: File("f"), bare: None, check: Skip }, LookUp(Query { asked: Pair, spelling: Escaped }, Lines))
+longest f t u --all => Ask(TrieFile { place: File("f"), bare: None, check: Usual }, LookUp(Query { asked: Prefixes, spelling: Plain }, Words([[116], [117]])))
+longest f t --at . => Ask(TrieFile { place: File("f"), bare: None, check: Usual }, LookUp(Query { asked: LongestAt(46), spelling: Plain }, Words([[116]])))
+longest f - --at - => Ask(TrieFile { place: File("f"), bare: None, check: Usual }, LookUp(Query { asked: LongestAt(45), spelling: Plain }, Lines))
+longest f -- -a => Ask(TrieFile { place: File("f"), bare: None, check: Usual }, LookUp(Query { asked: Longest, spelling: Plain }, Words([[45, 97]])))
+list f -p x -f csv -n 3 -S -b hash => Ask(TrieFile { place: File("f"), bare: Some(Hash), check: Usual }, List(Lines(Csv), Prefix([120]), ByBytes, Some(3)))
+list f --prefix -x --format keys --limit 0 => Ask(TrieFile { place: File("f"), bare: None, check: Usual }, List(Lines(Keys), Prefix([45, 120]), Stored, Some(0)))
+list f --format values => Ask(TrieFile { place: File("f"), bare: None, check: Usual }, List(Lines(Values), Prefix([]), Stored, None))
+list f --format json => Ask(TrieFile { place: File("f"), bare: None, check: Usual }, List(Json, Prefix([]), Stored, None))
+list f --format jsonl => Ask(TrieFile { place: File("f"), bare: None, check: Usual }, List(Lines(JsonLines), Prefix([]), Stored, None))
+list f --count --sorted => Ask(TrieFile { place: File("f"), bare: None, check: Usual }, List(Count, Prefix([]), Stored, None))
+search f -z ab -n 5 -c => Ask(TrieFile { place: File("f"), bare: None, check: Usual }, List(Count, Fuzzy(LevenshteinChars { word: Word { letters: [97, 98, 0, ..], len: 2 }, edits: 1 }), Stored, Some(5)))
+search f --fuzzy ab --edits 4 => Ask(TrieFile { place: File("f"), bare: None, check: Usual }, List(Lines(Tsv), Fuzzy(LevenshteinChars { word: Word { letters: [97, 98, 0, ..], len: 2 }, edits: 4 }), Stored, None))
+search f --subsequence ab -S => Ask(TrieFile { place: File("f"), bare: None, check: Usual }, List(Lines(Tsv), Subsequence(Subsequence([97, 98])), ByBytes, None))
+search f --from b --below c => Ask(TrieFile { place: File("f"), bare: None, check: Usual }, List(Lines(Tsv), Range(KeyRange { from: Included([98]), to: Excluded([99]) }), Stored, None))
+search f --below c => Ask(TrieFile { place: File("f"), bare: None, check: Usual }, List(Lines(Tsv), Range(KeyRange { from: Unbounded, to: Excluded([99]) }), Stored, None))
+diff a b -b ext => Diff(Diff { old: File("a"), new: File("b"), bare: Some(Ext) })
+stats f --json => Ask(TrieFile { place: File("f"), bare: None, check: Usual }, Report(Json))
+inspect dot f -n 7 => Ask(TrieFile { place: File("f"), bare: None, check: Usual }, View(Dot(7)))
+code f -l c --name names => Ask(TrieFile { place: File("f"), bare: None, check: Usual }, Code(C, "names"))
+code f --lang c --alone => Ask(TrieFile { place: File("f"), bare: None, check: Usual }, Code(CAlone, "trie"))
+code f --lang rattle => Ask(TrieFile { place: File("f"), bare: None, check: Usual }, Code(Rattle, "get"))
+code f --lang js => Ask(TrieFile { place: File("f"), bare: None, check: Usual }, Code(JavaScript, "trie"))
+build a => 2 the following required arguments were not provided:
+union a b => 2 the following required arguments were not provided:
+intersect a b => 2 the following required arguments were not provided:
+minus a b => 2 the following required arguments were not provided:
+code f => 2 the following required arguments were not provided:
+get f => 2 the following required arguments were not provided:
+get => 2 the following required arguments were not provided:
+diff a => 2 the following required arguments were not provided:
+nope => 2 unrecognized subcommand 'nope'
+list f --nope => 2 unexpected argument '--nope' found
+verify f --no-check => 2 unexpected argument '--no-check' found
+list f -N 3 => 2 unexpected argument '-N' found
+verify f g => 2 unexpected argument 'g' found
+get f k --bare => 2 a value is required for '--bare <K>' but none was supplied
+list f --format nope => 2 invalid value 'nope' for '--format <F>'
+build a -o b --format nope => 2 invalid value 'nope' for '--format <F>'
+build a -o b --kind nope => 2 invalid value 'nope' for '--kind <K>'
+build a -o b --eol cr => 2 invalid value 'cr' for '--eol <E>'
+build a -o b --duplicates all => 2 invalid value 'all' for '--duplicates <D>'
+list f --bare auto => 2 invalid value 'auto' for '--bare <K>'
+inspect tree f => 2 invalid value 'tree' for '<VIEW>'
+code f --lang go => 2 invalid value 'go' for '--lang <L>'
+list f --limit x => 2 invalid value 'x' for '--limit <N>': invalid digit found in string
+search f --fuzzy a --edits 255 => 2 invalid value '255' for '--edits <E>': 255 is not in 0..=254
+list f -c -c => 2 the argument '--count' cannot be used multiple times
+build a -o b --eol lf -f json => 2 --eol is for lines and records: leave it out for json
+build a -o b --raw -f csv => 2 --raw is for tsv
+build a -o b -t -b => 2 --tagged and --bare exclude each other
+build a -o b -i -t => 2 --index excludes --tagged and --bare
+build a -o b -i -k hash => 2 an index has no kind: leave out --kind or --index
+build a -o a => 2 a and a: IN and OUT are the same file
+get f - k => 2 - reads standard input only if no other key or text is given; the key - is \x2d with --escaped
+longest f t --all --at . => 2 --all and --at exclude each other
+longest f t --at ab => 2 --at asks for one byte
+list f -c -f csv => 2 --count prints no pairs: leave out --format
+search f => 2 give one of --glob, --fuzzy and --subsequence, or --from and --below
+search f --glob a --from b => 2 give only one of --glob, --fuzzy and --subsequence, or --from and --below alone
+search f --glob a --edits 2 => 2 --edits is for --fuzzy
+search f --glob [a => 2 --glob asks for a pattern: a class lacks its end, or a backslash its byte
+inspect dump f -n 3 => 2 --limit is for inspect dot
+code f --lang js --alone => 2 --alone is for --lang c
+code f --lang c --name 1a => 2 --name asks for ASCII letters, digits and _, and no digit in front
+code f --lang c --name zerotrie_get => 2 --name asks for no name that begins with zerotrie
+code f --lang rust --name fn => 2 --name asks for no keyword of the language
+code f --lang rattle --name match => 2 --name asks for no keyword of the language
+code f --lang js --name await => 2 --name asks for no keyword of the language
+--version => 0 zerotrie 0.3.0
+--help => 0 Makes tries in files and reads them
+union --help => 0 Make a trie of the pairs of two others
+"#;
+
+/// Returns the words of a row, behind the name of the program.
+fn words_of(alloc: Global, row: &str) -> Result<Vec<String>, AllocError> {
+    let mut words = Vec::new(alloc);
+    words.push(String::from_str(alloc, "zerotrie")?)?;
+    for word in row.split(' ') {
+        words.push(String::from_str(alloc, word)?)?;
+    }
+    Ok(words)
+}
+
+/// Returns the first line of a reply, after its status.
+fn first_line(alloc: Global, reply: &Reply<'_>) -> Result<String, AllocError> {
+    let text = match reply {
+        Reply::Help(text) | Reply::Misuse(text) => format!(in alloc; "{text}")?,
+        Reply::Refusal(why) => format!(in alloc; "{why}")?,
+        Reply::OneFile(from, to) => {
+            format!(in alloc; "{from} and {to}: IN and OUT are the same file")?
+        }
+        Reply::OutOfMemory => format!(in alloc; "out of memory")?,
+    };
+    let line = text.as_str().lines().next().unwrap_or("");
+    let line = line.strip_prefix("zerotrie: ").unwrap_or(line);
+    format!(in alloc; "{} {line}", reply.status().number())
+}
+
+/// Returns what words ask for, as text.
+fn asked_by(alloc: Global, words: &[String]) -> Result<String, AllocError> {
+    match Request::read(alloc, words) {
+        Ok(request) => match request.command(false) {
+            Ok(command) => format!(in alloc; "{command:?}"),
+            Err(reply) => first_line(alloc, &reply),
+        },
+        Err(reply) => first_line(alloc, &reply),
+    }
+}
+
+/// Returns whether a text is the wanted one, in which `..` is for any text.
+fn is_as(text: &str, wanted: &str) -> bool {
+    match wanted.split_once("..") {
+        Some((front, back)) => text.starts_with(front) && text.ends_with(back),
+        None => text == wanted,
+    }
+}
+
+/// Ends the test unless the words of a row ask for what it says.
+fn test_row<H: Abort>(rt: &H, alloc: Global, row: &str) -> Result<(), AllocError> {
+    let (words, wanted) = row.split_once(" => ").unwrap_or(("", ""));
+    let words = words_of(alloc, words)?;
+    let asked = asked_by(alloc, words.as_slice())?;
+    assert!(rt; is_as(asked.as_str(), wanted), "{row}: {asked}");
+    Ok(())
+}
+
+#[test]
+fn words_ask_for_commands(rt: HostRuntime) -> Result<(), Fail> {
+    for row in ROWS.lines() {
+        test_row(&rt, rt.alloc(), row)?;
+    }
+    Ok(())
+}
