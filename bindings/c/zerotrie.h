@@ -168,7 +168,8 @@ typedef enum zerotrie_status ZEROTRIE_ENUM {
     ZEROTRIE_NO_TAG = 13,
     /** zerotrie_untagged(): the first byte is the number of no kind */
     ZEROTRIE_INVALID_TAG = 14,
-    /** zerotrie_dense_get(): the table has no value for the two texts */
+    /** zerotrie_dense_get(): the table has no value for the two texts; zerotrie_last_within(),
+     * zerotrie_first_key_of(): no key is what was asked for */
     ZEROTRIE_NO_ENTRY = 15,
     /** zerotrie_dense_get(): fewer bytes than a record of a table asks for */
     ZEROTRIE_RECORD_TRUNCATED = 16,
@@ -763,6 +764,49 @@ zerotrie_status zerotrie_sorted_some(zerotrie_kind_number kind, const uint8_t *b
                                      size_t to_len, uint8_t *keys, size_t keys_len, size_t *ends,
                                      size_t ends_len, size_t *values, size_t values_len,
                                      size_t *count, size_t *next_len);
+
+/**
+ * Finds the last key between two bounds, in the order of bytes in every kind, as in
+ * zerotrie_sorted_some(). So the key below "b", or up to it, is that of an excluded, or an
+ * included, upper bound:
+ *
+ *     status = zerotrie_last_within(kind, trie, len, ZEROTRIE_UNBOUNDED, NULL, 0,
+ *                                   ZEROTRIE_EXCLUDED, "b", 1, key, sizeof key, &key_len, &value);
+ *
+ * To list backwards, call again with the key that was found as an excluded upper bound; it may not
+ * be in `key`.
+ *
+ * ZEROTRIE_DONE: the key is the first *key_len bytes of `key`, whose rest stays, and *value is its
+ * value. ZEROTRIE_BUFFER_TOO_SMALL: both are set, and `key` stays; call again with a room of
+ * *key_len bytes. Otherwise nothing is written: ZEROTRIE_NO_ENTRY, if no key is there;
+ * ZEROTRIE_UNKNOWN_SEARCH, of a number that no bound has; ZEROTRIE_UNKNOWN_KIND or
+ * ZEROTRIE_OUT_OF_MEMORY.
+ *
+ * A call costs a look-up of the upper bound and the way back and down to the key; at each byte it
+ * compares the edges that are there. Allocates as zerotrie_sorted_some().
+ */
+ZEROTRIE_ANSWERS
+zerotrie_status zerotrie_last_within(zerotrie_kind_number kind, const uint8_t *bytes, size_t len,
+                                     zerotrie_bound from_bound, const uint8_t *from,
+                                     size_t from_len, zerotrie_bound to_bound, const uint8_t *to,
+                                     size_t to_len, uint8_t *key, size_t key_room, size_t *key_len,
+                                     size_t *value);
+
+/**
+ * Finds the first key, in the order of zerotrie_list(), that has this value.
+ *
+ * ZEROTRIE_DONE: it is the first *key_len bytes of `key`, and the rest stays.
+ * ZEROTRIE_BUFFER_TOO_SMALL: it has *key_len bytes, and `key` stays; call again with a room of as
+ * many. Otherwise nothing is written: ZEROTRIE_NO_ENTRY, if no key has the value;
+ * ZEROTRIE_UNKNOWN_KIND or ZEROTRIE_OUT_OF_MEMORY.
+ *
+ * It reads the pairs up to that key, so a table of your own is faster for many values. Allocates as
+ * much as the longest key and the deepest branches take.
+ */
+ZEROTRIE_ANSWERS
+zerotrie_status zerotrie_first_key_of(zerotrie_kind_number kind, const uint8_t *bytes, size_t len,
+                                      size_t value, uint8_t *key, size_t key_room,
+                                      size_t *key_len);
 /** @} */
 
 /** @name Indexes
@@ -1175,6 +1219,36 @@ ZEROTRIE_INLINE zerotrie_status zerotrie_sorted_some_or_null(zerotrie_kind_numbe
                                 ZEROTRIE_ARRAY(values, values_len, &number), count, next_len);
 }
 #define zerotrie_sorted_some(...) zerotrie_sorted_some_or_null(__VA_ARGS__)
+
+ZEROTRIE_MUST_USE
+ZEROTRIE_NEEDS((12, 13))
+ZEROTRIE_INLINE zerotrie_status zerotrie_last_within_or_null(zerotrie_kind_number kind,
+                                                             const void *bytes, size_t len,
+                                                             zerotrie_bound from_bound,
+                                                             const void *from, size_t from_len,
+                                                             zerotrie_bound to_bound,
+                                                             const void *to, size_t to_len,
+                                                             uint8_t *key, size_t key_room,
+                                                             size_t *key_len, size_t *value) {
+    uint8_t byte;
+    return zerotrie_last_within(kind, ZEROTRIE_READS(bytes, len), from_bound,
+                                ZEROTRIE_READS(from, from_len), to_bound,
+                                ZEROTRIE_READS(to, to_len), ZEROTRIE_ARRAY(key, key_room, &byte),
+                                key_len, value);
+}
+#define zerotrie_last_within(...) zerotrie_last_within_or_null(__VA_ARGS__)
+
+ZEROTRIE_MUST_USE
+ZEROTRIE_NEEDS((7))
+ZEROTRIE_INLINE zerotrie_status zerotrie_first_key_of_or_null(zerotrie_kind_number kind,
+                                                              const void *bytes, size_t len,
+                                                              size_t value, uint8_t *key,
+                                                              size_t key_room, size_t *key_len) {
+    uint8_t byte;
+    return zerotrie_first_key_of(kind, ZEROTRIE_READS(bytes, len), value,
+                                 ZEROTRIE_ARRAY(key, key_room, &byte), key_len);
+}
+#define zerotrie_first_key_of(...) zerotrie_first_key_of_or_null(__VA_ARGS__)
 
 ZEROTRIE_MUST_USE
 ZEROTRIE_NEEDS((5))
@@ -1614,7 +1688,7 @@ ZEROTRIE_INLINE const char *zerotrie_status_text(uint32_t status) {
     case ZEROTRIE_NO_TAG: return "there are no bytes: give all of the tagged bytes";
     case ZEROTRIE_INVALID_TAG:
         return "the first byte is the tag of no kind: give bytes that were written with a tag";
-    case ZEROTRIE_NO_ENTRY: return "the table has no such entry";
+    case ZEROTRIE_NO_ENTRY: return "there is no such entry";
     case ZEROTRIE_RECORD_TRUNCATED: return "the record is cut: give all of its bytes";
     case ZEROTRIE_TRAILING_BYTES: return "bytes follow the record: give its bytes alone";
     case ZEROTRIE_DAMAGED: return "the sealed file is damaged: get it anew";

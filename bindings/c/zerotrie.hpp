@@ -279,6 +279,19 @@ template <class Call, class Fail> std::string written(size_t len, Call call, Fai
     return out;
 }
 
+// The key that a call writes, in a room that is made as large as it asks for. nullopt: there is no
+// key.
+template <class Call> std::optional<std::string> found(Call call) {
+    uint32_t status = ZEROTRIE_NO_ENTRY;
+    std::string key = written(64, [&](uint8_t *out, size_t len, size_t *made) {
+        status = call(out, len, made);
+        if (status == ZEROTRIE_NO_ENTRY) *made = 0;
+        return status;
+    }, [](uint32_t it) { if (it != ZEROTRIE_NO_ENTRY) check(it); });
+    if (status == ZEROTRIE_NO_ENTRY) return std::nullopt;
+    return key;
+}
+
 // Whether what an iterator leads to stays while the range is gone over: it is no object of the
 // iterator's own, nor made as it goes.
 template <class Iterator, class = void> constexpr bool stays = false;
@@ -933,6 +946,28 @@ public:
     [[nodiscard]] StreamIterator lower_bound(std::string_view key) const {
         return StreamIterator(kind_, bytes_, Search::range(key, std::nullopt).sorted());
     }
+    /// The last pair, in the order of bytes, and its key as a std::string. nullopt: there is none.
+    [[nodiscard]] std::optional<std::pair<std::string, size_t>> last() const {
+        return last_within(ZEROTRIE_UNBOUNDED, {});
+    }
+    /// The last pair, in the order of bytes, whose key is before this one.
+    [[nodiscard]] std::optional<std::pair<std::string, size_t>>
+    last_before(std::string_view key) const {
+        return last_within(ZEROTRIE_EXCLUDED, key);
+    }
+    /// The last pair, in the order of bytes, whose key is this one or before it.
+    [[nodiscard]] std::optional<std::pair<std::string, size_t>>
+    last_up_to(std::string_view key) const {
+        return last_within(ZEROTRIE_INCLUDED, key);
+    }
+    /// The first key, in the order of the trie's bytes, that has this value. nullopt: no key has
+    /// it. It reads the pairs up to that key.
+    [[nodiscard]] std::optional<std::string> first_key_of(size_t value) const {
+        const auto at = detail::of(bytes_);
+        return detail::found([&](uint8_t *key, size_t room, size_t *len) {
+            return zerotrie_first_key_of(number(), at.ptr, at.len, value, key, room, len);
+        });
+    }
     /// The first pair, in the order of bytes, whose key is after this one.
     [[nodiscard]] StreamIterator upper_bound(std::string_view key) const {
         return StreamIterator(kind_, bytes_, Search::after(key));
@@ -983,6 +1018,17 @@ public:
 
 private:
     uint32_t number() const noexcept { return static_cast<uint32_t>(kind_); }
+    std::optional<std::pair<std::string, size_t>> last_within(zerotrie_bound bound,
+                                                              std::string_view below) const {
+        const auto at = detail::of(bytes_), to = detail::of(below);
+        size_t value = 0;
+        auto key = detail::found([&](uint8_t *out, size_t room, size_t *len) {
+            return zerotrie_last_within(number(), at.ptr, at.len, ZEROTRIE_UNBOUNDED, at.ptr, 0,
+                                        bound, to.ptr, to.len, out, room, len, &value);
+        });
+        if (!key) return std::nullopt;
+        return std::pair(*std::move(key), value);
+    }
     Kind kind_ = Kind::SimpleAscii;
     std::string_view bytes_;
 };
@@ -1224,6 +1270,24 @@ public:
     [[nodiscard]] StreamIterator lower_bound(
         std::string_view key) const &ZEROTRIE_LIFETIMEBOUND {
         return trie().lower_bound(key);
+    }
+    /// See Trie::last().
+    [[nodiscard]] std::optional<std::pair<std::string, size_t>> last() const {
+        return trie().last();
+    }
+    /// See Trie::last_before().
+    [[nodiscard]] std::optional<std::pair<std::string, size_t>>
+    last_before(std::string_view key) const {
+        return trie().last_before(key);
+    }
+    /// See Trie::last_up_to().
+    [[nodiscard]] std::optional<std::pair<std::string, size_t>>
+    last_up_to(std::string_view key) const {
+        return trie().last_up_to(key);
+    }
+    /// See Trie::first_key_of().
+    [[nodiscard]] std::optional<std::string> first_key_of(size_t value) const {
+        return trie().first_key_of(value);
     }
     /// See Trie::upper_bound().
     [[nodiscard]] StreamIterator upper_bound(

@@ -143,16 +143,18 @@ def platforms(*binaries):
     """The platforms of a wheel with these files: manylinux2014 takes no symbol of glibc that is
     later than 2.17.
     """
-    if sysconfig.get_platform() != "linux-x86_64" or is_musl():
-        return [sysconfig.get_platform().replace("-", "_").replace(".", "_")]
+    platform = sysconfig.get_platform()
+    if platform not in PROCESSORS.values() or is_musl():
+        return [platform.replace("-", "_").replace(".", "_")]
     newest = max(
         (int(found) for data in binaries for found in re.findall(rb"GLIBC_2\.(\d+)", data)),
         default=0,
     )
+    processor = platform.partition("-")[2]
     return (
-        ["manylinux_2_17_x86_64", "manylinux2014_x86_64"]
+        [f"manylinux_2_17_{processor}", f"manylinux2014_{processor}"]
         if newest <= 17
-        else [f"manylinux_2_{newest}_x86_64"]
+        else [f"manylinux_2_{newest}_{processor}"]
     )
 
 

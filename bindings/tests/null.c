@@ -78,6 +78,9 @@ static did call(int line, int at, bool null, size_t n, const char **called) {
          it.numbers + 1);
     CALL(zerotrie_sorted_some, kind, TRIE, ZEROTRIE_INCLUDED, TEXT(1), ZEROTRIE_EXCLUDED, TEXT(2), OUT(3), ENDS(4), VALUES(5),
          it.numbers, it.numbers + 1);
+    CALL(zerotrie_last_within, kind, TRIE, ZEROTRIE_INCLUDED, TEXT(1), ZEROTRIE_UNBOUNDED, TEXT(2), OUT(3), it.numbers,
+         it.numbers + 1);
+    CALL(zerotrie_first_key_of, kind, TRIE, 2, OUT(1), it.numbers);
     CALL(zerotrie_index_get, TRIE, TEXT(1), it.numbers);
     CALL(zerotrie_index_is_valid, TRIE);
     CALL(zerotrie_index_build, 1, PAIRS, OUT(1), it.numbers);

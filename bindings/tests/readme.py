@@ -14,7 +14,7 @@ here, room = pathlib.Path(sys.argv[1]), pathlib.Path(sys.argv[2])
 build = pathlib.Path(os.environ["ZEROTRIE_LIB"])
 names = ("C.md", "CPP.md", "PYTHON.md", "JAVASCRIPT.md")
 docs = [here.parent / "docs" / name for name in names]
-pages = [here / "README.md", here / "python/README.md", *docs]
+pages = [here / "python/README.md", here.parent / "README.md", *docs]
 
 
 def compiled(command, name, text):

@@ -70,13 +70,13 @@ from ._errors import (
     NO_ENTRY, TOO_SMALL, Kind, Other, ZeroTrieError, check_status, in_file, remade,
     with_attributes,
 )
-from ._library import lib
+from ._library import EXCLUDED, INCLUDED, UNBOUNDED, lib
 from ._memory import (
-    in_place, index_in, mapped, replace, sealed, sealed_index, trie_in, validate, view_of,
+    found_key, in_place, index_in, mapped, replace, sealed, sealed_index, trie_in, validate, view_of,
 )
 from ._pairs import (
     FlatPairs, Key, Pairs, Path, auto_kind, build, build_dense, build_sorted, encoded_len,
-    key_bytes, known_kind, tagged,
+    key_bytes, known_kind, tagged, whole_number,
 )
 from ._readers import (
     COUNT, INDEX, PAIRS, AnyPlace, Place, Reader, Table, Word, accelerated as accelerated,
@@ -402,6 +402,50 @@ class _Trie(Reader[Word], _InBytes, Mapping[Any, int]):
             if status != TOO_SMALL:
                 check_status(status)
         return part[0] if part else None
+
+    def last(self) -> Optional[tuple[Word, int]]:
+        """The last pair, in the order of bytes. None: there is none.
+
+        >>> words = StrTrie.build({"sing": 1, "sting": 2, "tin": 3}, PERFECT_HASH)
+        >>> words.last(), words.last_before("tin"), words.last_up_to("t")
+        (('tin', 3), ('sting', 2), ('sting', 2))
+        """
+        return self._last(UNBOUNDED, b"")
+
+    def last_before(self, key: Key) -> Optional[tuple[Word, int]]:
+        """The last pair, in the order of bytes, whose key is before this one. None: there is none.
+        """
+        return self._last(EXCLUDED, key_bytes(key))
+
+    def last_up_to(self, key: Key) -> Optional[tuple[Word, int]]:
+        """The last pair, in the order of bytes, whose key is this one or before it. None: there is
+        none.
+        """
+        return self._last(INCLUDED, key_bytes(key))
+
+    def _last(self, bound: int, key: bytes) -> Optional[tuple[Word, int]]:
+        """The last pair up to a bound."""
+        value = c_size_t()
+        view, kind, at, length = self._lent()
+        found = found_key(lambda *room: lib.zerotrie_last_within(
+            kind, at, length, UNBOUNDED, b"", 0, bound, key, len(key), *room, value))
+        return None if found is None else (self._word(found), value.value)
+
+    def first_key_of(self, value: int) -> Optional[Word]:
+        """The first key of items() that has this value. None: no key has it. It reads the pairs up
+        to that key: make a dict for many values.
+
+        >>> StrTrie.build({"foo": 1, "bar": 2}).first_key_of(1)
+        'foo'
+        """
+        number = whole_number(value, 64, "a value")
+        view, kind, at, length = self._lent()
+        found = found_key(lambda *room: lib.zerotrie_first_key_of(kind, at, length, number, *room))
+        return None if found is None else self._word(found)
+
+    def _word(self, key: bytes) -> Word:
+        """A key as it is returned."""
+        return cast(Word, key.decode() if self._as_text else key)
 
     def glob(self, pattern: Key) -> Found[Word]:
         """A view of the pairs whose keys a pattern matches, as "s*ing": `*` is any number of bytes,

@@ -44,7 +44,7 @@ TEXTS = (
     "the number is no kind of trie: take 0, 3, 7 or 8",
     "there are no bytes: give all of the tagged bytes",
     "the first byte is the tag of no kind: give bytes that were written with a tag",
-    "the table has no such entry",
+    "there is no such entry",
     "the record is cut: give all of its bytes",
     "bytes follow the record: give its bytes alone",
     "the sealed file is damaged: get it anew",

@@ -100,6 +100,10 @@ _DECLARED: dict[str, tuple[Any, list[Any]]] = {
     "zerotrie_sorted_some": (
         c_uint32,
         [c_uint32, *BYTES, c_uint32, *TEXT, c_uint32, *TEXT, *BYTES, *SIZES, *SIZES, SIZE, SIZE]),
+    "zerotrie_last_within": (
+        c_uint32,
+        [c_uint32, *BYTES, c_uint32, *TEXT, c_uint32, *TEXT, *BYTES, SIZE, SIZE]),
+    "zerotrie_first_key_of": (c_uint32, [c_uint32, *BYTES, c_size_t, *BYTES, SIZE]),
     "zerotrie_index_get": (c_bool, [*BYTES, *TEXT, SIZE]),
     "zerotrie_index_is_valid": (c_bool, BYTES),
     "zerotrie_index_build": (c_uint32, [c_uint64, *RAW_PAIRS, *BYTES, SIZE]),
@@ -112,6 +116,7 @@ SHORT = {
     "zerotrie_common_prefixes", "zerotrie_with_prefix", "zerotrie_cursor_new",
     "zerotrie_cursor_step", "zerotrie_cursor_take_value", "zerotrie_cursor_probe",
     "zerotrie_dense_get", "zerotrie_version", "zerotrie_build_bound", "zerotrie_index_get",
+    "zerotrie_last_within",
 }
 
 HERE = os.path.dirname(os.path.abspath(__file__))

@@ -8,12 +8,16 @@ import os
 import secrets
 import shutil
 import weakref
+from collections.abc import Callable
 from ctypes import (
     POINTER, Structure, addressof, c_int, c_size_t, c_uint8, c_uint32, c_void_p, py_object,
 )
 from typing import Any, BinaryIO, Optional
 
-from ._errors import DAMAGED, RULES, UNKNOWN_VERSION, Kind, ZeroTrieError, check_status, error_of
+from ._errors import (
+    DAMAGED, NO_ENTRY, RULES, TOO_SMALL, UNKNOWN_VERSION, Kind, ZeroTrieError, check_status,
+    error_of,
+)
 from ._library import NOTHING, lib
 from ._pairs import Path
 
@@ -45,6 +49,21 @@ def trie_in(view: memoryview, at: int) -> tuple[int, memoryview, int, bool]:
     check_status(lib.zerotrie_open(at, len(view), kind, begin, length))
     trie = view[begin.value : begin.value + length.value]
     return kind.value, trie, at + begin.value, begin.value == SEAL_LEN
+
+
+def found_key(call: Callable[..., int]) -> Optional[bytes]:
+    """The key that a call writes to a room, which is made larger until it has one. None: there is
+    no key.
+    """
+    status, size = TOO_SMALL, c_size_t(64)
+    while status == TOO_SMALL:
+        most = size.value
+        room = (c_uint8 * most)()
+        status = call(room, most, size)
+    if status == NO_ENTRY:
+        return None
+    check_status(status)
+    return ctypes.string_at(room, size.value)
 
 
 def sealed(kind: int, at: int, length: int) -> Any:
