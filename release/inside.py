@@ -64,10 +64,10 @@ def by_pkg_config(name, language, packages=None, static=False):
     where = {"PKG_CONFIG_PATH": packages} if packages else {}
     flags = run("pkg-config", *(["--static"] if static else []), "--cflags", "--libs", f"zerotrie = {VERSION}", env=where).strip()
     compiler = ["cc", "-std=c11"] if language == "c" else ["c++", "-std=c++17"]
-    line = " ".join([*compiler, *WARNINGS, f"shown.{language}", flags, "-o shown", "-static" if static else ""])
+    how = "-static" if static else f"-Wl,-rpath,{pathlib.Path(packages).parent}" if packages else ""
+    line = " ".join([*compiler, *WARNINGS, f"shown.{language}", flags, "-o shown", how])
     run("sh", "-c", line, cwd=room)
-    loader = {"LD_LIBRARY_PATH": pathlib.Path(packages).parent} if packages and not static else {}
-    assert run("./shown", cwd=room, env=loader).splitlines() == wanted(body)
+    assert run("./shown", cwd=room).splitlines() == wanted(body)
 
 
 def by_cmake(name, target, prefix=None, version="0.3", language="cpp"):
@@ -218,7 +218,7 @@ def no_kit():
 def as_printed(prefix):
     """The lines of README, section by section, in the folder of the archive, beside which the wheel lies."""
     page = (prefix / "README.md").read_text()
-    for wheel in glob.glob(f"{DIST}/*.whl"):
+    for wheel in glob.glob(f"{DIST}/*_x86_64.whl"):
         shutil.copy(wheel, prefix)
     for language, fence, prints in (("C", "c", ["crp: carp carpet"]), ("C++", "cpp", ["crp: carp carpet"]), ("Python", "python", None)):
         section = re.search(rf"^## {re.escape(language)}\n(.*?)(?=^## |\Z)", page, re.S | re.M)[1]
@@ -251,7 +251,7 @@ def unpacked():
         tried("the crate, by cargo add --path", crate)
         tried("the crate's tests", crate_tests)
     for name, python in pythons().items():
-        tried(f"the wheel in {name} Python", lambda: package(python, "*.whl", True))
+        tried(f"the wheel in {name} Python", lambda: package(python, "*_x86_64.whl", True))
         tried(f"the sdist in {name} Python", lambda: package(python, f"zerotrie-{VERSION}.tar.gz", True))
     if shutil.which("pypy3"):
         tried("the sdist in PyPy", lambda: package("/usr/bin/pypy3", f"zerotrie-{VERSION}.tar.gz", False))
@@ -261,16 +261,49 @@ def unpacked():
     tried("C++ by find_package, the folder moved", lambda: by_cmake("cmake-moved", "static", moved))
 
 
-def installed():
+def installed_anywhere():
+    """What a Debian package gives on every Debian."""
     run("tar", "-xzf", f"{DIST}/{NAME}.tar.gz", "-C", HOME)
     tried("installed: C by pkg-config", lambda: by_pkg_config("c", "c"))
     tried("installed: C by pkg-config --static", lambda: by_pkg_config("c-static", "c", static=True))
     tried("installed: C++ by find_package, shared", lambda: by_cmake("cmake-shared", "shared"))
+
+
+def installed():
+    installed_anywhere()
     of_the_folder(pathlib.Path("/usr"))
 
 
+def installed_on_older():
+    """The same where glibc is older, and what is unpacked there."""
+    installed_anywhere()
+    tried("README's lines as they are printed", lambda: as_printed(HOME / NAME))
+    tried("the program", lambda: program("/usr/bin/zerotrie"))
+    tried("the reader in one header, in C99 and C++11", lambda: reader(pathlib.Path("/usr")))
+    tried("the wheel in Debian's Python", lambda: package("/usr/bin/python3", "*_x86_64.whl", True))
+
+
+def earlier(package):
+    """The same package under an earlier version, with a file that the new one has not."""
+    room = folder("earlier")
+    run("dpkg-deb", "-R", package, room / "deb")
+    control = room / "deb/DEBIAN/control"
+    control.write_text(re.sub(r"(?m)^Version: .*", "Version: 0.2.9", control.read_text()))
+    (room / "deb/usr/share/doc/zerotrie/GONE").write_text("a page of the version before\n")
+    run("dpkg-deb", "-b", room / "deb", room / "earlier.deb")
+    return room / "earlier.deb"
+
+
+def upgrade(package):
+    run("dpkg", "-i", earlier(package))
+    assert "Version: 0.2.9" in run("dpkg", "-s", "zerotrie")
+    run("dpkg", "-i", package)
+    assert f"Version: {VERSION}" in run("dpkg", "-s", "zerotrie") and not os.path.exists("/usr/share/doc/zerotrie/GONE")
+
+
 def install():
-    tried("dpkg -i", lambda: run("dpkg", "-i", glob.glob(f"{DIST}/*.deb")[0]))
+    package = glob.glob(f"{DIST}/*.deb")[0]
+    tried("dpkg -i over an earlier version", lambda: upgrade(package))
     tried("dpkg --verify", lambda: run("dpkg", "--verify", "zerotrie"))
 
 
@@ -280,4 +313,11 @@ def remove():
     tried("nothing is left", lambda: run("test", "-z", " ".join(path for path in files if os.path.isfile(path))))
 
 
-{"unpacked": unpacked, "install": install, "installed": installed, "remove": remove}[sys.argv[1]]()
+PARTS = {
+    "unpacked": unpacked,
+    "install": install,
+    "installed-bookworm": installed,
+    "installed-bullseye": installed_on_older,
+    "remove": remove,
+}
+PARTS[sys.argv[1]]()

@@ -1,14 +1,17 @@
-"""Runs the program and the library of a release on the oldest x86-64, and the library for ARM, which qemu-user plays. Arguments: the folder
-of the release, and one to work in."""
+"""Runs the program and the library of a release on the oldest x86-64, and the libraries and the wheel for ARM, which qemu-user plays.
+Arguments: the folder of the release, one to work in, and a Debian for ARM."""
 
 import glob
 import pathlib
+import re
 import subprocess
 import sys
 
-dist, room = pathlib.Path(sys.argv[1]), pathlib.Path(sys.argv[2])
+dist, room, debian = map(pathlib.Path, sys.argv[1:])
 program = next(path for path in dist.glob("zerotrie-*-linux-x86_64") if path.is_file())
 oldest = ["qemu-x86_64", "-cpu", "qemu64"]
+arm = ["qemu-aarch64", "-L", "/usr/aarch64-linux-gnu"]
+release = pathlib.Path(__file__).resolve().parent
 
 
 def run(*command, given=None):
@@ -30,15 +33,39 @@ def by_program():
     assert run(*oldest, program, "get", room / "numbers.trie", "abc") == "2748\n"
 
 
-def by_library(processor, compiler, player):
-    """The library's test in C, linked with the static library of an archive."""
+def unpacked(processor):
     run("tar", "-xzf", glob.glob(f"{dist}/*-{processor}.tar.gz")[0], "-C", room)
-    folder = next(path for path in room.glob(f"zerotrie-*-{processor}") if path.is_dir())
-    tests = pathlib.Path(__file__).resolve().parent.parent / "bindings/tests"
-    run(*compiler, "-std=c11", "-O2", f"-I{folder}/include", tests / "test.c", folder / "lib/libzerotrie.a", "-o", room / "test")
+    return next(path for path in room.glob(f"zerotrie-*-{processor}") if path.is_dir())
+
+
+def by_library(processor, compiler, player, library):
+    """The library's test in C, linked with a library of an archive."""
+    folder = unpacked(processor)
+    test = release.parent / "bindings/tests/test.c"
+    run(*compiler, "-std=c11", "-O2", f"-I{folder}/include", test, folder / "lib" / library, f"-Wl,-rpath,{folder}/lib", "-o", room / "test")
     run(*player, room / "test")
 
 
+def by_pkg_config(folder):
+    """What an archive says of itself names its own folders."""
+    flags = run("env", f"PKG_CONFIG_PATH={folder}/lib/pkgconfig", "pkg-config", "--cflags", "--libs", "zerotrie").split()
+    assert all(str(folder) in flag for flag in flags if flag[:2] in ("-I", "-L")) and "-lzerotrie" in flags, flags
+
+
+def by_wheel():
+    """README's program in Python, with the extension."""
+    folder = room / "wheel"
+    run("python3", "-m", "zipfile", "-e", glob.glob(f"{dist}/*_aarch64.whl")[0], folder)
+    body = re.search(r"```python\n(.*?)```", (release / "README.md").read_text(), re.S)[1]
+    python = next((debian / "usr/bin").glob("python3.*[0-9]"))
+    said = run("qemu-aarch64", "-L", debian, "-E", f"PYTHONPATH={folder}", python, "-c", f"{body}import zerotrie\nassert zerotrie.accelerated\n")
+    assert said.splitlines() == re.findall(r"print.*?# (.*)", body), said
+
+
 tried("the program on the first x86-64", by_program)
-tried("the library and its test in C on the first x86-64", lambda: by_library("x86_64", ["cc"], oldest))
-tried("the library and its test in C on ARM", lambda: by_library("aarch64", ["aarch64-linux-gnu-gcc", "-static"], ["qemu-aarch64"]))
+for library in ("libzerotrie.a", "libzerotrie.so"):
+    tried(f"{library} and its test in C on the first x86-64", lambda: by_library("x86_64", ["cc"], oldest, library))
+    tried(f"{library} and its test in C on ARM", lambda: by_library("aarch64", ["aarch64-linux-gnu-gcc"], arm, library))
+tried("the archive for ARM by pkg-config", lambda: by_pkg_config(unpacked("aarch64")))
+if debian.exists():
+    tried("the wheel in Debian's Python on ARM", by_wheel)
