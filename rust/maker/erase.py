@@ -3,6 +3,7 @@ import errors
 
 KEPT_ATTRIBUTES = {"inline", "repr", "macro_export", "unsafe", "test", "cfg"}
 LEFT_OUT_ATTRIBUTES = {"tactic", "cycle", "rattlefmt"}
+NOT_INLINED = "#[inline(never)]"  # Rust's compiler chooses: what it expands needs fewer checks
 KEPT_DERIVES = {"Clone", "Copy", "Debug", "PartialEq", "Eq", "PartialOrd", "Ord", "Default", "Hash"}
 LEFT_OUT_DERIVES = {"Drop", "Error", "thiserror::Error"}
 LEFT_OUT_IMPORTS = {"use std::marker::Model;", "use thiserror::Error;"}
@@ -49,7 +50,7 @@ def attributes(source):
         end, name = source.close(bracket) + 1, source.word(source.after(bracket))
         if name == "derive":
             derives(source, at, end)
-        elif name in LEFT_OUT_ATTRIBUTES:
+        elif name in LEFT_OUT_ATTRIBUTES or source.match(at, NOT_INLINED):
             source.cut_with_space(at, end)
         elif name not in KEPT_ATTRIBUTES:
             source.refuse(at, f"the attribute {name}")

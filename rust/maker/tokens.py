@@ -10,6 +10,7 @@ TOKEN = re.compile(r"""
 """, re.X | re.S | re.A)
 # what proofs alone read: each form begins with a word of its own, and has a block of antt or ends in a semicolon
 GHOST = re.compile(r"(?:pub\s+)?ghost\s+(?:use\s[^;]*;|\w+\s*[:=]\s*(?=\{))")
+DEFAULT = re.compile(r"\s*=\s*(?=\{)")  # what a ghost of a trait is if an impl says nothing
 CLAUSE = re.compile(r"(?:requires|ensures)\*?(?:\s+\w+)?\s*(?=\{)")
 ANTT = re.compile(r'--[^\n]*|"(?:\\.|[^"\\])*"|[{}]', re.S)
 BLANK = ("space", "doc", "comment", "gone")
@@ -53,6 +54,8 @@ class Source:
         if not head:
             return None
         end = head.end() if head[0].endswith(";") else self.end_of_block(head.end())
+        if kind == "ghost" and (default := DEFAULT.match(self.text, end)):
+            end = self.end_of_block(default.end())
         end += kind == "ghost" and self.text[end : end + 1] in (",", ";")
         return Token(kind, self.text[place:end], place)
 

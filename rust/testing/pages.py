@@ -8,7 +8,7 @@ import sys
 
 TOP, ROOM = (pathlib.Path(it).resolve() for it in sys.argv[1:3])
 RUST = TOP / "rust"
-PAGES = [TOP / "README.md", TOP / "docs/RUST.md", TOP / "bindings/README.md"]
+PAGES = [TOP / "README.md", TOP / "docs/RUST.md"]
 MANIFEST = '[package]\nname = "pages"\nversion = "0.0.0"\nedition = "2024"\n[dependencies]\nzerotrie = {{ path = "{}" }}\n[workspace]\n'
 MAIN = "fn main() -> Result<(), Box<dyn std::error::Error>> {{\n{}Ok(())\n}}\n"
 

@@ -6,6 +6,8 @@ use std::ops::Bound;
 pub type Status = u32;
 pub type Pair<'a> = (&'a [u8], usize);
 pub type Found = Vec<(Vec<u8>, usize)>;
+/// An entry of a dense table: a prefix, a suffix and a value.
+pub type Entry<'a> = (&'a str, &'a str, usize);
 
 pub const DUPLICATE_KEY: Status = 6;
 
@@ -45,6 +47,7 @@ pub trait Library {
     fn encoded_len(&self, kind: u8, pairs: &[Pair]) -> Result<usize, Status>;
     fn why_refused(&self, kind: u8, pairs: &[Pair]) -> Option<(Status, usize, usize)>;
     fn get(&self, kind: u8, bytes: &[u8], key: &[u8]) -> Option<usize>;
+    fn get_many(&self, kind: u8, bytes: &[u8], keys: &[Vec<u8>], missing: usize) -> Vec<usize>;
     fn longest_prefix(&self, kind: u8, bytes: &[u8], text: &[u8]) -> Option<(usize, usize)>;
     fn longest_prefix_at(&self, kind: u8, bytes: &[u8], text: &[u8], delimiters: &[u8]) -> Option<(usize, usize)>;
     fn common_prefixes(&self, kind: u8, bytes: &[u8], text: &[u8]) -> Vec<(usize, usize)>;
@@ -53,9 +56,16 @@ pub trait Library {
     fn list(&self, kind: u8, bytes: &[u8], prefix: &[u8]) -> Found;
     fn sorted(&self, kind: u8, bytes: &[u8], from: Bound<&[u8]>, to: Bound<&[u8]>) -> Found;
     fn search(&self, kind: u8, bytes: &[u8], prefix: &[u8], search: Search, beginnings: bool) -> Result<Found, Status>;
-    fn walk(&self, kind: u8, bytes: &[u8], moves: &[Move]) -> Vec<Moved>;
+    /// The moves of a cursor that is after a prefix.
+    fn walk(&self, kind: u8, bytes: &[u8], prefix: &[u8], moves: &[Move]) -> Vec<Moved>;
+    /// The kind for pairs whose keys are distinct.
+    fn auto_kind(&self, pairs: &[Pair]) -> u8;
+    fn tagged(&self, kind: u8, bytes: &[u8]) -> Vec<u8>;
+    fn tagged_kind(&self, tagged: &[u8]) -> Result<u8, Status>;
     fn seal(&self, kind: u8, bytes: &[u8]) -> Vec<u8>;
     fn open(&self, file: &[u8]) -> Result<(u8, Vec<u8>), Status>;
+    fn dense_build(&self, entries: &[Entry], delimiter: u8) -> Result<Vec<u8>, Status>;
+    fn dense_get(&self, record: &[u8], prefix: &[u8], suffix: &[u8]) -> Result<usize, Status>;
     fn index_build(&self, seed: u64, pairs: &[Pair]) -> Result<Vec<u8>, Status>;
     fn index_get(&self, bytes: &[u8], key: &[u8]) -> Option<usize>;
     fn index_is_valid(&self, bytes: &[u8]) -> bool;

@@ -1,11 +1,13 @@
 //! The face of the plain package.
 
-use crate::library::{Found, KINDS, Library, Move, Moved, Pair, Search, Status};
+use crate::library::{Entry, Found, KINDS, Library, Move, Moved, Pair, Search, Status};
+use std::collections::BTreeMap;
 use std::ops::Bound;
+use zerotrie::dense::{RecordError, ZeroAsciiDenseSparse2dTrieBorrowed, ZeroAsciiDenseSparse2dTrieOwned};
 use zerotrie::index::{ZeroIndex, ZeroIndexBuildError};
 use zerotrie::search::{Automaton, BeginsWith, Glob, GlobError, KeyRange, Levenshtein, LevenshteinChars, Subsequence};
 use zerotrie::{
-    FaultCause, SealError, TagError, ZeroAsciiIgnoreCaseTrie, ZeroTrieBuildError, ZeroTrieExtendedCapacity,
+    FaultCause, SealError, TagError, ZeroAsciiIgnoreCaseTrie, ZeroTrie, ZeroTrieBuildError, ZeroTrieExtendedCapacity,
     ZeroTriePerfectHash, ZeroTrieSimpleAscii,
 };
 
@@ -117,6 +119,13 @@ impl Library for Plain {
         })
     }
 
+    fn get_many(&self, kind: u8, bytes: &[u8], keys: &[Vec<u8>], missing: usize) -> Vec<usize> {
+        ask!(kind, bytes, trie => {
+            let mut look_ups = trie.look_ups();
+            keys.iter().map(|key| look_ups.get(key).unwrap_or(missing)).collect()
+        })
+    }
+
     fn longest_prefix(&self, kind: u8, bytes: &[u8], text: &[u8]) -> Option<(usize, usize)> {
         ask!(kind, bytes, trie => trie.longest_prefix(text))
     }
@@ -173,7 +182,7 @@ impl Library for Plain {
         })
     }
 
-    fn walk(&self, kind: u8, bytes: &[u8], moves: &[Move]) -> Vec<Moved> {
+    fn walk(&self, kind: u8, bytes: &[u8], prefix: &[u8], moves: &[Move]) -> Vec<Moved> {
         // the functions for C have one cursor for all kinds
         match kind {
             3 | 7 => {
@@ -183,6 +192,9 @@ impl Library for Plain {
                         .into_zerotrie()
                         .into_cursor(),
                 };
+                for byte in prefix {
+                    cursor.step(*byte);
+                }
                 let moved = |it: &Move| match *it {
                     Move::Step(byte) => Moved::Edge(cursor.step(byte)),
                     Move::Probe(index) => {
@@ -194,6 +206,9 @@ impl Library for Plain {
             }
             8 => {
                 let mut cursor = ZeroAsciiIgnoreCaseTrie::from_store(bytes).into_cursor();
+                for byte in prefix {
+                    cursor.step(*byte);
+                }
                 let moved = |it: &Move| match *it {
                     Move::Step(byte) => Moved::Edge(cursor.step(byte)),
                     Move::Probe(index) => Moved::Sibling(
@@ -207,6 +222,9 @@ impl Library for Plain {
             }
             _ => {
                 let mut cursor = ZeroTrieSimpleAscii::from_store(bytes).into_cursor();
+                for byte in prefix {
+                    cursor.step(*byte);
+                }
                 let moved = |it: &Move| match *it {
                     Move::Step(byte) => {
                         cursor.step(byte);
@@ -224,6 +242,23 @@ impl Library for Plain {
         }
     }
 
+    fn auto_kind(&self, pairs: &[Pair]) -> u8 {
+        let trie = ZeroTrie::try_from_iter(pairs.iter().copied()).unwrap();
+        if trie.kind() == ZeroTrieSimpleAscii::from_store(b"").kind() {
+            0
+        } else {
+            3
+        }
+    }
+
+    fn tagged(&self, kind: u8, bytes: &[u8]) -> Vec<u8> {
+        ask!(kind, bytes, trie => trie.to_tagged_bytes())
+    }
+
+    fn tagged_kind(&self, bytes: &[u8]) -> Result<u8, Status> {
+        tagged(bytes).map(|(kind, _)| kind)
+    }
+
     fn seal(&self, kind: u8, bytes: &[u8]) -> Vec<u8> {
         ask!(kind, bytes, trie => trie.seal())
     }
@@ -239,6 +274,24 @@ impl Library for Plain {
             }
         }
         Err(18)
+    }
+
+    fn dense_build(&self, entries: &[Entry], delimiter: u8) -> Result<Vec<u8>, Status> {
+        let mut rows: BTreeMap<&str, BTreeMap<&str, usize>> = BTreeMap::new();
+        for (prefix, suffix, value) in entries {
+            rows.entry(prefix).or_default().insert(suffix, *value);
+        }
+        ZeroAsciiDenseSparse2dTrieOwned::try_from_btree_map_str(&rows, delimiter)
+            .map(|table| table.as_borrowed().to_record_bytes())
+            .map_err(status)
+    }
+
+    fn dense_get(&self, record: &[u8], prefix: &[u8], suffix: &[u8]) -> Result<usize, Status> {
+        match ZeroAsciiDenseSparse2dTrieBorrowed::try_from_record_bytes(record) {
+            Ok(table) => table.get_bytes(prefix, suffix).ok_or(15),
+            Err(RecordError::Truncated) => Err(16),
+            Err(RecordError::TrailingBytes) => Err(17),
+        }
     }
 
     fn index_build(&self, seed: u64, pairs: &[Pair]) -> Result<Vec<u8>, Status> {

@@ -1,6 +1,6 @@
 //! The proved library, by its functions for C.
 
-use crate::library::{Found, Library, Move, Moved, Pair, Search, Status};
+use crate::library::{Entry, Found, Library, Move, Moved, Pair, Search, Status};
 use std::ops::Bound;
 use std::ptr::null;
 
@@ -29,24 +29,34 @@ struct SearchBy {
 unsafe extern "C" {
     fn zerotrie_build(kind: u32, pairs: *const KeyAndValue, count: usize, out: *mut u8, room: usize, len: &mut usize) -> u32;
     fn zerotrie_build_sorted(kind: u32, pairs: *const KeyAndValue, count: usize, out: *mut u8, room: usize, len: &mut usize) -> u32;
+    fn zerotrie_build_many(kind: u32, keys: *const u8, keys_len: usize, ends: *const usize, ends_len: usize, values: *const usize, values_len: usize, out: *mut u8, room: usize, len: &mut usize) -> u32;
     fn zerotrie_build_bound(count: usize, key_bytes: usize) -> usize;
     fn zerotrie_encoded_len(kind: u32, pairs: *const KeyAndValue, count: usize, len: &mut usize) -> u32;
     fn zerotrie_why_refused(kind: u32, pairs: *const KeyAndValue, count: usize, first: &mut usize, second: &mut usize) -> u32;
     fn zerotrie_get(kind: u32, bytes: *const u8, len: usize, key: *const u8, key_len: usize, value: &mut usize) -> bool;
+    fn zerotrie_get_many(kind: u32, bytes: *const u8, len: usize, keys: *const u8, keys_len: usize, ends: *const usize, ends_len: usize, missing: usize, values: *mut usize, values_len: usize) -> u32;
     fn zerotrie_longest_prefix(kind: u32, bytes: *const u8, len: usize, text: *const u8, text_len: usize, key_len: &mut usize, value: &mut usize) -> bool;
     fn zerotrie_longest_prefix_at(kind: u32, bytes: *const u8, len: usize, text: *const u8, text_len: usize, delimiters: *const u8, delimiters_len: usize, key_len: &mut usize, value: &mut usize) -> bool;
     fn zerotrie_common_prefixes(kind: u32, bytes: *const u8, len: usize, text: *const u8, text_len: usize, lens: *mut usize, lens_room: usize, values: *mut usize, values_room: usize) -> usize;
     fn zerotrie_is_well_formed(kind: u32, bytes: *const u8, len: usize) -> bool;
     fn zerotrie_first_fault(kind: u32, bytes: *const u8, len: usize, at: &mut usize) -> u32;
     fn zerotrie_list(kind: u32, bytes: *const u8, len: usize, prefix: *const u8, prefix_len: usize, keys: *mut u8, keys_room: usize, ends: *mut usize, ends_room: usize, values: *mut usize, values_room: usize, key_bytes: &mut usize, count: &mut usize) -> u32;
+    fn zerotrie_list_some(kind: u32, bytes: *const u8, len: usize, prefix: *const u8, prefix_len: usize, goes_on: bool, last: *const u8, last_len: usize, keys: *mut u8, keys_room: usize, ends: *mut usize, ends_room: usize, values: *mut usize, values_room: usize, count: &mut usize, next_len: &mut usize) -> u32;
     fn zerotrie_sorted_some(kind: u32, bytes: *const u8, len: usize, from_bound: u32, from: *const u8, from_len: usize, to_bound: u32, to: *const u8, to_len: usize, keys: *mut u8, keys_room: usize, ends: *mut usize, ends_room: usize, values: *mut usize, values_room: usize, count: &mut usize, next_len: &mut usize) -> u32;
     fn zerotrie_search_some(kind: u32, bytes: *const u8, len: usize, prefix: *const u8, prefix_len: usize, search: &SearchBy, goes_on: bool, last: *const u8, last_len: usize, keys: *mut u8, keys_room: usize, ends: *mut usize, ends_room: usize, values: *mut usize, values_room: usize, count: &mut usize, next_len: &mut usize) -> u32;
     fn zerotrie_cursor_new(bytes: *const u8, len: usize) -> Cursor;
+    fn zerotrie_with_prefix(kind: u32, bytes: *const u8, len: usize, prefix: *const u8, prefix_len: usize) -> Cursor;
     fn zerotrie_cursor_step(kind: u32, bytes: *const u8, len: usize, cursor: &mut Cursor, byte: u8, edge: &mut u8) -> bool;
     fn zerotrie_cursor_probe(kind: u32, bytes: *const u8, len: usize, cursor: &mut Cursor, index: usize, edge: &mut u8, siblings: &mut u16) -> bool;
     fn zerotrie_cursor_take_value(bytes: *const u8, len: usize, cursor: &mut Cursor, value: &mut usize) -> bool;
+    fn zerotrie_auto_kind(pairs: *const KeyAndValue, count: usize) -> u32;
+    fn zerotrie_tagged(kind: u32, bytes: *const u8, len: usize, out: *mut u8, room: usize, tagged: &mut usize) -> u32;
+    fn zerotrie_tagged_kind(tagged: *const u8, len: usize, kind: &mut u32) -> u32;
     fn zerotrie_seal(kind: u32, bytes: *const u8, len: usize, out: *mut u8, room: usize, sealed: &mut usize) -> u32;
     fn zerotrie_open(file: *const u8, len: usize, kind: &mut u32, at: &mut usize, trie_len: &mut usize) -> u32;
+    fn zerotrie_dense_build(prefixes: *const u8, prefixes_len: usize, prefix_ends: *const usize, prefix_count: usize, suffixes: *const u8, suffixes_len: usize, suffix_ends: *const usize, suffix_count: usize, values: *const usize, value_count: usize, delimiter: u8, out: *mut u8, room: usize, len: &mut usize) -> u32;
+    fn zerotrie_dense_get(record: *const u8, len: usize, prefix: *const u8, prefix_len: usize, suffix: *const u8, suffix_len: usize, value: &mut usize) -> u32;
+    fn zerotrie_index_build_many(seed: u64, keys: *const u8, keys_len: usize, ends: *const usize, ends_len: usize, values: *const usize, values_len: usize, out: *mut u8, room: usize, len: &mut usize) -> u32;
     fn zerotrie_index_build(seed: u64, pairs: *const KeyAndValue, count: usize, out: *mut u8, room: usize, len: &mut usize) -> u32;
     fn zerotrie_index_get(bytes: *const u8, len: usize, key: *const u8, key_len: usize, value: &mut usize) -> bool;
     fn zerotrie_index_is_valid(bytes: *const u8, len: usize) -> bool;
@@ -67,6 +77,62 @@ fn bound<'a>(bound: Bound<&'a [u8]>) -> (u32, &'a [u8]) {
         Bound::Unbounded => (0, b""),
         Bound::Included(key) => (1, key),
         Bound::Excluded(key) => (2, key),
+    }
+}
+
+// SAFETY of all below: each pointer is that of a slice, with its length.
+
+/// Texts one after another, and where each ends.
+fn joined<T: AsRef<[u8]>>(texts: impl Iterator<Item = T>) -> (Vec<u8>, Vec<usize>) {
+    let (mut bytes, mut ends) = (Vec::new(), Vec::new());
+    for text in texts {
+        bytes.extend_from_slice(text.as_ref());
+        ends.push(bytes.len());
+    }
+    (bytes, ends)
+}
+
+/// The keys of pairs one after another, where each ends, and the values.
+fn parts(pairs: &[Pair]) -> (Vec<u8>, Vec<usize>, Vec<usize>) {
+    let (keys, ends) = joined(pairs.iter().map(|pair| pair.0));
+    (keys, ends, pairs.iter().map(|pair| pair.1).collect())
+}
+
+/// The listing in parts of at most three pairs, or none of malformed bytes.
+fn listed_in_parts(kind: u8, bytes: &[u8], prefix: &[u8]) -> Option<Found> {
+    if !Proved.is_well_formed(kind, bytes) {
+        return None;
+    }
+    let (mut found, mut last): (Found, Vec<u8>) = (Vec::new(), Vec::new());
+    loop {
+        let (mut rooms, mut count, mut next_len) = (Rooms::of(bytes.len()), 0, 0);
+        let Rooms { keys, ends, values } = &mut rooms;
+        let status = unsafe {
+            zerotrie_list_some(
+                kind.into(),
+                bytes.as_ptr(),
+                bytes.len(),
+                prefix.as_ptr(),
+                prefix.len(),
+                !found.is_empty(),
+                last.as_ptr(),
+                last.len(),
+                keys.as_mut_ptr(),
+                keys.len(),
+                ends.as_mut_ptr(),
+                ends.len(),
+                values.as_mut_ptr(),
+                values.len().min(3),
+                &mut count,
+                &mut next_len,
+            )
+        };
+        found.extend(rooms.found(count));
+        if status == 0 {
+            return Some(found);
+        }
+        assert_eq!((status, count), (8, 3));
+        last.clone_from(&found[found.len() - 1].0);
     }
 }
 
@@ -112,13 +178,29 @@ fn room_of(pairs: &[Pair]) -> usize {
     unsafe { zerotrie_build_bound(pairs.len(), pairs.iter().map(|pair| pair.0.len()).sum()) }
 }
 
-// SAFETY of all below: each pointer is that of a slice, with its length.
 impl Library for Proved {
     fn build(&self, kind: u8, pairs: &[Pair]) -> Result<Vec<u8>, Status> {
         let lent = lent(pairs);
-        written(room_of(pairs), |out, room, len| unsafe {
+        let built = written(room_of(pairs), |out, room, len| unsafe {
             zerotrie_build(kind.into(), lent.as_ptr(), lent.len(), out, room, len)
-        })
+        });
+        let (keys, ends, values) = parts(pairs);
+        let of_parts = written(room_of(pairs), |out, room, len| unsafe {
+            zerotrie_build_many(
+                kind.into(),
+                keys.as_ptr(),
+                keys.len(),
+                ends.as_ptr(),
+                ends.len(),
+                values.as_ptr(),
+                values.len(),
+                out,
+                room,
+                len,
+            )
+        });
+        assert_eq!(built, of_parts);
+        built
     }
 
     fn build_sorted(&self, kind: u8, pairs: &[Pair]) -> Result<Vec<u8>, Status> {
@@ -155,6 +237,27 @@ impl Library for Proved {
             )
         }
         .then_some(value)
+    }
+
+    fn get_many(&self, kind: u8, bytes: &[u8], keys: &[Vec<u8>], missing: usize) -> Vec<usize> {
+        let (joined, ends) = joined(keys.iter());
+        let mut values = vec![0; keys.len()];
+        let status = unsafe {
+            zerotrie_get_many(
+                kind.into(),
+                bytes.as_ptr(),
+                bytes.len(),
+                joined.as_ptr(),
+                joined.len(),
+                ends.as_ptr(),
+                ends.len(),
+                missing,
+                values.as_mut_ptr(),
+                values.len(),
+            )
+        };
+        assert_eq!(status, 0);
+        values
     }
 
     fn longest_prefix(&self, kind: u8, bytes: &[u8], text: &[u8]) -> Option<(usize, usize)> {
@@ -241,7 +344,11 @@ impl Library for Proved {
             )
         };
         assert_eq!(status, 0);
-        rooms.found(count)
+        let found = rooms.found(count);
+        if let Some(in_parts) = listed_in_parts(kind, bytes, prefix) {
+            assert_eq!(found, in_parts);
+        }
+        found
     }
 
     fn sorted(&self, kind: u8, bytes: &[u8], from: Bound<&[u8]>, to: Bound<&[u8]>) -> Found {
@@ -354,9 +461,13 @@ impl Library for Proved {
         }
     }
 
-    fn walk(&self, kind: u8, bytes: &[u8], moves: &[Move]) -> Vec<Moved> {
+    fn walk(&self, kind: u8, bytes: &[u8], prefix: &[u8], moves: &[Move]) -> Vec<Moved> {
         let (pointer, len) = (bytes.as_ptr(), bytes.len());
-        let mut cursor = unsafe { zerotrie_cursor_new(pointer, len) };
+        let mut cursor = if prefix.is_empty() {
+            unsafe { zerotrie_cursor_new(pointer, len) }
+        } else {
+            unsafe { zerotrie_with_prefix(kind.into(), pointer, len, prefix.as_ptr(), prefix.len()) }
+        };
         let moved = |it: &Move| match *it {
             Move::Step(byte) => {
                 let mut edge = 0;
@@ -381,6 +492,26 @@ impl Library for Proved {
         moves.iter().map(moved).collect()
     }
 
+    fn auto_kind(&self, pairs: &[Pair]) -> u8 {
+        let lent = lent(pairs);
+        unsafe { zerotrie_auto_kind(lent.as_ptr(), lent.len()) as u8 }
+    }
+
+    fn tagged(&self, kind: u8, bytes: &[u8]) -> Vec<u8> {
+        written(bytes.len() + 1, |out, room, len| unsafe {
+            zerotrie_tagged(kind.into(), bytes.as_ptr(), bytes.len(), out, room, len)
+        })
+        .unwrap()
+    }
+
+    fn tagged_kind(&self, tagged: &[u8]) -> Result<u8, Status> {
+        let mut kind = 0;
+        match unsafe { zerotrie_tagged_kind(tagged.as_ptr(), tagged.len(), &mut kind) } {
+            0 => Ok(kind as u8),
+            status => Err(status),
+        }
+    }
+
     fn seal(&self, kind: u8, bytes: &[u8]) -> Vec<u8> {
         written(bytes.len() + 24, |out, room, len| unsafe {
             zerotrie_seal(kind.into(), bytes.as_ptr(), bytes.len(), out, room, len)
@@ -396,12 +527,69 @@ impl Library for Proved {
         }
     }
 
+    fn dense_build(&self, entries: &[Entry], delimiter: u8) -> Result<Vec<u8>, Status> {
+        let (prefixes, prefix_ends) = joined(entries.iter().map(|entry| entry.0));
+        let (suffixes, suffix_ends) = joined(entries.iter().map(|entry| entry.1));
+        let values: Vec<usize> = entries.iter().map(|entry| entry.2).collect();
+        written(1 << 16, |out, room, len| unsafe {
+            zerotrie_dense_build(
+                prefixes.as_ptr(),
+                prefixes.len(),
+                prefix_ends.as_ptr(),
+                prefix_ends.len(),
+                suffixes.as_ptr(),
+                suffixes.len(),
+                suffix_ends.as_ptr(),
+                suffix_ends.len(),
+                values.as_ptr(),
+                values.len(),
+                delimiter,
+                out,
+                room,
+                len,
+            )
+        })
+    }
+
+    fn dense_get(&self, record: &[u8], prefix: &[u8], suffix: &[u8]) -> Result<usize, Status> {
+        let mut value = 0;
+        let status = unsafe {
+            zerotrie_dense_get(
+                record.as_ptr(),
+                record.len(),
+                prefix.as_ptr(),
+                prefix.len(),
+                suffix.as_ptr(),
+                suffix.len(),
+                &mut value,
+            )
+        };
+        if status == 0 { Ok(value) } else { Err(status) }
+    }
+
     fn index_build(&self, seed: u64, pairs: &[Pair]) -> Result<Vec<u8>, Status> {
         let lent = lent(pairs);
         let room = 64 + pairs.iter().map(|pair| pair.0.len() + 40).sum::<usize>();
-        written(room, |out, room, len| unsafe {
+        let built = written(room, |out, room, len| unsafe {
             zerotrie_index_build(seed, lent.as_ptr(), lent.len(), out, room, len)
-        })
+        });
+        let (keys, ends, values) = parts(pairs);
+        let of_parts = written(room, |out, room, len| unsafe {
+            zerotrie_index_build_many(
+                seed,
+                keys.as_ptr(),
+                keys.len(),
+                ends.as_ptr(),
+                ends.len(),
+                values.as_ptr(),
+                values.len(),
+                out,
+                room,
+                len,
+            )
+        });
+        assert_eq!(built, of_parts);
+        built
     }
 
     fn index_get(&self, bytes: &[u8], key: &[u8]) -> Option<usize> {

@@ -1,6 +1,7 @@
 //! What is asked: rounds of questions about random pairs, the bytes of their tries, and damaged bytes.
 
-use crate::library::{DUPLICATE_KEY, KINDS, Library, Move, Pair, Search, Status};
+use crate::library::{DUPLICATE_KEY, Entry, KINDS, Library, Move, Pair, Search, Status};
+use std::collections::BTreeMap;
 use std::fmt::Debug;
 use std::ops::Bound;
 
@@ -40,6 +41,37 @@ impl Random {
             .collect()
     }
 
+    /// A text, mostly of ASCII.
+    fn text(&mut self) -> String {
+        let len = self.below(4);
+        (0..len)
+            .map(|_| self.one(&['a', 'b', 'c', 'd', 'e', 'f', 'B', '-', 'é']))
+            .collect()
+    }
+
+    /// The entries of a dense table.
+    fn table(&mut self) -> BTreeMap<(String, String), usize> {
+        let prefixes: Vec<_> = (0..self.below(6)).map(|_| self.text()).collect();
+        let suffixes: Vec<_> = (0..1 + self.below(9)).map(|_| self.text()).collect();
+        let mut table = BTreeMap::new();
+        for prefix in prefixes {
+            for suffix in &suffixes {
+                if self.below(2) == 0 {
+                    table.insert((prefix.clone(), suffix.clone()), self.value());
+                }
+            }
+        }
+        // most tables can be built
+        if self.below(4) > 0 {
+            table.retain(|key, _| {
+                [&key.0, &key.1]
+                    .iter()
+                    .all(|text| text.bytes().all(|it| it != b'-' && it < 128))
+            });
+        }
+        table
+    }
+
     fn value(&mut self) -> usize {
         let most = self.one(&[16, 3000, 1 << 20, 1 << 40]);
         if self.below(20) == 0 {
@@ -61,6 +93,8 @@ pub struct Round {
     moves: Vec<Move>,
     edits: u8,
     seed: u64,
+    table: BTreeMap<(String, String), usize>,
+    delimiter: u8,
 }
 
 const LETTERS: [&[u8]; 7] = [
@@ -104,9 +138,23 @@ impl Round {
                 .collect(),
             edits: random.below(3) as u8,
             seed: random.next(),
+            table: random.table(),
+            delimiter: random.one(b"-----/\x80"),
             pairs,
             keys,
         }
+    }
+
+    /// The bytes with some of them changed.
+    fn damaged(&self, bytes: &[u8]) -> Vec<u8> {
+        let mut damaged = bytes.to_vec();
+        for (at, byte) in &self.damage {
+            let len = damaged.len();
+            if len > 0 {
+                damaged[at % len] = *byte;
+            }
+        }
+        damaged
     }
 
     /// Asks a library everything. Each answer is a line.
@@ -119,25 +167,28 @@ impl Round {
         answers.add("encoded_len", library.encoded_len(self.kind, &pairs));
         let why = library.why_refused(self.kind, &pairs);
         answers.add("why_refused", why.map(|why| why_shown(why, &pairs)));
+        if built.is_ok() {
+            answers.add("auto_kind", library.auto_kind(&pairs));
+        }
         let trie = built.unwrap_or_default();
         self.ask_trie(library, &trie, &mut answers);
-        let mut damaged = trie;
-        for (at, byte) in &self.damage {
-            let len = damaged.len();
-            if len > 0 {
-                damaged[at % len] = *byte;
-            }
-        }
-        self.ask_trie(library, &damaged, &mut answers);
+        self.ask_trie(library, &self.damaged(&trie), &mut answers);
         self.ask_trie(library, &self.bytes, &mut answers);
         self.ask_index(library, &pairs, &mut answers);
+        self.ask_table(library, &mut answers);
         answers.0
     }
 
     fn ask_trie(&self, library: &impl Library, bytes: &[u8], answers: &mut Answers) {
         answers.add("is_well_formed", library.is_well_formed(self.kind, bytes));
         answers.add("first_fault", library.first_fault(self.kind, bytes));
-        answers.add("walk", library.walk(self.kind, bytes, &self.moves));
+        answers.add("walk", library.walk(self.kind, bytes, b"", &self.moves));
+        for key in &self.keys {
+            let prefix = &key[..key.len() / 2];
+            answers.add("walk", library.walk(self.kind, bytes, prefix, &self.moves[..3]));
+        }
+        let missing = self.seed as usize;
+        answers.add("get_many", library.get_many(self.kind, bytes, &self.keys, missing));
         for key in &self.keys {
             answers.add("get", library.get(self.kind, bytes, key));
             answers.add("longest_prefix", library.longest_prefix(self.kind, bytes, key));
@@ -171,12 +222,47 @@ impl Round {
             "search",
             library.search(self.kind, bytes, &one[..one.len() / 2], by, self.seed & 128 == 0),
         );
+        answers.add("tagged_kind", library.tagged_kind(bytes));
+        let tagged = library.tagged(self.kind, bytes);
+        answers.add("tagged_kind", library.tagged_kind(&tagged));
+        answers.add("tagged", tagged);
         let mut file = library.seal(self.kind, bytes);
         answers.add("open", library.open(&file));
         let at = self.seed as usize % file.len();
         file[at] ^= 1 << (self.seed >> 61);
         answers.add("open", library.open(&file));
         answers.add("seal", file);
+    }
+
+    fn ask_table(&self, library: &impl Library, answers: &mut Answers) {
+        let entries = self
+            .table
+            .iter()
+            .map(|((prefix, suffix), value)| (prefix.as_str(), suffix.as_str(), *value));
+        let entries: Vec<Entry> = entries.collect();
+        let built = library.dense_build(&entries, self.delimiter);
+        answers.add("dense_build", &built);
+        let record = built.unwrap_or_default();
+        let longer = [record.as_slice(), b"-"].concat();
+        for bytes in [
+            &record,
+            &self.damaged(&record),
+            &longer,
+            &record[..record.len() / 2],
+            &self.bytes,
+        ] {
+            for (prefix, suffix, _) in &entries {
+                answers.add(
+                    "dense_get",
+                    library.dense_get(bytes, prefix.as_bytes(), suffix.as_bytes()),
+                );
+                answers.add(
+                    "dense_get",
+                    library.dense_get(bytes, suffix.as_bytes(), prefix.as_bytes()),
+                );
+            }
+            answers.add("dense_get", library.dense_get(bytes, &self.keys[0], &self.keys[1]));
+        }
     }
 
     fn ask_index(&self, library: &impl Library, pairs: &[(&[u8], usize)], answers: &mut Answers) {

@@ -19,7 +19,7 @@
 
 pub use crate::zerotrie_search::{
     AnyCase, Automaton, BeginsWith, Both, CharsState, Either, Glob, GlobError, KeyRange,
-    Levenshtein, LevenshteinChars, Not, StartsWith, Subsequence, WORD_LIMIT,
+    Levenshtein, LevenshteinChars, LevenshteinState, Not, StartsWith, Subsequence, WORD_LIMIT,
 };
 
 use crate::Trie;

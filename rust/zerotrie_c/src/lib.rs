@@ -1,7 +1,7 @@
 //! The functions of `bindings/c/zerotrie.h`, in plain Rust. The module is made from the proved sources; this file is written by hand.
 #![deny(unsafe_code)]
 
-use ::zerotrie::{rstd, zerotrie_all, zerotrie_any, zerotrie_build, zerotrie_core};
+use ::zerotrie::{rstd, zerotrie_all, zerotrie_any, zerotrie_base, zerotrie_build, zerotrie_core};
 use ::zerotrie::{zerotrie_index, zerotrie_sealed, zerotrie_search};
 
 mod zerotrie_c;

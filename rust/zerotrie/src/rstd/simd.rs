@@ -1,8 +1,8 @@
-//! Lanes of bytes, as many as Rattle's own have.
+//! Lanes of bytes and of characters, as many as Rattle's own have.
 use super::lanes;
 
 pub mod prelude {
-    pub use super::{u8x16, u8x32, u8x64};
+    pub use super::{u8x16, u8x32, u8x64, u32x16};
 }
 
 macro_rules! lanes {
@@ -61,3 +61,33 @@ macro_rules! lanes {
 lanes!(u8x16, m8x16, 16);
 lanes!(u8x32, m8x32, 32);
 lanes!(u8x64, m8x64, 64);
+
+#[allow(non_camel_case_types)]
+#[derive(Clone, Copy)]
+pub struct u32x16([u32; 16]);
+
+#[allow(non_camel_case_types)]
+#[derive(Clone, Copy)]
+pub struct m32x16(u64);
+
+impl u32x16 {
+    #[inline(always)]
+    pub fn from_slice(words: &[u32]) -> Self { u32x16(*words.first_chunk().expect("enough words")) }
+
+    #[inline(always)]
+    pub fn splat(word: u32) -> Self { u32x16([word; 16]) }
+
+    #[inline(always)]
+    pub fn simd_eq(self, other: Self) -> m32x16 {
+        let mut same = [0; 16];
+        for (same, (left, right)) in same.iter_mut().zip(self.0.iter().zip(&other.0)) {
+            *same = u8::from(left == right);
+        }
+        m32x16(u64::from(lanes::eq(&same, &[1; 16])))
+    }
+}
+
+impl m32x16 {
+    #[inline(always)]
+    pub fn to_bitmask(self) -> u64 { self.0 }
+}

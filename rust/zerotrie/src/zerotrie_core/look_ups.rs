@@ -32,7 +32,6 @@ pub struct LookUps<'a, K: ZeroTrieWithOptions> {
 }
 
 /// Returns the trie after a first byte: empty if no key begins with it, `None` inside a span.
-#[inline(never)]
 fn target_of<K: ZeroTrieWithOptions>(bytes: &[u8], byte: u8) -> Option<&[u8]> {
     steps_look_ahead();
     let mut cursor = SpanCursor::new(bytes);

@@ -19,7 +19,6 @@ pub(in crate::zerotrie_core) fn short_offset_at(table: &[u8], place: usize, coun
 }
 
 /// Like `offset_at`, for any width. Not inlined: few tries have offsets of more than three bytes.
-#[inline(never)]
 fn long_offset_at(table: &[u8], place: usize, count: usize, width: usize) -> usize {
     let mut value = 0;
     let mut rest = table;

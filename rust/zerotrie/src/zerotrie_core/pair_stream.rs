@@ -31,6 +31,8 @@ pub trait PairStream {
 
     // The current pair.
 
+    // Whether a call of `advance` may fail. If not, it does not allocate.
+
     /// Moves to the next pair, and returns whether there is one. An error ends the stream. The only
     /// error is a failed allocation.
     fn advance(&mut self) -> Result<bool, AllocError>;

@@ -97,7 +97,7 @@ fn found(
 impl<'a> KeysByValue<'a> {
     /// Builds the table of a trie.
     ///
-    /// It has at most as many places as the bytes have pairs. The only error is a failed allocation.
+    /// It has a place for each pair, or none at all. The only error is a failed allocation.
     pub fn new<K: ZeroTrieWithOptions>(alloc: Global, bytes: &'a [u8]) -> Result<Self, AllocError> {
         let places = sorted_places::<K>(alloc, bytes)?;
         Ok(KeysByValue {

@@ -26,6 +26,8 @@ use crate::zerotrie_hashed::{HashedCursor, HashedKind};
 pub trait SearchBelow {
     // Holds of the pairs that remain of those that begin with the steps.
 
+    // The bytes of the trie from which the pairs that remain are read.
+
     /// Lists what remains of the keys, with their values, if an automaton accepts it. Does not
     /// change the cursor. An error means that an allocation failed.
     fn search<T: Automaton>(

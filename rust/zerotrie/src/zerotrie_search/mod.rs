@@ -29,7 +29,7 @@ pub use combination::{AnyCase, Both, Either, Not};
 pub use cursors::SearchBelow;
 pub use glob::{Glob, GlobError};
 pub use keys_of::KeysOf;
-pub use levenshtein::{CharsState, Levenshtein, LevenshteinChars};
+pub use levenshtein::{CharsState, Levenshtein, LevenshteinChars, LevenshteinState};
 pub use prefix::StartsWith;
 pub use range::KeyRange;
 pub use search::ZeroTrieSearch;

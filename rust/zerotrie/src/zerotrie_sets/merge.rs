@@ -36,6 +36,7 @@ pub struct Merge<S: PairStream, T: PairStream> {
 impl<S: PairStream, T: PairStream> Merge<S, T> {
     /// Merges two streams. Does nothing before the first call of `advance`.
     pub fn new(first: S, second: T) -> Self {
+        crate::zerotrie_sets::laws::rows_are_of_maps();
         Merge {
             first: Input::new(first),
             second: Input::new(second),
@@ -44,7 +45,7 @@ impl<S: PairStream, T: PairStream> Merge<S, T> {
     }
 
     /// Moves to the next key, and returns whether there is one. An error ends the merge. The only
-    /// error is a failed allocation in a stream.
+    /// error is a failed allocation in a stream: a merge of two slices never fails.
     pub fn advance(&mut self) -> Result<bool, AllocError> {
         if self.ended {
             return Ok(false);

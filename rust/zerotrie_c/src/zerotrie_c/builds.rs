@@ -4,7 +4,8 @@
 use crate::rstd::prelude::*;
 use crate::zerotrie_c::numbers::{BUFFER_TOO_SMALL, DONE, OUT_OF_MEMORY, UNKNOWN_KIND, kind_of, status_of};
 use crate::rstd::alloc::{AllocError, Global};
-use crate::zerotrie_any::{bytes_from_slice, bytes_from_unsorted_slice};
+use crate::zerotrie_any::{bytes_from_slice, bytes_from_unsorted_slice, kind_for_pairs};
+use crate::zerotrie_base::TriePair;
 use crate::zerotrie_build::{ByteSliceWithIndices, encoded_len};
 use crate::zerotrie_core::{TrieKind, ZeroTrieBuildError, by_kind};
 
@@ -14,6 +15,12 @@ use crate::zerotrie_core::{TrieKind, ZeroTrieBuildError, by_kind};
 pub struct Pair<'a> {
     pub key: crate::Slice<'a>,
     pub value: usize,
+}
+
+impl<'a> TriePair for Pair<'a> {
+    fn pair_key(&self) -> &[u8] {
+        self.key.get()
+    }
 }
 
 /// Returns the pairs as items. The keys are borrowed.
@@ -133,20 +140,10 @@ pub fn zerotrie_encoded_len(
     }
 }
 
-/// Returns whether all keys are ASCII.
-fn are_ascii(pairs: &[Pair<'_>]) -> bool {
-    pairs.iter().all(|pair| pair.key.get().is_ascii())
-}
-
 /// Returns the number of the kind that suits the pairs: 0 if all keys are ASCII and there are fewer
 /// than 512, else 3.
 pub fn zerotrie_auto_kind(pairs: &[Pair<'_>]) -> u32 {
-    let kind = if pairs.len() < TrieKind::SIMPLE_LIMIT && are_ascii(pairs) {
-        TrieKind::Simple
-    } else {
-        TrieKind::Hash
-    };
-    u32::from(kind.tag())
+    u32::from(kind_for_pairs(pairs).tag())
 }
 
 /// The functions as C calls them: a slice is a pointer and a number of items.

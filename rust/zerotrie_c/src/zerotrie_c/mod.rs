@@ -16,6 +16,7 @@ mod entries;
 pub mod faults;
 pub mod files;
 pub mod flat;
+pub mod found;
 pub mod fronts;
 pub mod indexes;
 pub mod listings;

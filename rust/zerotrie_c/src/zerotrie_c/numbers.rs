@@ -38,7 +38,7 @@ pub const NO_TAG: u32 = 13;
 /// Tagged bytes do not begin with the number of a kind.
 pub const INVALID_TAG: u32 = 14;
 
-/// A table has no value for two strings.
+/// A table has no value for two strings, or no key is what was asked for.
 pub const NO_ENTRY: u32 = 15;
 
 /// The record of a table is truncated.

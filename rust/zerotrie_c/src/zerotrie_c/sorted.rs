@@ -13,7 +13,7 @@ use crate::zerotrie_search::{Search, ZeroTrieSorted};
 
 /// Returns the lower and the upper bound with these numbers at two keys, or `None` if a number is
 /// that of no bound.
-fn bounds_with<'f, 't>(
+pub fn bounds_with<'f, 't>(
     from_bound: u32,
     from: &'f [u8],
     to_bound: u32,

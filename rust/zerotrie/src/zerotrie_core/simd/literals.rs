@@ -78,7 +78,6 @@ fn are_all_same(bytes: &[u8], key: &[u8]) -> bool {
 /// If only a value can follow as many bytes as the key has, they usually end the key, and all of it
 /// is compared at once. Not inlined: long runs are rare, and a look-up with this code would be too
 /// large to be inlined itself.
-#[inline(never)]
 fn common_in_long<K: ZeroTrieWithOptions>(bytes: &[u8], key: &[u8]) -> usize {
     if key.len() <= bytes.len()
         && bytes.len() - key.len() <= LONGEST_VALUE

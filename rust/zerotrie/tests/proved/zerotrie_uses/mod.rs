@@ -21,5 +21,5 @@ pub use cursors::{find_behind, find_written, suffixes_of};
 pub use fallbacks::{fall_back, fall_back_in_hashed, longest_key};
 pub use keyword::find_keyword;
 pub use keywords::{find_header, find_owned, find_word, record_of, second_of_three};
-pub use listings::{listed_again, walk_over};
+pub use listings::{listed_again, past_first_group, walk_over};
 pub use stored::{entry_in_record, find_in_bytes, find_in_json, find_in_json_of_any};
