@@ -46,7 +46,11 @@ class Guide:
 
     def inline(self, text):
         """Returns a line of prose."""
-        return re.sub(r"\[([^]]+)\]\(([^)\s]+)\)", self.link, re.sub(r"\*\*([^*]+)\*\*", r"<b>\1</b>", self.reference.inline(text)))
+        codes = []
+        hidden = re.sub(r"<code>.*?</code>", lambda it: codes.append(it[0]) or "\0", self.reference.inline(text))
+        marked = re.sub(r"\*(\w[^*]*)\*", r"<em>\1</em>", re.sub(r"\*\*([^*]+)\*\*", r"<b>\1</b>", hidden))
+        shown = re.sub("\0", lambda _: codes.pop(0), marked)
+        return re.sub(r"\[([^]]+)\]\(([^)\s]+)\)", self.link, shown)
 
     def close(self):
         """Ends a paragraph or a list."""
@@ -67,7 +71,8 @@ class Guide:
         rows = [[self.inline(it.replace("\0", "|").strip()) for it in line.replace("\\|", "\0").strip().strip("|").split("|")] for line in lines]
         head = "".join(f"<th>{it}</th>" for it in rows[0])
         body = "".join("<tr>" + "".join(f"<td>{it}</td>" for it in row) + "</tr>" for row in rows[2:])
-        self.done.append(f'<table class="wide"><tr>{head}</tr>{body}</table>')
+        kind = "wide many" if len(rows[0]) > 2 else "wide"
+        self.done.append(f'<div class="scroll"><table class="{kind}"><tr>{head}</tr>{body}</table></div>')
 
     def page(self):
         """Returns the document as HTML."""

@@ -12,7 +12,7 @@ box.addEventListener("input", () => {
   const found = [];
   if (words.length) for (const entry of INDEX) {
     const ranks = words.map(word => rank(entry, word));
-    if (!ranks.includes(9)) found.push([ranks.reduce((a, b) => a + b) + (/^(definition|lemma)/.test(entry[1]) ? 4 : 0), entry[0].length, entry]);
+    if (!ranks.includes(9)) found.push([ranks.reduce((a, b) => a + b) + (/^(definition|lemma)/.test(entry[1]) ? 4 : entry[1] === "Python" ? 2 : 0), entry[0].length, entry]);
   }
   found.sort((a, b) => a[0] - b[0] || a[1] - b[1]);
   list.replaceChildren(...found.slice(0, 40).map(([, , [name, place, text, address]]) => {
