@@ -6,8 +6,9 @@ a block that begins with `fn`, which is shortened as docs/CALLING.md says: `kind
 and `..` is anything. A line `FILE:NUMBER: OLD  ->  NEW` must be a planted mistake of zerotrie_base. Each link of a page must lead to a
 file that is there, and to a heading of it. The pages of PLAIN, the doc comments of the library's public items and the comments of definitions must be free of
 RETIRED, words for which every Rust programmer has another one. A name in code marks must be one of the sources, of the page's examples,
-or of ELSEWHERE. No page may have more words than LIMITS say: when a page gets shorter,
-so does its limit.
+or of ELSEWHERE. No page may have more words than LIMITS say, and all together no more than TOGETHER: when a page gets shorter,
+so does its limit. docs/SIGNATURES.md, which docs/make writes, does not count. The figures of README.md on planted mistakes and on the definitions to judge
+must be those of the sources; `python3 .ci/documents.py --figures` prints them.
 """
 import pathlib
 import re
@@ -22,39 +23,41 @@ import sources
 
 QUOTING = ["README.md", "docs/CALLING.md"]
 # The pages that have no retired words.
-PLAIN = [*QUOTING, "CONTRIBUTING.md", "bindings/README.md", "docs/ARCHITECTURE.md", "docs/C.md", "docs/CPP.md", "docs/DECISIONS.md", "docs/DIFFERENCES.md", "docs/JAVASCRIPT.md", "docs/MODEL.md", "docs/PYTHON.md", "docs/README.md", "docs/RUST.md", "docs/SPEED.md", "docs/speed/fast.md", "docs/speed/tables.md", "examples/README.md"]
-# How many words a page may have, as `wc -w` counts. CHANGELOG.md grows.
+PLAIN = [*QUOTING, "CONTRIBUTING.md", "bindings/README.md", "docs/ARCHITECTURE.md", "docs/C.md", "docs/CPP.md", "docs/DECISIONS.md", "docs/DIFFERENCES.md", "docs/FORMAT.md", "docs/JAVASCRIPT.md", "docs/MODEL.md", "docs/PYTHON.md", "docs/README.md", "docs/RUST.md", "docs/SPEED.md", "docs/speed/fast.md", "docs/speed/tables.md", "examples/README.md"]
+SIGNATURES = "docs/SIGNATURES.md"
+TOGETHER = 30000  # words of all pages
+# How many words a page may have: words have a letter or a digit, so the bars of a table are none. CHANGELOG.md grows.
 LIMITS = {
-    "README.md": 1000,
-    "CONTRIBUTING.md": 2030,
-    "bindings/README.md": 670,
-    "bindings/python/README.md": 120,
-    "crates/zerotrie_cli/NOTES.md": 1300,
-    "crates/zerotrie_cli/README.md": 1200,
-    "crates/zerotrie_index/README.md": 485,
-    "crates/zerotrie_reverse/README.md": 350,
-    "crates/zerotrie_search/README.md": 515,
-    "crates/zerotrie_sets/README.md": 350,
-    "crates/zerotrie_tool/README.md": 480,
-    "docs/ARCHITECTURE.md": 1700,
-    "docs/C.md": 900,
-    "docs/CALLING.md": 3150,
-    "docs/CPP.md": 900,
-    "docs/DECISIONS.md": 2080,
-    "docs/DIFFERENCES.md": 1960,
-    "docs/FORMAT.md": 5110,
-    "docs/JAVASCRIPT.md": 780,
-    "docs/MODEL.md": 2000,
-    "docs/PYTHON.md": 900,
-    "docs/README.md": 260,
-    "docs/RUST.md": 900,
-    "docs/SPEED.md": 1500,
-    "docs/speed/fast.md": 870,
-    "docs/speed/tables.md": 4800,
-    "examples/README.md": 340,
-    "release/README.md": 480,
-    "rust/README.md": 255,
-    "rust/zerotrie/README.md": 200,
+    "README.md": 810,
+    "CONTRIBUTING.md": 1670,
+    "bindings/README.md": 330,
+    "bindings/python/README.md": 130,
+    "crates/zerotrie_cli/NOTES.md": 670,
+    "crates/zerotrie_cli/README.md": 1080,
+    "crates/zerotrie_index/README.md": 420,
+    "crates/zerotrie_reverse/README.md": 320,
+    "crates/zerotrie_search/README.md": 470,
+    "crates/zerotrie_sets/README.md": 260,
+    "crates/zerotrie_tool/README.md": 400,
+    "docs/ARCHITECTURE.md": 1400,
+    "docs/C.md": 740,
+    "docs/CALLING.md": 2340,
+    "docs/CPP.md": 740,
+    "docs/DECISIONS.md": 1760,
+    "docs/DIFFERENCES.md": 1420,
+    "docs/FORMAT.md": 4380,
+    "docs/JAVASCRIPT.md": 660,
+    "docs/MODEL.md": 1610,
+    "docs/PYTHON.md": 780,
+    "docs/README.md": 190,
+    "docs/RUST.md": 760,
+    "docs/SPEED.md": 1090,
+    "docs/speed/fast.md": 590,
+    "docs/speed/tables.md": 2150,
+    "examples/README.md": 280,
+    "release/README.md": 290,
+    "rust/README.md": 230,
+    "rust/zerotrie/README.md": 190,
 }
 # Words that are gone, each with what to write.
 RETIRED = {
@@ -78,8 +81,11 @@ RETIRED = {
 }
 # Those that definitions give a meaning of their own, such as `Refused`, `Told` and `Route`.
 DEFINED = ["routes?", "means? no map", "tells?|told", "(is|are|was|were) refused", "answers? (the|a|an|what|no|nothing|as|its|all|by|it)"]
+# The definitions that a reader has to judge, and what comes before their number of lines.
+JUDGED = ["Kind", "Numbers", "Branches", "Texts", "Maps", "Fits", "Causes", "Routes"]
+JUDGING = {"README.md": "[eight files]", "docs/MODEL.md": "To judge the definitions"}
 # Names of others that pages speak of.
-ELSEWHERE = {"O_TMPFILE", "ZeroFrom", "get_or_panic", "parse_strict"}
+ELSEWHERE = {"O_TMPFILE", "ZeroFrom", "get_or_panic"}
 
 
 def prose(text):
@@ -209,10 +215,45 @@ def unknown_names(pages):
                     yield f"{page}: the sources have no {name}"
 
 
+def planted():
+    """Returns how many mistakes are planted in the sources."""
+    lists = [len(re.findall(r"^\w+: ", it.read_text(), re.M)) for it in ROOT.glob("crates/*/wrong.txt")]
+    return sum(lists) + len([*ROOT.glob("crates/*/must-fail/*.edit")])
+
+
+def judged():
+    """Returns how many lines the definitions to judge have, without comments, imports and empty lines."""
+    files = [ROOT / f"crates/zerotrie_base/specs/{name}.antt" for name in JUDGED]
+    lines = [line.strip() for file in files for line in file.read_text().splitlines()]
+    return sum(bool(it) and not it.startswith(("--", "use ", "pub use ")) for it in lines)
+
+
+def wrong_figures():
+    """Yields the figures of README.md that the sources do not have: a count of mistakes may be up to 150 too low, and lines are rounded."""
+    text = (ROOT / "README.md").read_text()
+    said = re.search(r"over (\d+) are planted", text)
+    if not said or not 0 < planted() - int(said[1]) <= 150:
+        yield f"README.md: {planted()} mistakes are planted"
+    for page in ("README.md", "docs/MODEL.md"):
+        said = re.search(r"(\d+)\s+lines", (ROOT / page).read_text().split(JUDGING[page])[1])
+        if not said or int(said[1]) != round(judged(), -1):
+            yield f"{page}: the definitions to judge have {judged()} lines"
+
+
+def words_in(page):
+    """Returns how many words a page has. The table of errors, which is a test, does not count."""
+    text = re.sub(r"^\| `\w+Error::.*", "", (ROOT / page).read_text(), flags=re.M)
+    return sum(re.search(r"\w", it) is not None for it in text.split())
+
+
 def too_long(pages):
-    """Yields the pages that have too many words, and those that have no limit. The table of errors, which is a test, does not count."""
+    """Yields the pages that have too many words, and those that have no limit."""
+    pages = [it for it in pages if it != SIGNATURES]
+    together = sum(map(words_in, pages))
+    if together > TOGETHER:
+        yield f"all pages have {together} words, and their limit is {TOGETHER}"
     for page in pages:
-        words = len(re.sub(r"^\| `\w+Error::.*", "", (ROOT / page).read_text(), flags=re.M).split())
+        words = words_in(page)
         if page not in LIMITS and page != "CHANGELOG.md":
             yield f"{page} has no limit of words in .ci/documents.py"
         elif words > LIMITS.get(page, words):
@@ -222,7 +263,9 @@ def too_long(pages):
 def main():
     listed = subprocess.run(["git", "ls-files", "*.md"], cwd=ROOT, capture_output=True, text=True, check=True).stdout.split()
     pages = [it for it in listed if (ROOT / it).exists()]
-    wrong = [*misquoted(), *not_planted(), *dead_links(pages), *retired(), *unknown_names(it for it in pages if it != "CHANGELOG.md"), *too_long(pages)]
+    if sys.argv[1:] == ["--figures"]:
+        sys.exit(print(f"{planted()} planted mistakes, {judged()} lines in {len(JUDGED)} files of definitions to judge"))
+    wrong = [*misquoted(), *not_planted(), *wrong_figures(), *dead_links(pages), *retired(), *unknown_names(it for it in pages if it != "CHANGELOG.md"), *too_long(pages)]
     print("\n".join([*wrong, f"{len(pages)} pages: {len(wrong)} faults in quotes, links, words and lengths"]))
     sys.exit(1 if wrong else 0)
 

@@ -102,6 +102,7 @@ def tried(examples):
             (source / "rows" / f"{name}.rt").write_text(text)
         for name, (_, _, test) in examples.items():
             (source / f"{name}.rt").write_text(test)
+        print("building the library and the examples: some minutes of one processor", file=sys.stderr, flush=True)
         return subprocess.run(["rt", "try", "--test"], cwd=source.parent, capture_output=True, text=True)
 
 
