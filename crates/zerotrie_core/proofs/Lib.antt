@@ -1,5 +1,6 @@
 pub use Rattle.zerotrie_base.proofs.CallerLemmas
 mod Chosen
+mod ByteSetLemmas
 mod NodeLemmas
 mod ReaderLemmas
 mod ListingLemmas

@@ -8,3 +8,4 @@ pub mod Passed
 pub mod Prefixes
 pub mod Rows
 pub mod Skipped
+pub mod Wanted

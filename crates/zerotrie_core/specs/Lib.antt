@@ -27,6 +27,7 @@ pub mod Listings
 pub mod Parts
 pub mod Values
 pub mod Skips
+pub mod ByteSets
 pub mod Nodewise
 pub mod listing
 pub mod cursor

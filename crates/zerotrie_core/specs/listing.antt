@@ -5,3 +5,4 @@ pub mod Opened
 pub mod Moved
 pub mod Runs
 pub mod Passed
+pub mod Wanted

@@ -90,9 +90,10 @@ impl<'a, K: ZeroTrieWithOptions> LookUps<'a, K> {
         ensures start { AnswersAs K.kind self.old key.now result.0.now result.1.now }
         ensures kept { self.new ≡ self.old }
     {
-        if let Some((byte, left)) = key.split_first()
-            && let Some(target) = self.target(*byte)
-        {
+        let Some((byte, left)) = key.split_first() else {
+            return (self.bytes, key);
+        };
+        if let Some(target) = self.target(*byte) {
             return (target, left);
         }
         (self.bytes, key)

@@ -4,7 +4,7 @@
 //! so far, and the open branches, which still have targets to come. No function here is recursive,
 //! so a trie of any depth is listed.
 
-ghost use Rattle.std.specs.Prelude.{◌≡◌, ◌≤◌, ◌<◌, List, ℕ, length, take, slice_index, IfOk, IfSome, false};
+ghost use Rattle.std.specs.Prelude.{◌≡◌, ◌≤◌, ◌<◌, List, [], ℕ, length, take, slice_index, IfOk, IfSome, false};
 ghost use Rattle.std.specs.Option.{option_map};
 ghost use Rattle.zerotrie_base.specs.Kind.{Kind, kind_with};
 ghost use Rattle.zerotrie_base.specs.Maps.{Pairs, with_run, beginning};
@@ -23,6 +23,7 @@ mod open_branches;
 mod opened;
 
 use crate::branch::Branch;
+use crate::byte_set::ByteSet;
 use crate::here::Here;
 use crate::node::{Node, first_node};
 use crate::span_cursor::SpanCursor;
@@ -39,6 +40,8 @@ pub enum Reached {
     Pair,
     /// Other bytes of the current key after this many, and no pair yet.
     Bytes(usize),
+    /// The targets of a branch, each after the current key and its edge.
+    Branch,
     /// No pair is left.
     End,
 }
@@ -90,8 +93,9 @@ impl<'a, A: Allocator> Model for ZeroTrieStream<'a, A> {
 
 impl<'a, A: Allocator> ZeroTrieStream<'a, A> {
     ghost use Rattle.zerotrie_core.specs.Listings.{ListsOne, MemoryOnly, over, item_of};
-    ghost use Rattle.zerotrie_core.specs.Skips.{Skips, NoneBegins, IsGrouped};
+    ghost use Rattle.zerotrie_core.specs.Skips.{Skips, SkipsOutside, NoneBegins, IsGrouped};
     ghost use Rattle.zerotrie_core.specs.Nodewise.{MovesByNode, work};
+    ghost use Rattle.zerotrie_core.specs.listing.Wanted.{IsNextWanted};
 
     /// Moves to the next pair, and returns whether there is one. An error ends the stream.
     ///
@@ -119,13 +123,14 @@ impl<'a, A: Allocator> ZeroTrieStream<'a, A> {
         Ok(true)
     }
 
-    /// Moves by one node: to the value of the current key, or to more bytes of the keys that come
-    /// next. An error ends the stream.
+    /// Moves by one node: to the value of the current key, to more bytes of the keys that come
+    /// next, or to the targets of a branch. An error ends the stream.
     ///
     /// ```
     /// // the keys "ab", "ac" and "b" with values 1, 2 and 3
     /// let bytes = b"\xC2ab\x06\xC2bc\x01\x81\x82\x83";
     /// let mut pairs = ZeroTrieStream::new::<Simple>(rt.alloc(), bytes);
+    /// assert_eq!(rt; pairs.advance_node()?, Reached::Branch);
     /// assert_eq!(rt; pairs.advance_node()?, Reached::Bytes(0));
     /// assert_eq!(rt; pairs.key(), b"a".as_slice());
     /// pairs.skip(1);
@@ -200,7 +205,50 @@ impl<'a, A: Allocator> ZeroTrieStream<'a, A> {
         ensures all { IsGrouped self.old → NoneBegins (take depth self.old.key) self.new.left.pairs }
     {
         self.here = Here::nowhere();
-        self.branches.leave(depth);
+        self.branches.leave(depth.min(self.key.len()));
+    }
+
+    /// Returns after how many bytes of the key the branch is whose target comes next, or `None` if
+    /// the next node is no target's.
+    #[inline]
+    pub fn next_branch(&self) -> Option<usize>
+        ensures within { IfSome result (λ depth. depth ≤ length self.now.key) }
+        ensures going { IfSome result (λ depth. self.now.left.ended ≡ false) }
+    {
+        if self.ended || !self.here.rest.is_empty() {
+            return None;
+        }
+        self.branches.next_depth()
+    }
+
+    /// Skips targets of the branch after the first `depth` bytes of the key, up to the next one
+    /// whose edge is in the set. The key and its value stay.
+    ///
+    /// ```
+    /// // the keys "ab", "ac" and "b" with values 1, 2 and 3
+    /// let bytes = b"\xC2ab\x06\xC2bc\x01\x81\x82\x83";
+    /// let mut pairs = ZeroTrieStream::new::<Simple>(rt.alloc(), bytes);
+    /// assert_eq!(rt; pairs.advance_node()?, Reached::Branch);
+    /// assert_eq!(rt; pairs.next_branch(), Some(0));
+    /// pairs.pass(0, &ByteSet::from_bytes(b"bcd"));
+    /// assert!(rt; pairs.advance()?);
+    /// assert_eq!(rt; pairs.key(), b"b".as_slice());
+    /// ```
+    ///
+    /// It reads no node of them, only their edges and offsets. If a target of another branch comes
+    /// next, or none, it does nothing.
+    pub fn pass(&mut self, depth: usize, wanted: &ByteSet)
+        ensures key { self.new.key ≡ self.old.key }
+        ensures value { self.new.value ≡ self.old.value }
+        ensures skips { SkipsOutside (take depth self.old.key) wanted.now self.old.left self.new.left }
+        ensures less { work self.new ≤ work self.old }
+        ensures grouped { IsGrouped self.old → IsGrouped self.new }
+        ensures next { self.old.left.ended ≡ false → self.old.reading.rest ≡ []
+            → IsNextWanted depth wanted.now self.new.reading.branches }
+    {
+        if !self.ended && self.here.rest.is_empty() {
+            self.branches.pass(depth, wanted);
+        }
     }
 
     /// Lists nothing more.
@@ -708,7 +756,8 @@ fn next_node<'a, K: ZeroTrieWithOptions, A: Allocator>(
         }
         Some(Node::Branch(branch)) => {
             branches.open(OpenBranch::new(*here, branch, kept))?;
-            enter_next(here, key, branches)
+            *here = Here::nowhere();
+            Ok(Reached::Branch)
         }
     }
 }

@@ -6,13 +6,11 @@ use Rattle.std.specs.Cmp.Lexicographic.{slice_cmp, nat_list_cmp_total, lists_tie
 use Rattle.std.specs.FinMap.{entries, find, is_sorted, entries_sorted, nat_cmp-IsAntisymmetric, slice_cmp-IsAntisymmetric}
 use Rattle.std.specs.FinMap.Entries.{below_all, is_sorted-where_key, find-where_key, same_entries}
 use Rattle.std.specs.Ordering.{nat_cmp, is_le, is_lt, ordering_then, eq_by_cmp}
-use Rattle.std.specs.Range.Bound.{is_up_to_end, bounds_contain}
+use Rattle.std.specs.Range.Bound.{is_from_start, is_up_to_end, bounds_contain}
 use Rattle.std.specs.declared.ops.Bound.{Bound}
 use Rattle.std.specs.declared.ops.Bound.TheVariants.{Included, Excluded, Unbounded}
 use Rattle.zerotrie_base.specs.Kind.{Kind, simple_ascii}
-use Rattle.zerotrie_base.specs.Texts.{Lists, Means}
-use Rattle.zerotrie_core.proofs.ForCallers.{listed_pairs}
-use Rattle.std.proofs.lemmas.List.{append-nil}
+use Rattle.zerotrie_base.specs.Texts.{Lists}
 use Rattle.std.proofs.lemmas.List.Sums.{length-filter, count_by-le-length}
 use Rattle.zerotrie_base.proofs.CanonicalLemmas.Bounds.{entries_count}
 use Rattle.zerotrie_search.proofs.PathLemmas.{lists_few}
@@ -21,8 +19,9 @@ use Rattle.zerotrie_search.specs.SortedLaws.{SortedAscends}
 use Rattle.zerotrie_base.specs.Maps.{Pairs, Map, map_of, value_at, same_key, Ascends}
 use Rattle.zerotrie_core.proofs.CallerLemmas.{same-entries, exact_same, exact_itself, entries-map_of}
 use Rattle.zerotrie_search.specs.Sets.{by_bytes}
-use Rattle.zerotrie_search.specs.Paths.{SameFrom, NoneFrom, Starts, IsFollowed, MostFrom, is_from, bound_at, pairs_from, edges_from}
-use Rattle.zerotrie_search.proofs.OrderLemmas.{one_from}
+use Rattle.zerotrie_search.specs.Paths.{SameFrom, NoneFrom, is_from}
+use Rattle.zerotrie_search.specs.Forks.{pairs_from, first_bound}
+use Rattle.zerotrie_search.proofs.OrderLemmas.{one_from, from_none}
 
 -- keys are equal as the order of the map says
 same_as_order : (p q : List ℕ) → same_key simple_ascii p q ≡ eq_by_cmp (slice_cmp nat_cmp) q p
@@ -188,46 +187,32 @@ left_beyond pairs to bound key same past =
     filter_none (map_of pairs) (λ q. is_from bound q && is_up_to_end by_bytes to q)
     (λ q v e. beyond (is_from bound q) (is_up_to_end by_bytes to q) (λ f u. (let t = end_below to key q (sym (same q v (sym (same-entries pairs q) ∙ e)) ∙ f) u in absurd (cc))))
 
-module _ {kind : Kind} {bytes : List ℕ} {pairs : Pairs} (lists : Lists kind bytes pairs) where
-  pub finds_pair : (to : Bound (List ℕ)) (bound key : List ℕ) (v : ℕ) → value_at simple_ascii pairs key ≡ Some v → SameFrom pairs bound key → is_up_to_end by_bytes to key ≡ true
-      → pairs_from kind bytes to bound ≡ (key, v) ∷ pairs_from kind bytes to (key ++ 0 ∷ [])
-  finds_pair to bound key v here same ends =
-      subst (λ ps. filter (λ e. is_from bound e.0 && is_up_to_end by_bytes to e.0) (entries (map_of ps)) ≡ (key, v) ∷ filter (λ e. is_from (key ++ 0 ∷ []) e.0 && is_up_to_end by_bytes to e.0) (entries (map_of ps)))
-      (sym (listed_pairs lists)) (left_found pairs to bound key v here same ends)
-
-  pub finds_none : (to : Bound (List ℕ)) (bound : List ℕ) → NoneFrom pairs bound → pairs_from kind bytes to bound ≡ []
-  finds_none to bound none = subst (λ ps. filter (λ e. is_from bound e.0 && is_up_to_end by_bytes to e.0) (entries (map_of ps)) ≡ []) (sym (listed_pairs lists)) (left_none pairs to bound none)
-
-  pub finds_beyond : (to : Bound (List ℕ)) (bound key : List ℕ) → SameFrom pairs bound key → is_up_to_end by_bytes to key ≡ false → pairs_from kind bytes to bound ≡ []
-  finds_beyond to bound key same past = subst (λ ps. filter (λ e. is_from bound e.0 && is_up_to_end by_bytes to e.0) (entries (map_of ps)) ≡ []) (sym (listed_pairs lists)) (left_beyond pairs to bound key same past)
+-- the same pairs are left from bounds that the same keys are at least
+pub left_same : (pairs : Pairs) (to : Bound (List ℕ)) (x y : List ℕ) → SameFrom pairs x y → pairs_from pairs to x ≡ pairs_from pairs to y
+left_same pairs to x y same =
+    filter_alike (map_of pairs) (λ q. is_from x q && is_up_to_end by_bytes to q) (λ q. is_from y q && is_up_to_end by_bytes to q)
+    (λ q v e. ap (λ t. t && is_up_to_end by_bytes to q) (same q v (sym (same-entries pairs q) ∙ e)))
 
 -- a listing has no more pairs than bytes
-pub most_from : (kind : Kind) (bytes : List ℕ) (to : Bound (List ℕ)) (bound : List ℕ) → MostFrom kind bytes to bound (length bytes)
-most_from kind bytes to bound pairs lists =
+pub few_from : {kind : Kind} {bytes : List ℕ} {pairs : Pairs} → Lists kind bytes pairs → (to : Bound (List ℕ)) (bound : List ℕ) → length (pairs_from pairs to bound) ≤ length bytes
+few_from {pairs = pairs} lists to bound =
     let passes : List ℕ × ℕ → Bool = λ e. is_from bound e.0 && is_up_to_end by_bytes to e.0 in
-    let few : length (filter passes (entries (map_of pairs))) ≤ length bytes =
-    (let count = length-filter passes (entries (map_of pairs)) in
+    let count = length-filter passes (entries (map_of pairs)) in
     let fewer = count_by-le-length passes (entries (map_of pairs)) in
     let each = entries_count pairs in
     let most = lists_few lists in
-    omega (arith, count, fewer, each, most)) in
-    subst (λ ps. length (filter passes (entries (map_of ps))) ≤ length bytes) (sym (listed_pairs lists)) few
+    omega (arith, count, fewer, each, most)
 
 -- where a listing starts
-pub starts_included : (kind : Kind) (bytes bound key : List ℕ) (next : Option ℕ) → IsFollowed kind bytes bound key next → Starts kind bytes (Included bound) (bound_at key next)
-starts_included kind bytes bound key None is = λ pairs lists q v e. ap (λ x. is_from x q) (sym is)
-starts_included kind bytes bound key (Some b) same = λ pairs lists q v e. ap (λ x. is_from x q) (sym (append-nil bound)) ∙ same pairs lists [] q v e
+pub first_from : (from : Bound (List ℕ)) (q : List ℕ) → is_from (first_bound from) q ≡ is_from_start by_bytes from q
+first_from (Included b) q = refl
+first_from (Excluded b) q = above_is b q
+first_from Unbounded q = from_none q
 
-pub starts_excluded : (kind : Kind) (bytes bound key : List ℕ) (next : Option ℕ) → IsFollowed kind bytes bound key next → Starts kind bytes (Excluded bound) (key ++ edges_from next ∷ [])
-starts_excluded kind bytes bound key None is = λ pairs lists q v e. sym (above_is bound q) ∙ ap (λ x. is_from (x ++ 0 ∷ []) q) (sym is)
-starts_excluded kind bytes bound key (Some b) same = λ pairs lists q v e. sym (above_is bound q) ∙ same pairs lists (0 ∷ []) q v e
-
-pub starts_left : (kind : Kind) (bytes : List ℕ) (m : Map) (means : Means kind bytes m) (from to : Bound (List ℕ)) (bound : List ℕ) → Starts kind bytes from bound → pairs_from kind bytes to bound ≡ within from to m
-starts_left kind bytes m means from to bound starts =
-    ap (λ ps. filter (λ e. is_from bound e.0 && is_up_to_end by_bytes to e.0) (entries (map_of ps))) (listed_pairs means.lists)
-    ∙ filter_alike (map_of means.pairs) (λ q. is_from bound q && is_up_to_end by_bytes to q) (λ q. bounds_contain by_bytes from to q)
-    (λ q v e. ap (λ t. t && is_up_to_end by_bytes to q) (sym (starts means.pairs means.lists q v (sym (same-entries means.pairs q) ∙ e))))
-    ∙ ap (λ n. within from to n) (sym means.is)
+pub starts_left : (pairs : Pairs) (from to : Bound (List ℕ)) → pairs_from pairs to (first_bound from) ≡ within from to (map_of pairs)
+starts_left pairs from to =
+    filter_alike (map_of pairs) (λ q. is_from (first_bound from) q && is_up_to_end by_bytes to q) (λ q. bounds_contain by_bytes from to q)
+    (λ q v e. ap (λ t. t && is_up_to_end by_bytes to q) (first_from from q))
 
 -- pairs that are sorted ascend
 less_is : (o : Ordering) → T (is_lt o) → o ≡ Less

@@ -1,15 +1,21 @@
 mod EndLemmas
 mod EditLemmas
 mod BitLemmas
+mod SwapLemmas
+mod SwapBits
 mod TrailLemmas
 mod SearchLemmas
 mod GlobLemmas
 mod WordLemmas
+mod WantedLemmas
 mod CharLemmas
 mod TableLemmas
 mod PlaceLemmas
 mod OrderLemmas
 pub mod PathLemmas
+mod ForkLemmas
 mod LeftLemmas
+mod StandLemmas
+mod SkipLemmas
 mod LastLemmas
 mod TurnLemmas

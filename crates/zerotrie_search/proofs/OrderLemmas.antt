@@ -1,5 +1,5 @@
 -- Keys in the order of bytes, and the edges that lead to them.
-use Rattle.std.proofs.Common.{◌≡◌, ℕ, zero, suc, ◌+◌, ◌<◌, ◌≤◌, List, [], ◌∷◌, ◌++◌, length, take, drop, refl, sym, ◌∙◌, ap, subst, arith, Option, Some, None, Bool, true, false, cond, inl, inr, append_assoc, Ordering, Less, Equal, Greater}
+use Rattle.std.proofs.Common.{◌≡◌, ℕ, zero, suc, ◌<◌, ◌≤◌, List, [], ◌∷◌, ◌++◌, length, take, drop, refl, sym, ◌∙◌, ap, subst, arith, Option, Some, None, Bool, true, false, cond, inl, inr, Ordering, Less, Equal, Greater}
 use Rattle.std.specs.Prelude.{slice_index, slice_index_or, slice_get, filter, not, ◌==◌, ◌&&◌, ◌≢◌}
 use Rattle.std.proofs.lemmas.Bool.{eq-eqb, ne_eqb, cases_eq, cases_lt}
 use Rattle.std.proofs.lemmas.List.{append-nil}
@@ -16,7 +16,7 @@ use Rattle.zerotrie_core.specs.Machine.Answer.{stepped, taken, probed}
 use Rattle.zerotrie_core.specs.Places.{Place, ListsAt}
 use Rattle.zerotrie_core.specs.CursorLaws.{StoredBytes}
 use Rattle.zerotrie_core.proofs.CallerLemmas.{value_at-residual}
-use Rattle.zerotrie_search.specs.Paths.{LeastOf, SameFrom, NoneFrom, is_from}
+use Rattle.zerotrie_search.specs.Paths.{SameFrom, is_from}
 
 -- edge number i that a probe returns
 abbrev byte_in : Option (ℕ × ℕ) → ℕ
@@ -37,14 +37,6 @@ numbered p (suc i) m (c ∷ edges) e = let r = numbered p i m edges e in (omega 
 
 pub nth_is : (i : ℕ) (edges : List ℕ) (p : ℕ × ℕ) → Some p ≡ nth_edge i edges → (i < length edges) × (slice_index edges i ≡ p.0) × (length edges ≡ p.1)
 nth_is i edges p e = numbered p i (length edges) edges e
-
-not_numbered : (i m : ℕ) (edges : List ℕ) → option_map {U = ℕ × ℕ} (λ x. (x, m)) (slice_get edges i) ≡ None → length edges ≤ i
-not_numbered i m [] e = omega arith
-not_numbered zero m (c ∷ edges) e = absurd (some_none {A = ℕ × ℕ} (c, m) e)
-not_numbered (suc i) m (c ∷ edges) e = let r = not_numbered i m edges e in omega (arith, r)
-
-pub nth_none : (i : ℕ) (edges : List ℕ) → nth_edge i edges ≡ None → length edges ≤ i
-nth_none i edges e = not_numbered i (length edges) edges e
 
 -- the first byte of a key is an edge
 abbrev pub Met : List ℕ → ℕ → Type 0
@@ -134,46 +126,9 @@ lift pairs (b ∷ p) x y h (c ∷ key) v e =
 pub same_more : (pairs : Pairs) (x y z : List ℕ) → SameFrom pairs x y → SameFrom pairs y z → SameFrom pairs x z
 same_more pairs x y z s t key v e = s key v e ∙ t key v e
 
-pub same_none : (pairs : Pairs) (x y : List ℕ) → SameFrom pairs x y → NoneFrom pairs y → NoneFrom pairs x
-same_none pairs x y s n key v e = s key v e ∙ n key v e
-
--- to the least edge
-edge_same : (pairs : Pairs) (n b : ℕ) → LeastOf (met pairs) (length (met pairs)) n (Some b) → SameFrom pairs (n ∷ []) (b ∷ [])
-edge_same pairs n b least [] v e = refl
-edge_same pairs n b least (c ∷ key) v e =
-    let m = met_key pairs c key v e in
-    elim (least.2 m.0 m.1) [
-      | inl low ↦ (let l : c < n = subst (λ d. d < n) m.2 low in from_low n c [] key l ∙ sym (from_low b c [] key (omega (arith, l, least.0))))
-      | inr high ↦ (let h : b ≤ c = subst (λ d. b ≤ d) m.2 high in one_from n c key (omega (arith, h, least.0)) ∙ sym (one_from b c key h))
-    ]
-
-pub to_edge : (pairs : Pairs) (p : List ℕ) (n b : ℕ) → LeastOf (met (behind_all p pairs)) (length (met (behind_all p pairs))) n (Some b) → SameFrom pairs (p ++ n ∷ []) (p ++ b ∷ [])
-to_edge pairs p n b least = lift pairs p (n ∷ []) (b ∷ []) (edge_same (behind_all p pairs) n b least)
-
--- past the last edge
-pub none_left : (pairs : Pairs) (n : ℕ) → LeastOf (met pairs) (length (met pairs)) n None → NoneFrom pairs (n ∷ [])
-none_left pairs n none [] v e = refl
-none_left pairs n none (c ∷ key) v e = let m = met_key pairs c key v e in from_low n c [] key (subst (λ d. d < n) m.2 (none m.0 m.1))
-
-past_same : (pairs : Pairs) (c n : ℕ) → LeastOf (met (residual c pairs)) (length (met (residual c pairs))) n None → SameFrom pairs (c ∷ n ∷ []) ((c + 1) ∷ [])
-past_same pairs c n none [] v e = refl
-past_same pairs c n none (d ∷ key) v e = elim (cases_lt d c) [
-  | inl low ↦ from_low c d (n ∷ []) key low ∙ sym (from_low (c + 1) d [] key (omega (arith, low)))
-  | inr high ↦ elim (cases_eq c d) [
-    | inl same ↦ from_same c d (n ∷ []) key same ∙ none_left (residual c pairs) n none key v (value_at-residual c pairs key ∙ ap (λ x. value_at simple_ascii pairs (x ∷ key)) same ∙ e) ∙ sym (from_low (c + 1) d [] key (omega (arith, same)))
-    | inr other ↦ from_high c d (n ∷ []) key (omega (arith, high, other)) ∙ sym (one_from (c + 1) d key (omega (arith, high, other)))
-  ]
-]
-
 pub behind_more : (p : List ℕ) (c : ℕ) (pairs : Pairs) → behind_all (p ++ c ∷ []) pairs ≡ residual c (behind_all p pairs)
 behind_more [] c pairs = refl
 behind_more (b ∷ p) c pairs = behind_more p c (residual b pairs)
-
-pub past_edge : (pairs : Pairs) (q : List ℕ) (c n : ℕ) → LeastOf (met (behind_all (q ++ c ∷ []) pairs)) (length (met (behind_all (q ++ c ∷ []) pairs))) n None
-    → SameFrom pairs ((q ++ c ∷ []) ++ n ∷ []) (q ++ (c + 1) ∷ [])
-past_edge pairs q c n none =
-    subst (λ x. SameFrom pairs x (q ++ (c + 1) ∷ [])) (sym (append_assoc q (c ∷ []) (n ∷ [])))
-    (lift pairs q (c ∷ n ∷ []) ((c + 1) ∷ []) (past_same (behind_all q pairs) c n (subst (λ ps. LeastOf (met ps) (length (met ps)) n None) (behind_more q c pairs) none)))
 
 -- past a place with no value
 value_same : (pairs : Pairs) → value_at simple_ascii pairs [] ≡ None → SameFrom pairs [] (0 ∷ [])
@@ -211,12 +166,6 @@ value_exact kind ((b ∷ key, v) ∷ pairs) = value_exact kind pairs
 -- a value that was found in front of the pairs behind a key is the key's
 pub value_here : (kind : Kind) (p : List ℕ) (pairs : Pairs) → value_at kind (behind_all p pairs) [] ≡ value_at simple_ascii pairs p
 value_here kind p pairs = value_exact kind (behind_all p pairs) ∙ value_behind p pairs
-
--- with no value and no edge there is no pair
-pub none_there : (kind : Kind) (pairs : Pairs) → value_at kind pairs [] ≡ None → LeastOf (met pairs) (length (met pairs)) 0 None → pairs ≡ []
-none_there kind [] none least = refl
-none_there kind (([], v) ∷ pairs) none least = absurd (some_none v none)
-none_there kind ((c ∷ key, v) ∷ pairs) none least = absurd (let l = least 0 (omega arith) in omega (arith, l))
 
 -- a step by a byte that returns another edge, or none: no key begins with the byte
 Within : Pairs → List ℕ × ℕ → Type 0

@@ -34,6 +34,13 @@ front_kept kept bytes key other front same = elim (cases_lt kept (length bytes))
       all ∙ front ∙ sym (take-take n kept key (omega (arith, more))) ∙ ap (take n) (sym same) ∙ take-take n kept other (omega (arith, more)) ∙ ap (λ xs. take (length xs) other) (sym all)
 ]
 
+-- bytes in front of a front of a key
+pub front_whole : (d : ℕ) (bytes key : List ℕ) → IsFront bytes (take d key) → IsFront bytes key
+front_whole d bytes key front =
+    let within = front_within bytes (take d key) front in
+    let most = length-take d key in
+    front ∙ take-take (length bytes) d key (omega (arith, within, most))
+
 module _ {S : Type 0} (IsAfter : List ℕ → S → Type 0) (accepts_from : S → List ℕ → Bool) (accepts : List ℕ → Bool) where
   pub trail_take : (front : List ℕ) (n : ℕ) (trail : List (ℕ × S)) → IsTrail IsAfter accepts_from accepts front trail → IsTrail IsAfter accepts_from accepts front (take n trail)
   trail_take front zero trail is = tt

@@ -1,6 +1,8 @@
 pub mod Sets
 pub mod Ranges
 pub mod Edits
+pub mod Swaps
+pub mod SwapStates
 pub mod Trails
 pub mod Searches
 pub mod OtherKeys
@@ -13,5 +15,6 @@ pub mod Pending
 pub mod Laws
 pub mod Sorted
 pub mod Paths
+pub mod Forks
 pub mod SortedLaws
 pub mod Lasts

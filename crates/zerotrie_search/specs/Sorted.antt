@@ -1,15 +1,16 @@
 -- The pairs of a map in the order of bytes.
-use Rattle.std.specs.Prelude.{◌≡◌, ◌<◌, ◌+◌, ℕ, List, [], ◌∷◌, Bool, true, false, Option, Some, None, Result, Ok, Err, filter, if◌then◌else◌}
+use Rattle.std.specs.Prelude.{◌≡◌, ◌<◌, ◌+◌, ℕ, List, [], ◌∷◌, Bool, true, false, Option, Some, None, Result, Ok, Err, filter, is_some, not, if◌then◌else◌}
 use Rattle.std.specs.FinMap.{entries}
 use Rattle.std.specs.Range.Bound.{bounds_contain}
 use Rattle.std.specs.declared.alloc.AllocError.{AllocError}
 use Rattle.std.specs.declared.ops.Bound.{Bound}
 use Rattle.zerotrie_base.specs.Kind.{Kind}
-use Rattle.zerotrie_base.specs.Maps.{Pairs, Map}
+use Rattle.zerotrie_base.specs.Maps.{Pairs, Map, after_run}
 use Rattle.zerotrie_core.specs.Listings.{Left, ListsOne, MemoryOnly}
 use Rattle.zerotrie_core.specs.declared.listing.ListError.{ListError}
 use Rattle.zerotrie_core.specs.declared.listing.ListError.TheVariants.{OutOfMemory}
 use Rattle.zerotrie_core.specs.WellFormed.{IsWellFormed}
+use Rattle.zerotrie_search.specs.Searches.{accepted_left}
 use Rattle.zerotrie_search.specs.Sets.{by_bytes}
 
 -- the pairs of a map whose keys are between two bounds, in ascending order of their keys
@@ -65,3 +66,19 @@ abbrev pub moved : Result Bool AllocError → ℕ
 moved (Ok true) = 1
 moved (Ok false) = 0
 moved (Err e) = 0
+
+-- whether a key does not begin with a front
+abbrev pub begins_else : List ℕ → List ℕ → Bool
+begins_else front key = not (is_some (after_run front key))
+
+-- what is left of a listing, without the pairs whose keys begin with a front
+abbrev pub without : List ℕ → Left → Left
+without front left = accepted_left (begins_else front) left
+
+-- A search in the order of bytes: the sorted listing that it reads, what is left of that, of the
+-- accepted pairs alone, the automaton, and its state after the key in hand.
+pub record SortedSearching (T S : Type 0) : Type 0 where
+  pub sorted : Sorting
+  pub left : Left
+  pub automaton : T
+  pub state : S

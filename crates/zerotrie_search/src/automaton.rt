@@ -1,6 +1,9 @@
 //! What reads a key byte by byte, and accepts it or not.
 
-ghost use Rattle.std.specs.Prelude.{◌≡◌, ℕ, List, [], ◌∷◌, ◌++◌, Bool, false};
+ghost use Rattle.std.specs.Prelude.{◌≡◌, ◌<◌, ℕ, List, [], ◌∷◌, ◌++◌, Bool, false, IfSome};
+ghost use Rattle.zerotrie_core.specs.ByteSets.{is_in};
+
+use zerotrie_core::ByteSet;
 
 /// A set of keys that is decided byte by byte.
 ///
@@ -51,4 +54,14 @@ pub trait Automaton {
     fn can_match(&self, state: Self::State) -> bool
         requires { (front : List ℕ) × IsAfter self.now front state }
         ensures { result ≡ false → (key : List ℕ) → accepts_from self.now state key ≡ false };
+
+    /// Returns a set of bytes, such that no accepted key has another one after the state, or `None`
+    /// if any byte may follow. Of a branch, a search enters no edge outside the set.
+    fn wanted(&self, _state: Self::State) -> Option<ByteSet>
+        requires { (front : List ℕ) × IsAfter self.now front _state }
+        ensures { IfSome result (λ set. (byte : ℕ) → byte < 256 → is_in set byte ≡ false
+            → (key : List ℕ) → accepts_from self.now _state (byte ∷ key) ≡ false) }
+    {
+        None
+    }
 }

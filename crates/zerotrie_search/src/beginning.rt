@@ -4,6 +4,7 @@ ghost use Rattle.std.specs.Prelude.{IfSome};
 ghost use Rattle.zerotrie_search.specs.Sets.{some_front, some_front_from};
 
 use crate::automaton::Automaton;
+use zerotrie_core::ByteSet;
 
 /// Accepts the keys that begin with a key that the automaton accepts.
 ///
@@ -54,5 +55,13 @@ impl<S: Automaton> Automaton for BeginsWith<S> {
             None => true,
             Some(inner) => self.0.can_match(inner),
         }
+    }
+
+    fn wanted(&self, state: Option<S::State>) -> Option<ByteSet> {
+        let inner = state?;
+        if self.0.is_match(inner) {
+            return None;
+        }
+        self.0.wanted(inner)
     }
 }

@@ -6,6 +6,7 @@ ghost use Rattle.zerotrie_base.specs.Maps.{after_run};
 ghost use Rattle.zerotrie_search.specs.Sets.{begins_left};
 
 use crate::automaton::Automaton;
+use zerotrie_core::ByteSet;
 
 /// Accepts the keys that begin with these bytes, byte by byte.
 ///
@@ -50,5 +51,10 @@ impl<'p> Automaton for StartsWith<'p> {
 
     fn can_match(&self, state: Option<&'p [u8]>) -> bool {
         state.is_some()
+    }
+
+    fn wanted(&self, state: Option<&'p [u8]>) -> Option<ByteSet> {
+        let (first, _more) = state?.split_first()?;
+        Some(ByteSet::from_bytes(&[*first]))
     }
 }

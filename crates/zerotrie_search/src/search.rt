@@ -1,12 +1,13 @@
 //! The pairs of a listing whose keys an automaton accepts.
 
-ghost use Rattle.std.specs.Prelude.{◌≡◌, [], false, true, IfOk};
+ghost use Rattle.std.specs.Prelude.{◌≡◌, ◌≤◌, [], false, true, IfOk};
 ghost use Rattle.zerotrie_core.specs.Listings.{ListsOne, MemoryOnly, item_of};
+ghost use Rattle.zerotrie_core.specs.Nodewise.{work};
 ghost use Rattle.zerotrie_search.specs.Searches.{accepted_left};
 ghost use Rattle.zerotrie_search.specs.Trails.{IsTrail, IsFront, trail_bytes};
 
 use crate::automaton::Automaton;
-use crate::trail::{Verdict, read};
+use crate::trail::{Verdict, last_state, read};
 use std::alloc::{AllocError, Allocator, Global};
 use std::marker::Model;
 use zerotrie_core::{PairStream, Reached, ZeroTrieStream};
@@ -28,7 +29,8 @@ use zerotrie_core::{PairStream, Reached, ZeroTrieStream};
 /// ```
 ///
 /// It goes from node to node. Once no accepted key begins with the bytes so far, it skips the pairs
-/// that begin with them and reads no node of them. It allocates for the longest key alone, and
+/// that begin with them and reads no node of them. Of a branch it enters no target whose edge the
+/// automaton does not want. It allocates for the longest key alone, and
 /// nothing for each pair: the stream's buffer, and one state a byte, which keys that begin alike
 /// share. If an allocation for a state fails, it reads the next key from an earlier byte.
 #[derive(Drop)]
@@ -150,6 +152,35 @@ impl<'a, T: Automaton, A: Allocator> PairStream for ZeroTrieSearch<'a, T, A> {
     }
 }
 
+/// Skips the pairs that come next in the open branches, as far as the automaton does not want their
+/// edges.
+fn pass_unwanted<'a, T: Automaton, A: Allocator>(
+    automaton: &T,
+    pairs: &mut ZeroTrieStream<'a, A>,
+    trail: &[(u8, T::State)],
+)
+    requires trail { IsTrail (T.IsAfter automaton.now) (T.accepts_from automaton.now)
+        (T.accepts automaton.now) [] trail.now }
+    requires front { pairs.old.left.ended ≡ false → IsFront (trail_bytes trail.now) pairs.old.key }
+    ensures key { pairs.new.key ≡ pairs.old.key }
+    ensures same { accepted_left (T.accepts automaton.now) pairs.new.left
+        ≡ accepted_left (T.accepts automaton.now) pairs.old.left }
+    ensures less { work pairs.new ≤ work pairs.old }
+{
+    let mut above = usize::MAX;
+    while let Some(depth) = pairs.next_branch() {
+        if above <= depth || trail.len() < depth {
+            return;
+        }
+        above = depth;
+        let state = last_state(automaton, &trail[..depth]);
+        let Some(wanted) = automaton.wanted(state) else {
+            return;
+        };
+        pairs.pass(depth, &wanted);
+    }
+}
+
 /// Moves a stream to the next pair whose key is accepted.
 fn next_accepted<'a, T: Automaton, A: Allocator>(
     automaton: &T,
@@ -173,8 +204,10 @@ fn next_accepted<'a, T: Automaton, A: Allocator>(
         → T.IsAfter automaton.now pairs.new.key state.new) }
 {
     loop {
+        pass_unwanted(automaton, pairs, trail.as_slice());
         match pairs.advance_node()? {
             Reached::End => return Ok(false),
+            Reached::Branch => {}
             Reached::Bytes(kept) => match read(automaton, pairs.key(), kept, trail) {
                 Verdict::Alive(_after) => {}
                 Verdict::Dead(depth) => pairs.skip(depth),

@@ -16,7 +16,8 @@ pub(crate) enum Verdict<S> {
 }
 
 /// Returns the state after all bytes of a trail.
-fn last_state<T: Automaton>(automaton: &T, trail: &[(u8, T::State)]) -> T::State
+#[inline]
+pub(crate) fn last_state<T: Automaton>(automaton: &T, trail: &[(u8, T::State)]) -> T::State
     requires { IsTrail (T.IsAfter automaton.now) (T.accepts_from automaton.now)
         (T.accepts automaton.now) [] trail.now }
     ensures { StandsAfter (T.IsAfter automaton.now) (T.accepts_from automaton.now)

@@ -9,14 +9,14 @@ ghost use Rattle.zerotrie_base.specs.Kinds.{kind_of};
 ghost use Rattle.zerotrie_core.specs.Maps.{Pairs, Map, beginning};
 ghost use Rattle.zerotrie_core.specs.Texts.{Means};
 ghost use Rattle.zerotrie_core.specs.Listings.{rest_after, to_come};
-ghost use Rattle.zerotrie_search.specs.Searches.{IsSearch};
+ghost use Rattle.zerotrie_search.specs.Searches.{IsSearch, accepted};
 ghost use Rattle.zerotrie_search.specs.Sets.{by_bytes};
 ghost use Rattle.zerotrie_search.specs.Sorted.{within, first_of, last_of};
 
 use crate::automaton::Automaton;
 use crate::range::KeyRange;
 use crate::search::ZeroTrieSearch;
-use crate::sorted::{ZeroTrieSorted, ZeroTrieSortedIterator, last_between};
+use crate::sorted::{ZeroTrieSorted, ZeroTrieSortedIterator, ZeroTrieSortedSearch, last_between};
 use std::alloc::{AllocError, Global};
 use std::ops::Bound;
 use zerotrie_core::{Trie, TrieKind, ZeroTrieBuilderOptions, ZeroTrieStream, by_kind};
@@ -114,21 +114,23 @@ pub trait Search: Trie {
         Ok(ZeroTrieSearch::new(alloc, pairs, automaton))
     }
 
-    /// Lists the pairs whose keys are between two bounds, in the order of bytes.
+    /// Lists the pairs whose keys are between two bounds, by the order of bytes, in the order of
+    /// `stream`.
     ///
     /// ```
     /// use std::ops::Bound;
     ///
     /// let words = [("trial", 1), ("trie", 2), ("trio", 3)];
     /// let trie = ZeroTrieSimpleAscii::try_from_iter(rt.alloc(), words)?;
-    /// let mut range = trie.range(rt.alloc(), Bound::Excluded(b"trial"), Bound::Included(b"trie"));
+    /// let (from, to) = (Bound::Excluded(b"trial".as_slice()), Bound::Included(b"trie".as_slice()));
+    /// let mut range = trie.search_range(rt.alloc(), from, to);
     /// assert!(rt; range.advance()?);
     /// assert_eq!(rt; range.value(), 2);
     /// assert!(rt; !range.advance()?);
     /// ```
     ///
-    /// They come in the order of `stream`, which is the order of bytes in a `ZeroTrieSimpleAscii`.
-    fn range<'p>(
+    /// `stream_sorted` lists the same pairs in the order of bytes in every kind.
+    fn search_range<'p>(
         &self,
         alloc: Global,
         from: Bound<&'p [u8]>,
@@ -173,6 +175,46 @@ pub trait Search: Trie {
         let (options, bytes) = (options_of(self.trie_kind()), self.as_bytes());
         let sorted = ZeroTrieSorted::with_options(alloc, options, bytes, from, to)?;
         Ok(sorted)
+    }
+
+    /// Lists the pairs whose keys are between two bounds and that an automaton accepts, in ascending
+    /// order of bytes, in every kind.
+    ///
+    /// ```
+    /// use std::ops::Bound;
+    ///
+    /// let words = [("trial", 1), ("trie", 2), ("trio", 3), ("true", 4)];
+    /// let trie = ZeroTriePerfectHash::try_from_iter(rt.alloc(), words)?;
+    /// let from = Bound::Excluded(b"trial".as_slice());
+    /// let with_i = Subsequence(b"i");
+    /// let mut search = trie.search_sorted(rt.alloc(), from, Bound::Unbounded, with_i)?;
+    /// assert!(rt; search.advance()?);
+    /// assert_eq!(rt; (search.key(), search.value()), (b"trie".as_slice(), 2));
+    /// assert!(rt; search.advance()?);
+    /// assert_eq!(rt; (search.key(), search.value()), (b"trio".as_slice(), 3));
+    /// assert!(rt; !search.advance()?);
+    /// ```
+    ///
+    /// It reads no node of keys that begin as no accepted key does. An error means that an allocation
+    /// failed.
+    fn search_sorted<'p, T: Automaton + Drop>(
+        &self,
+        alloc: Global,
+        from: Bound<&[u8]>,
+        to: Bound<&'p [u8]>,
+        automaton: T,
+    ) -> Result<ZeroTrieSortedSearch<'_, 'p, T>, AllocError>
+        ensures pairs { IfOk result (λ s. (m : Map)
+            → Means (Self.kind self.now) (Self.bytes self.now) m
+            → s.left ≡ to_come (accepted (T.accepts automaton)
+            (within (bound_map (λ b. b.now) from.entry) (bound_map (λ b. b.now) to.entry) m))) }
+        ensures automaton { IfOk result (λ s. s.automaton ≡ automaton) }
+        ensures most { IfOk result (λ s. s.sorted.most ≤ length (Self.bytes self.now)) }
+        ensures kind { IfOk result (λ s. s.sorted.kind ≡ Self.kind self.now) }
+        ensures bytes { IfOk result (λ s. s.sorted.bytes ≡ Self.bytes self.now) }
+    {
+        let pairs = self.stream_sorted(alloc, from, to)?;
+        Ok(ZeroTrieSortedSearch::new(alloc, pairs, automaton))
     }
 
     /// Returns an iterator over the pairs whose keys are between two bounds, in ascending order of
@@ -221,8 +263,8 @@ pub trait Search: Trie {
     /// assert!(rt; trie.first_from(rt.alloc(), b"true")?.is_none());
     /// ```
     ///
-    /// It compares the edges at one place for each byte that it goes back or down. On malformed bytes
-    /// the result is unspecified. An error means that an allocation failed.
+    /// It reads the edges of each branch that it passes. On malformed bytes the result is unspecified.
+    /// An error means that an allocation failed.
     fn first_from(&self, alloc: Global, key: &[u8]) -> Result<Option<(Vec<u8>, usize)>, AllocError>
         ensures { IfOk result (λ r. (m : Map)
             → Means (Self.kind self.now) (Self.bytes self.now) m

@@ -4,3 +4,4 @@ mod ChangeLemmas
 mod RowLemmas
 mod ManyLemmas
 mod StepLemmas
+mod SelectionLemmas

@@ -9,7 +9,7 @@ use Rattle.std.specs.FinMap.{slice_cmp-IsAntisymmetric, nat_cmp-IsAntisymmetric}
 use Rattle.zerotrie_core.specs.Maps.{Pairs, Ascends}
 use Rattle.zerotrie_sets.specs.Merges.{Entries, joined, chosen, if_some, value_of, both, FirstKeyAbove, KeysAscend}
 
-total : IsTotalOrder (slice_cmp nat_cmp)
+pub total : IsTotalOrder (slice_cmp nat_cmp)
 total = nat_list_cmp_total
 
 -- keys in the order of bytes
@@ -23,24 +23,24 @@ pub above_turned : (k l : List ℕ) → slice_cmp nat_cmp k l ≡ Greater → Be
 above_turned k l e = total.antisymm l k ∙ ap ordering_reverse e
 
 -- what is below the first key of an ascending list is below all
-first_above : {V : Type 0} (k l : List ℕ) (es : Entries V) → Below k l → FirstKeyAbove l es → FirstKeyAbove k es
+pub first_above : {V : Type 0} (k l : List ℕ) (es : Entries V) → Below k l → FirstKeyAbove l es → FirstKeyAbove k es
 first_above k l [] below above = tt
 first_above k l (e ∷ es) below above = total.trans k l e.0 below above
 
-none_there : {V : Type 0} (k : List ℕ) (es : Entries V) → FirstKeyAbove k es → KeysAscend es → value_of k es ≡ None
+pub none_there : {V : Type 0} (k : List ℕ) (es : Entries V) → FirstKeyAbove k es → KeysAscend es → value_of k es ≡ None
 none_there k [] above up = refl
 none_there k (e ∷ es) above up = ap (λ o. cond (is_eq o) (Some e.1) (value_of k es)) above ∙ none_there k es (first_above k e.0 es above up.0) up.1
 
 -- the first key of an ascending list, and any other key
-at_first : {V : Type 0} (k : List ℕ) (v : V) (es : Entries V) → value_of k ((k, v) ∷ es) ≡ Some v
+pub at_first : {V : Type 0} (k : List ℕ) (v : V) (es : Entries V) → value_of k ((k, v) ∷ es) ≡ Some v
 at_first k v es = ap (λ o. cond (is_eq o) (Some v) (value_of k es)) (tied_itself total k)
 
 -- the key with what is chosen, if something is
-chosen_above : {V : Type 0} (k l : List ℕ) (o : Option V) (es : Entries V) → Below k l → FirstKeyAbove k es → FirstKeyAbove k (if_some l o es)
+pub chosen_above : {V : Type 0} (k l : List ℕ) (o : Option V) (es : Entries V) → Below k l → FirstKeyAbove k es → FirstKeyAbove k (if_some l o es)
 chosen_above k l None es below above = above
 chosen_above k l (Some v) es below above = below
 
-chosen_ascends : {V : Type 0} (k : List ℕ) (o : Option V) (es : Entries V) → FirstKeyAbove k es → KeysAscend es → KeysAscend (if_some k o es)
+pub chosen_ascends : {V : Type 0} (k : List ℕ) (o : Option V) (es : Entries V) → FirstKeyAbove k es → KeysAscend es → KeysAscend (if_some k o es)
 chosen_ascends k None es above up = up
 chosen_ascends k (Some v) es above up = (above, up)
 
@@ -70,22 +70,22 @@ module _ {U V : Type 0} (x : List ℕ × U) (xs : Entries U) (y : List ℕ × V)
   joined_greater e = ap (λ o. match_ordering o ((x.0, (Some x.1, None)) ∷ joined xs (y ∷ ys)) ((x.0, (Some x.1, Some y.1)) ∷ joined xs ys) ((y.0, (None, Some y.1)) ∷ joined (x ∷ xs) ys)) e
 
 -- whether a key is another one
-data Tied (q k : List ℕ) : Type 0 where
+pub data Tied (q k : List ℕ) : Type 0 where
   same : q ≡ k → Tied q k
   other : is_eq (slice_cmp nat_cmp q k) ≡ false → Tied q k
 
-tied : (q k : List ℕ) → Tied q k
+pub tied : (q k : List ℕ) → Tied q k
 tied q k = elim (compared q k) [
   | less e ↦ other (ap is_eq e)
   | equal e ↦ same (same_key q k e)
   | greater e ↦ other (ap is_eq e)
 ]
 
-value_same : {V : Type 0} (k : List ℕ) (o : Option V) (es : Entries V) → value_of k es ≡ None → value_of k (if_some k o es) ≡ o
+pub value_same : {V : Type 0} (k : List ℕ) (o : Option V) (es : Entries V) → value_of k es ≡ None → value_of k (if_some k o es) ≡ o
 value_same k None es none = none
 value_same k (Some v) es none = at_first k v es
 
-value_other : {V : Type 0} (q k : List ℕ) (o : Option V) (es : Entries V) → is_eq (slice_cmp nat_cmp q k) ≡ false → value_of q (if_some k o es) ≡ value_of q es
+pub value_other : {V : Type 0} (q k : List ℕ) (o : Option V) (es : Entries V) → is_eq (slice_cmp nat_cmp q k) ≡ false → value_of q (if_some k o es) ≡ value_of q es
 value_other q k None es h = refl
 value_other q k (Some v) es h = ap (λ b. cond b (Some v) (value_of q es)) h
 

@@ -5,5 +5,6 @@ pub mod Choices
 pub mod Rows
 pub mod ManyInputs
 pub mod Operations
+pub mod Selections
 pub mod Changes
 pub mod Laws

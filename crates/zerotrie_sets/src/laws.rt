@@ -2,7 +2,7 @@
 //!
 //! Each function does nothing: a call brings its law into a proof.
 
-ghost use Rattle.zerotrie_sets.specs.Laws.{RowsAreOfMaps, RowsOfAllAreOfMaps, CombinedAreMaps, DiffsAreOfMaps, NoChange};
+ghost use Rattle.zerotrie_sets.specs.Laws.{RowsAreOfMaps, RowsOfAllAreOfMaps, SelectionsAreOfMaps, RowErrorsAreOfKeys, CombinedAreMaps, DiffsAreOfMaps, NoChange};
 
 /// The rows of a merge of two ascending lists ascend, and their keys are those of either list, each
 /// with what each list has for it.
@@ -14,6 +14,18 @@ pub fn rows_are_of_maps()
 /// list, each with what each list has for it.
 pub fn rows_of_all_are_of_maps()
     ensures { RowsOfAllAreOfMaps }
+{}
+
+/// What is selected of the rows of any number of ascending lists ascends, and has for each key what
+/// is selected of the values of the lists.
+pub fn selections_are_of_maps()
+    ensures { SelectionsAreOfMaps }
+{}
+
+/// A row of a merge of any number of ascending lists is an error exactly if the values that the
+/// lists have for its key are one.
+pub fn row_errors_are_of_keys()
+    ensures { RowErrorsAreOfKeys }
 {}
 
 /// A union, an intersection or a difference of two ascending lists ascends, and has for each key

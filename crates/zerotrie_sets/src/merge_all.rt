@@ -1,14 +1,17 @@
 //! Any number of streams merged: a row for each key of any of them.
 
-ghost use Rattle.std.specs.Prelude.{◌≡◌, ◌<◌, length, map, IfOk, Some, None, false, if◌then◌else◌};
+ghost use Rattle.std.specs.Prelude.{◌≡◌, ◌<◌, length, map, IfOk, IfErr, Some, None, false, if◌then◌else◌};
 ghost use Rattle.std.specs.Option.{option_map, option_flatten};
 ghost use Rattle.std.specs.List.{slice_get};
 ghost use Rattle.zerotrie_sets.specs.Streams.{Advances, coming};
 ghost use Rattle.zerotrie_sets.specs.Inputs.{MergesOne};
 ghost use Rattle.zerotrie_sets.specs.Rows.{all_joined, first_of, last_of, EachAscends, IsMergeAll};
+ghost use Rattle.zerotrie_sets.specs.Selections.{present, as_one, selected, IsNoOne, IsRuleError};
+ghost use Rattle.zerotrie_sets.specs.declared.selection.RuleError.{RuleError};
 ghost use Rattle.zerotrie_sets.specs.ManyInputs.{pendings, after_key, least_key, lesser_key, listed_all, AllFetched};
 
 use crate::input::Input;
+use crate::selection::{Rule, RuleError, Selection};
 use std::alloc::{AllocError, Allocator, Global};
 use std::cmp::Ordering;
 use std::marker::Model;
@@ -41,6 +44,8 @@ pub struct MergeAll<S: PairStream, A: Allocator = Global> {
 impl<S: PairStream, A: Allocator> Model for MergeAll<S, A> {
     ghost use Rattle.zerotrie_sets.specs.Streams.{coming};
     ghost use Rattle.zerotrie_sets.specs.Rows.{MergingAll, all_joined};
+    ghost use Rattle.zerotrie_sets.specs.Selections.{present, as_one, selected, IsNoOne, IsRuleError};
+    ghost use Rattle.zerotrie_sets.specs.declared.selection.RuleError.{RuleError};
     ghost use Rattle.zerotrie_sets.specs.ManyInputs.{pendings, listed_all};
 
     ghost Value = { MergingAll };
@@ -121,6 +126,63 @@ impl<S: PairStream, A: Allocator> MergeAll<S, A> {
     {
         last_listed(&self.inputs)
     }
+
+    /// Returns the value that a selection has for the current key, which is what the rule makes of
+    /// the values of the streams that have the key, or `None` if the selection does not take it.
+    ///
+    /// ```
+    /// let mut streams = Vec::new(rt.alloc());
+    /// streams.push(SortedSlice::new(&[(b"a", 1), (b"c", 2)]).ok_or("not sorted")?)?;
+    /// streams.push(SortedSlice::new(&[(b"a", 3), (b"b", 4)]).ok_or("not sorted")?)?;
+    /// let mut rows = MergeAll::new(rt.alloc(), streams)?;
+    /// assert!(rt; rows.advance()?);
+    /// assert_eq!(rt; rows.selected(Selection::Union, Rule::Sum)?, Some(4));
+    /// assert_eq!(rt; rows.selected(Selection::Difference, Rule::Sum)?, None);
+    /// let several = rows.selected(Selection::Union, Rule::Refuse);
+    /// assert!(rt; matches!(several, Err(RuleError::SeveralValues)));
+    /// ```
+    pub fn selected(&self, selection: Selection, rule: Rule) -> Result<Option<usize>, RuleError>
+        ensures ok { IfOk result (λ value. value ≡ selected selection rule self.now.current.1) }
+        ensures allowed { IfOk result (λ _. (e : RuleError)
+            → IsRuleError selection rule self.now.current.1 e → ⊥) }
+        ensures err { IfErr result (IsRuleError selection rule self.now.current.1) }
+    {
+        let first = self.value(0).is_some();
+        if selection.takes(first, count_listed(&self.inputs), self.inputs.len()) {
+            one_listed(&self.inputs, rule)
+        } else {
+            Ok(None)
+        }
+    }
+}
+
+/// Returns how many values were listed.
+fn count_listed<S: PairStream>(inputs: &[Input<S>]) -> usize
+    ensures { result ≡ length (present (listed_all S.current inputs.now)) }
+{
+    let mut count = 0;
+    for input in inputs {
+        count += usize::from(input.listed().is_some());
+    }
+    count
+}
+
+/// Returns what a rule makes of the values that were listed.
+fn one_listed<S: PairStream>(inputs: &[Input<S>], rule: Rule) -> Result<Option<usize>, RuleError>
+    ensures ok { IfOk result (λ one.
+        one ≡ as_one rule (present (listed_all S.current inputs.now))) }
+    ensures allowed { IfOk result (λ _. (e : RuleError)
+        → IsNoOne rule (present (listed_all S.current inputs.now)) e → ⊥) }
+    ensures err { IfErr result (IsNoOne rule (present (listed_all S.current inputs.now))) }
+{
+    let mut one = None;
+    for input in inputs {
+        match rule.one_more(one, input.listed()) {
+            Ok(more) => one = more,
+            Err(error) => return Err(error),
+        }
+    }
+    Ok(one)
 }
 
 /// Returns the first value that was listed.

@@ -1,5 +1,5 @@
 -- Listings of encodings, in which the pairs that begin alike come one after another.
-use Rattle.std.proofs.Common.{◌≡◌, ℕ, zero, suc, ◌+◌, ◌-◌, ◌<◌, ◌≤◌, List, [], ◌∷◌, ◌++◌, length, refl, sym, ◌∙◌, ap, subst, arith, Some, None, Bool, true, false, take, inl, inr, get_or, length-append}
+use Rattle.std.proofs.Common.{◌≡◌, ℕ, zero, suc, ◌+◌, ◌-◌, ◌<◌, ◌≤◌, List, [], ◌∷◌, ◌++◌, ◌⊎◌, length, refl, sym, ◌∙◌, ap, subst, arith, Some, None, Bool, true, false, take, inl, inr, get_or, length-append}
 use Rattle.std.specs.Prelude.{slice_index, nat_lt}
 use Rattle.std.specs.Borrow.{Bor}
 use Rattle.std.proofs.lemmas.Bool.{cases_lt, ltb-true, ltb-false}
@@ -52,7 +52,7 @@ pub entered_longer : (kind : Kind) (key : List ℕ) (d e : ℕ) (branches : List
 entered_longer kind key d e [] h are = tt
 entered_longer kind key d e (o ∷ branches) h are = (
   (let a = are.0 in omega arith),
-  λ left. (let is = are.1 left in let low = is.low in record { sound = is.sound; low = omega arith; some = is.some; edge = is.edge }),
+  λ left. (let is = are.1 left in let low = is.low in record { sound = is.sound; low = omega arith; place = is.place; some = is.some; edge = is.edge }),
   are.2,
 )
 
@@ -60,7 +60,7 @@ entered_same : (kind : Kind) (key key' : List ℕ) (d : ℕ) (branches : List Op
 entered_same kind key key' d [] same are = tt
 entered_same kind key key' d (o ∷ branches) same are = (
   are.0,
-  λ left. (let is = are.1 left in record { sound = is.sound; low = is.low; some = is.some; edge = same o.depth is.low ∙ is.edge }),
+  λ left. (let is = are.1 left in record { sound = is.sound; low = is.low; place = is.place; some = is.some; edge = same o.depth is.low ∙ is.edge }),
   entered_same kind key key' o.depth branches (λ i h. (let a = are.0 in same i (omega arith))) are.2,
 )
 
@@ -139,6 +139,7 @@ goes_branch kind key bytes n w table behind branches o begins edges width same s
           rw (edges, width, same) (sound_branch kind bytes n w table behind at.0 begins),
           subst (λ d. AreEntered kind key d (still_open branches)) (sym depth) (entered_still kind key (length key) branches at.1),
         ),
+        depth,
       ),
     )
 
@@ -189,16 +190,16 @@ module _ (kind : Kind) (key : List ℕ) (outer : List OpenBranch) (o p : OpenBra
   enters t some got edges width behind next =
       let e = slice_index o.behind.now o.next in
       let len = length-append before_edge (e ∷ []) in
-      let back : p.next - 1 ≡ o.next = omega arith in
       let seam : get_or (before_edge ++ e ∷ []) (length before_edge) 0 ≡ e = get_or-append_seam before_edge e [] 0 in
       let here : get_or (before_edge ++ e ∷ []) p.depth 0 ≡ e = ap (λ d. get_or (before_edge ++ e ∷ []) d 0) (depth ∙ sym front_len) ∙ seam in
-      let before : slice_index p.behind.now (p.next - 1) ≡ e = rw (behind, back) refl in (
+      let before : slice_index p.behind.now o.next ≡ e = rw behind refl in (
         subst (IsText kind) (sym got.0.2) (can.0.targets o.next some),
         (
           omega (arith, front_len),
           λ left. record {
             sound = rw (edges, width, behind) can.0;
             low = omega (arith, front_len);
+            place = o.next;
             some = omega arith;
             edge = here ∙ sym before;
           },
@@ -269,7 +270,7 @@ none_of kind key d e o within low left is =
     let run = length-take-le o.depth key (omega arith) in
     let k = o.edges - o.next in
     none_targets (listed kind) (take d key) (take o.depth key) o.edges o.width o.behind.now k (omega arith) (omega arith)
-    (λ j least inside same. is.sound.distinct (o.next - 1) j (omega arith) inside
+    (λ j least inside same. is.sound.distinct is.place j (omega arith) inside
     (sym is.edge ∙ sym (get_or-take d key o.depth 0 low) ∙ ap (λ i. get_or (take d key) i 0) (sym run) ∙ sym same))
 
 first_low : (kind : Kind) (key : List ℕ) (d : ℕ) (branches : List OpenBranch) → AreEntered kind key d branches → FirstLow d branches
@@ -299,16 +300,37 @@ none_open kind key d e (o ∷ branches) within are below =
     ]
 
 -- so it is of a stream that skipped them
-pub skips_all : (ended : Bool) (kind : Kind) (key rest : List ℕ) (old new : List OpenBranch) (d : ℕ) → ((left_in ended kind key rest old).ended ≡ false → AreGrouped kind key rest old) → Leaves d old new → StandsBelow d new
-    → NoneBegins (take d key) (left_in ended kind key [] new).pairs
-skips_all true kind key rest old new d grouped leaves below = tt
-skips_all false kind key rest old new d grouped leaves below =
-    subst (NoneBegins (take d key)) (sym (at_nothing kind key new)) (none_open kind key d (length key) new (omega arith) (leaves.entered kind key (length key) (grouped refl).1) below)
+goes_left : (kind : Kind) (key rest : List ℕ) (old new : List OpenBranch) (d : ℕ) → GoesGrouped kind key rest old → Leaves d old new → AreEntered kind key (length key) new ⊎ IsFresh kind key [] new
+goes_left kind key rest old new d goes leaves = elim goes.1 [
+  | inl are ↦ inl (leaves.entered kind key (length key) are)
+  | inr fresh ↦ leaves.fresh kind key (fresh_alone old fresh)
+]
+  where
+    fresh_alone : (branches : List OpenBranch) → IsFresh kind key rest branches → IsFresh kind key [] branches
+    fresh_alone [] fresh = fresh
+    fresh_alone (o ∷ branches) fresh = (refl, fresh.1, fresh.2, fresh.3)
 
-pub skips_grouped : (ended : Bool) (kind : Kind) (key rest : List ℕ) (old new : List OpenBranch) (d : ℕ) → ((left_in ended kind key rest old).ended ≡ false → AreGrouped kind key rest old) → Leaves d old new
-    → (left_in ended kind key [] new).ended ≡ false → AreGrouped kind key [] new
+-- a branch that was just opened is not below the whole key
+none_fresh : (kind : Kind) (key : List ℕ) (d : ℕ) (branches : List OpenBranch) → d ≤ length key → IsFresh kind key [] branches → StandsBelow d branches → ⊥
+none_fresh kind key d [] low fresh below = fresh
+none_fresh kind key d (o ∷ branches) low fresh below = elim below [
+  | inl deep ↦ (let at = fresh.3 in omega (arith, deep, low, at))
+  | inr over ↦ (let none = over.0 in let some = fresh.1 in omega (arith, none, some))
+]
+
+pub skips_all : (ended : Bool) (kind : Kind) (key rest : List ℕ) (old new : List OpenBranch) (d : ℕ) → d ≤ length key → ((left_in ended kind key rest old).ended ≡ false → GoesGrouped kind key rest old) → Leaves d old new → StandsBelow d new
+    → NoneBegins (take d key) (left_in ended kind key [] new).pairs
+skips_all true kind key rest old new d low grouped leaves below = tt
+skips_all false kind key rest old new d low grouped leaves below =
+    subst (NoneBegins (take d key)) (sym (at_nothing kind key new)) (elim (goes_left kind key rest old new d (grouped refl) leaves) [
+      | inl are ↦ none_open kind key d (length key) new (omega arith) are below
+      | inr fresh ↦ absurd (none_fresh kind key d new low fresh below)
+    ])
+
+pub skips_grouped : (ended : Bool) (kind : Kind) (key rest : List ℕ) (old new : List OpenBranch) (d : ℕ) → ((left_in ended kind key rest old).ended ≡ false → GoesGrouped kind key rest old) → Leaves d old new
+    → (left_in ended kind key [] new).ended ≡ false → GoesGrouped kind key [] new
 skips_grouped true kind key rest old new d grouped leaves going = absurd (cc)
-skips_grouped false kind key rest old new d grouped leaves going = (([], nothing), leaves.entered kind key (length key) (grouped refl).1)
+skips_grouped false kind key rest old new d grouped leaves going = (([], nothing), goes_left kind key rest old new d (grouped refl) leaves)
 
 -- at the start of an encoding no branch is open
 pub starts_grouped : (kind : Kind) (key bytes : List ℕ) (pairs : Pairs) (branches : List OpenBranch) → Lists kind bytes pairs → AreEntered kind key (length key) branches → AreGrouped kind key bytes branches

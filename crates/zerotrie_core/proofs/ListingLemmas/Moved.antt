@@ -2,19 +2,15 @@
 use Rattle.std.proofs.Common.{◌≡◌, ℕ, ◌≤◌, List, [], ◌∷◌, ◌++◌, length, refl, ◌∙◌, ap, arith, take, inl, inr}
 use Rattle.std.proofs.lemmas.List.{take-append-le, length-take, length-take-le}
 use Rattle.zerotrie_base.specs.Kind.{Kind}
-use Rattle.zerotrie_base.specs.Nodes.{Begins}
-use Rattle.zerotrie_base.specs.Nodes as shapes
 use Rattle.std.specs.Prelude.{Result, Ok, Err, IfOk}
 use Rattle.std.specs.declared.alloc.AllocError.{AllocError}
-use Rattle.zerotrie_core.specs.listing.Grouped.{AreGrouped, CanEnter}
+use Rattle.zerotrie_core.specs.listing.Grouped.{CanEnter, GoesGrouped}
 use Rattle.zerotrie_core.specs.listing.Runs.{MovesLiterals, MovesAny}
 use Rattle.zerotrie_core.specs.listing.Moved.{first_depth, EntersNext, MovesOver}
 use Rattle.zerotrie_core.specs.listing.Opened.{Nested, still_open, pairs_open, pairs_left, work_open, work_left}
 use Rattle.zerotrie_core.specs.declared.stream.opened.OpenBranch.{OpenBranch}
 use Rattle.zerotrie_core.specs.declared.stream.Reached.{Reached}
-use Rattle.zerotrie_core.specs.declared.stream.Reached.TheVariants.{Pair, Bytes, End}
-use Rattle.zerotrie_base.proofs.NodeLemmas.Opened.{span_opens}
-use Rattle.zerotrie_core.proofs.ListingLemmas.Grouped.{entered_run}
+use Rattle.zerotrie_core.specs.declared.stream.Reached.TheVariants.{Pair, Bytes, Branch, End}
 
 pub run_kept : (d : ℕ) (key run : List ℕ) → d ≤ length key → take d (key ++ run) ≡ take d key
 run_kept d key run low = take-append-le d key run low
@@ -39,17 +35,13 @@ pub first_within : (depth : ℕ) (branches : List OpenBranch) → Nested depth b
 first_within depth [] nested = omega arith
 first_within depth (o ∷ branches) nested = nested.0.low
 
-pub grouped_span : (kind : Kind) (key bytes run rest : List ℕ) (branches : List OpenBranch) → Begins kind bytes (shapes.Shape.span run rest) → AreGrouped kind key bytes branches → AreGrouped kind (key ++ run) rest branches
-grouped_span kind key bytes run rest branches begins at =
-    let has = span_opens at.0.1 run rest begins.1 in
-    ((has.below, has.inner), entered_run kind key run branches at.1)
-
 -- what enters a target moves over the bytes before it, if those list what the open branches do
-module _ (kind : Kind) (key rest : List ℕ) (branches mid : List OpenBranch) (same : pairs_left kind key rest branches ≡ pairs_open kind key mid) (grouped : AreGrouped kind key rest branches → CanEnter kind key (still_open mid))
+module _ (kind : Kind) (key rest : List ℕ) (branches mid : List OpenBranch) (same : pairs_left kind key rest branches ≡ pairs_open kind key mid) (grouped : GoesGrouped kind key rest branches → CanEnter kind key (still_open mid))
     (less : work_open (still_open mid) ≤ work_left rest branches) where
   over_next : (key' rest' : List ℕ) (branches' : List OpenBranch) (v : ℕ) (r : Reached) → EntersNext kind key mid key' rest' branches' r → MovesOver kind key rest branches key' rest' branches' v v r
   over_next key' rest' branches' v Pair enters = absurd enters
-  over_next key' rest' branches' v (Bytes kept) enters = (enters.0, λ are. enters.1 (grouped are), same ∙ enters.2, enters.3, omega (arith, enters.4, less), refl)
+  over_next key' rest' branches' v (Bytes kept) enters = (enters.0, λ goes. (let at = enters.1 (grouped goes) in (at.0, inl at.1)), same ∙ enters.2, enters.3, omega (arith, enters.4, less), refl)
+  over_next key' rest' branches' v Branch enters = absurd enters
   over_next key' rest' branches' v End enters = same ∙ enters
 
   pub over_if : (key' rest' : List ℕ) (branches' : List OpenBranch) (v : ℕ) (r : Result Reached AllocError) → IfOk r (EntersNext kind key mid key' rest' branches') → IfOk r (MovesOver kind key rest branches key' rest' branches' v v)

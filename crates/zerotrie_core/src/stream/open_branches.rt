@@ -1,12 +1,14 @@
 //! The branches that a stream has opened.
 
-ghost use Rattle.std.specs.Prelude.{◌≡◌, ◌<◌, ◌≤◌, ◌∷◌, ℕ, List, [], false, length, reverse, take, IfOk, OnOk, IsTrue};
+ghost use Rattle.std.specs.Prelude.{◌≡◌, ◌<◌, ◌≤◌, ◌∷◌, ℕ, List, [], false, length, reverse, take, IfOk, IfSome, OnOk, IsTrue};
 ghost use Rattle.zerotrie_base.specs.Kind.{Kind};
 ghost use Rattle.zerotrie_core.specs.listing.Opened.{Nested, Stands, Leaves, still_open, pairs_open, pairs_left, work_open, work_left};
 ghost use Rattle.zerotrie_core.specs.listing.Moved.{first_depth};
 ghost use Rattle.zerotrie_core.specs.listing.Grouped.{AreEntered, CanEnter, AreGrouped, StandsBelow};
+ghost use Rattle.zerotrie_core.specs.listing.Wanted.{PassesTargets, IsNextWanted};
 ghost use Rattle.zerotrie_core.specs.declared.stream.opened.OpenBranch.{OpenBranch};
 
+use crate::byte_set::ByteSet;
 use crate::here::Here;
 use crate::stream::opened::OpenBranch;
 use std::alloc::{AllocError, Allocator};
@@ -62,6 +64,33 @@ impl<'a, A: Allocator> OpenBranches<'a, A> {
                 true
             }
             None => false,
+        }
+    }
+
+    /// Returns after how many bytes of the key the innermost branch is that has a target left.
+    #[inline(always)]
+    pub(crate) fn next_depth(&self) -> Option<usize>
+        ensures { (within : ℕ) → Stands within self.now → IfSome result (λ depth. depth ≤ within) }
+    {
+        if self.top.has_next() {
+            return Some(self.top.depth);
+        }
+        match self.outer.as_slice().split_last() {
+            Some((outer, _others)) => Some(outer.depth),
+            None => None,
+        }
+    }
+
+    /// Passes the next targets whose edges are not in the set, of the innermost branch that has one
+    /// left, if that is after this many bytes of the key.
+    #[inline(always)]
+    pub(crate) fn pass(&mut self, depth: usize, wanted: &ByteSet)
+        requires { (within : ℕ) × Stands within self.old }
+        ensures passes { PassesTargets depth wanted.now self.old self.new }
+        ensures next { IsNextWanted depth wanted.now self.new }
+    {
+        if self.has_target() && self.top.depth == depth {
+            self.top.pass(wanted);
         }
     }
 

@@ -7,67 +7,10 @@ ghost use Rattle.zerotrie_base.specs.Cursors.{met};
 ghost use Rattle.zerotrie_core.specs.Places.{ListsAt};
 ghost use Rattle.zerotrie_core.specs.CursorPlaces.{cursor_at};
 ghost use Rattle.zerotrie_search.specs.Lasts.{IsUnder, IsGreatest};
-ghost use Rattle.zerotrie_search.specs.Paths.{IsLeast, IsExact};
+ghost use Rattle.zerotrie_search.specs.Paths.{IsExact};
 
 use zerotrie_core::laws::steps_answer_stored_bytes;
 use zerotrie_core::{CursorPlace, ZeroTrieBuilderOptions, ZeroTrieWithOptions, by_kind};
-
-/// Returns the lesser of two edges, of those that are at least `from`.
-fn lesser(
-    from: usize,
-    found: Option<(u8, CursorPlace)>,
-    byte: u8,
-    after: CursorPlace,
-) -> Option<(u8, CursorPlace)>
-    ensures { (kind : Kind) (bytes : List ℕ) (pairs : Pairs) (i : ℕ)
-        → IsLeast kind bytes pairs i from found
-        → i < length (met pairs) → slice_index (met pairs) i ≡ byte
-        → ListsAt kind (cursor_at bytes after) (residual byte pairs)
-        → IsLeast kind bytes pairs (i + 1) from result }
-{
-    if (byte as usize) < from {
-        return found;
-    }
-    match found {
-        Some((least, _after)) if least <= byte => found,
-        _ => Some((byte, after)),
-    }
-}
-
-/// Returns the least edge that is at least `from`, and the place after it.
-fn least_from<K: ZeroTrieWithOptions>(
-    bytes: &[u8],
-    place: CursorPlace,
-    from: usize,
-) -> Option<(u8, CursorPlace)>
-    ensures { (pairs : Pairs) → ListsAt K.kind (cursor_at bytes.now place) pairs
-        → IsLeast K.kind bytes.now pairs (length (met pairs)) from result }
-{
-    let mut first = place;
-    let edge = first.probe::<K>(bytes, 0)?;
-    let mut found = lesser(from, None, edge.byte, first);
-    for index in 1..edge.total_siblings as usize {
-        let mut after = place;
-        let Some(edge) = after.probe::<K>(bytes, index) else {
-            return found;
-        };
-        found = lesser(from, found, edge.byte, after);
-    }
-    found
-}
-
-/// Calls `least_from` for the kind that the options name.
-pub(crate) fn edge_from(
-    options: ZeroTrieBuilderOptions,
-    bytes: &[u8],
-    place: CursorPlace,
-    from: usize,
-) -> Option<(u8, CursorPlace)>
-    ensures { (pairs : Pairs) → ListsAt (kind_with options) (cursor_at bytes.now place) pairs
-        → IsLeast (kind_with options) bytes.now pairs (length (met pairs)) from result }
-{
-    by_kind!(options.kind(), least_from::<_>(bytes, place, from))
-}
 
 /// Returns whether an edge is below a limit, if there is one.
 fn is_under(limit: Option<usize>, byte: u8) -> bool

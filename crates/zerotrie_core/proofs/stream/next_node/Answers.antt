@@ -1,12 +1,12 @@
-use Rattle.std.proofs.Common.{◌≡◌, ◌≤◌, ◌<◌, ◌+◌, ◌∷◌, ◌++◌, [], ◌∙◌, ap, arith, inl, inr, length, refl, subst, sym}
+use Rattle.std.proofs.Common.{◌≡◌, ◌<◌, ◌++◌, ◌∙◌, ap, arith, inl, length, refl, subst, sym}
 use Rattle.std.proofs.lemmas.Grind.{common_steps}
 use Rattle.zerotrie_base.specs.Maps.{with_run}
 use Rattle.zerotrie_base.specs.Nodes as shapes
 use Rattle.zerotrie_core.specs.listing.Listed.{listed}
-use Rattle.zerotrie_core.specs.listing.Opened.{Nested, Stands, still_open, work_open}
-use Rattle.zerotrie_core.proofs.ListingLemmas.Left.{first_open, at_end, at_nothing, at_value, at_literals, at_span, at_branch, branch_less, literals_shorter, read_shorter, stands_longer, stands_run, still_nested, still_pairs, still_less, span_end, branch_end}
-use Rattle.zerotrie_core.proofs.ListingLemmas.Grouped.{goes_value, goes_branch, goes_next, moved_any}
-use Rattle.zerotrie_core.proofs.ListingLemmas.Moved.{run_kept, literals_kept, grouped_span, over_if}
+use Rattle.zerotrie_core.specs.listing.Opened.{Nested, Stands, still_open}
+use Rattle.zerotrie_core.proofs.ListingLemmas.Left.{first_open, at_end, at_value, at_literals, at_span, at_branch, branch_less, literals_shorter, read_shorter, stands_longer, stands_run, still_nested, still_pairs, still_less, span_end, branch_end}
+use Rattle.zerotrie_core.proofs.ListingLemmas.Grouped.{goes_value, goes_span, goes_literals, goes_branch, goes_next}
+use Rattle.zerotrie_core.proofs.ListingLemmas.Moved.{run_kept, literals_kept, over_if}
 use Rattle.zerotrie_core.proofs.stream.next_node.Goals as goal
 
 pub behind-requires-in-Some-Span : goal.behind-requires-in-Some-Span
@@ -18,27 +18,13 @@ new-requires g c =
     let b = c.in-Some-Branch.branch in
     branch_end g.K.ZeroTrieWithOptions.kind c.args.here.now.rest.now b.edges b.width b.table.now b.behind.now (rw c.in-Some-Branch.field-0-is at c.in-Some-Branch.ensures.begins)
 
-pub enter_next-requires-in-Some-Branch : goal.enter_next-requires-in-Some-Branch
-enter_next-requires-in-Some-Branch g c =
-    let key = c.args.key.now.items in
-    let b = c.in-Some-Branch.branch in
-    let inner = c.new.result in
-    let outer = still_open c.args.branches.now in
-    let len : c.len-kept.result ≡ length key = grind (arith, common_steps) in
-    let depth : inner.depth ≡ length key = c.new.ensures.depth ∙ len in
-    let some : inner.next < inner.edges = omega (arith, c.new.ensures.next, c.new.ensures.edges, b.some.0) in
-    rw c.in_ok-open-in-Some-Branch.ensures (
-      record { low = omega (arith, depth); inside = omega (arith, some); begins = λ _. rw (c.new.ensures.begin, c.new.ensures.next) refl },
-      subst (λ d. Nested d outer) (sym depth) (still_nested (length key) c.args.branches.now c.requires),
-    )
-
 pub returns-in-None : goal.returns-in-None
 returns-in-None g c =
     let kind = g.K.ZeroTrieWithOptions.kind in
     let key = c.args.key.now.items in
     let rest = c.args.here.now.rest.now in
     let branches = c.args.branches.now in
-    over_if kind key rest branches branches (at_end kind key rest branches c.in-None.ensures.node) (λ are. goes_next kind key rest branches c.requires (are.0, inl are.1)) (omega (arith, still_less branches))
+    over_if kind key rest branches branches (at_end kind key rest branches c.in-None.ensures.node) (λ goes. goes_next kind key rest branches c.requires goes) (omega (arith, still_less branches))
     c.enter_next.new.key.items c.enter_next.new.here.rest.now c.enter_next.new.branches c.args.value.now c.enter_next.result (c.enter_next.ensures kind)
 
 pub returns-in-Some-Value : goal.returns-in-Some-Value
@@ -53,7 +39,7 @@ returns-in-Some-Value g c =
     let begins = rw c.in-Some-Value.field-0-is at c.in-Some-Value.ensures.begins in
     let short = read_shorter kind rest (shapes.Shape.value number after) read in
     rw c.behind.ensures
-    (c.requires, λ are. goes_value kind key rest after number branches begins (are.0, inl are.1), at_value kind key rest after number branches read, refl, omega (arith, short))
+    (c.requires, λ goes. (let at = goes_value kind key rest after number branches begins goes in (at.0, inl at.1)), at_value kind key rest after number branches read, refl, omega (arith, short))
 
 pub returns-in_ok-here-in-Some-Literal : goal.returns-in_ok-here-in-Some-Literal
 returns-in_ok-here-in-Some-Literal g c =
@@ -66,7 +52,7 @@ returns-in_ok-here-in-Some-Literal g c =
     let moves = c.in_ok-here-in-Some-Literal.ensures in
     let shorter = literals_shorter key rest key' after moves in (
       stands_longer (length key) (length key') branches shorter.1 c.requires,
-      λ are. moved_any kind key rest key' after branches (inr moves) are,
+      λ goes. goes_literals kind key rest key' after branches moves goes,
       at_literals kind key rest key' after branches (first_open (length key) branches c.requires) moves,
       literals_kept c.len-kept.result key rest key' after (omega (arith, c.len-kept.ensures)) moves,
       omega (arith, shorter.0),
@@ -86,7 +72,7 @@ returns-in_ok-extend_from_slice-in-Some-Span g c =
     let short = read_shorter kind rest (shapes.Shape.span run after) read in
     rw (c.in_ok-extend_from_slice-in-Some-Span.ensures.items, c.behind-in-Some-Span.ensures) (
       stands_run key run branches c.requires,
-      λ are. grouped_span kind key rest run after branches begins are,
+      λ goes. goes_span kind key rest run after branches begins goes,
       at_span kind key rest run after branches (first_open (length key) branches c.requires) read,
       run_kept c.len-kept.result key run (omega (arith, c.len-kept.ensures)),
       omega (arith, short),
@@ -115,11 +101,12 @@ returns-in_ok-open-in-Some-Branch g c =
       subst (λ d. Nested d outer) (sym depth) (still_nested (length key) branches c.requires),
     ) in
     let fresh = branch_less kind rest b.edges b.width b.table.now b.behind.now outer branches inner read new'.edges new'.width new'.behind new'.next new'.begin (still_less branches) in
-    let less : work_open mid ≤ length rest + work_open branches = rw c.in_ok-open-in-Some-Branch.ensures (omega (arith, fresh)) in
-    over_if kind key rest branches mid
-    (ap (λ ps. with_run key (listed kind rest) ++ ps) (sym (still_pairs kind key branches c.requires))
-    ∙ rw c.in_ok-open-in-Some-Branch.ensures (at_branch kind key rest b.edges b.width b.table.now b.behind.now outer inner read new'.edges new'.width new'.behind new'.next depth ∙ at_nothing kind key (inner ∷ outer)))
-    (λ are. goes_next kind key [] mid stands
-    (rw c.in_ok-open-in-Some-Branch.ensures (goes_branch kind key rest b.edges b.width b.table.now b.behind.now branches inner begins new'.edges new'.width new'.behind some depth (are.0, inl are.1))))
-    (omega (arith, still_less mid, less))
-    c.enter_next-in-Some-Branch.new.key.items c.enter_next-in-Some-Branch.new.here.rest.now c.enter_next-in-Some-Branch.new.branches c.args.value.now c.enter_next-in-Some-Branch.result (c.enter_next-in-Some-Branch.ensures kind)
+    rw c.nowhere.ensures (
+      stands,
+      λ goes. rw c.in_ok-open-in-Some-Branch.ensures (goes_branch kind key rest b.edges b.width b.table.now b.behind.now branches inner begins new'.edges new'.width new'.behind some depth goes),
+      ap (λ ps. with_run key (listed kind rest) ++ ps) (sym (still_pairs kind key branches c.requires))
+          ∙ rw c.in_ok-open-in-Some-Branch.ensures (at_branch kind key rest b.edges b.width b.table.now b.behind.now outer inner read new'.edges new'.width new'.behind new'.next depth),
+      refl,
+      rw c.in_ok-open-in-Some-Branch.ensures fresh,
+      refl,
+    )

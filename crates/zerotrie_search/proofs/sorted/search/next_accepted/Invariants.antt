@@ -1,0 +1,19 @@
+use Rattle.std.proofs.Common.{◌≡◌, ◌≤◌, []}
+use Rattle.zerotrie_core.specs.WellFormed.{IsWellFormed}
+use Rattle.zerotrie_search.specs.Searches.{accepted_left}
+use Rattle.zerotrie_search.specs.Trails.{IsTrail}
+use Rattle.zerotrie_search.proofs.sorted.search.next_accepted.Given as goal
+
+abbrev pub invariant-loop-pairs : goal.invariant-loop-pairs
+invariant-loop-pairs g l =
+    let accepts = g.T.Automaton.accepts l.automaton in
+    record {
+      trail : IsTrail (g.T.Automaton.IsAfter l.automaton) (g.T.Automaton.accepts_from l.automaton) accepts [] l.trail.items;
+      same : IsWellFormed l.initial.pairs.kind l.initial.pairs.bytes → accepted_left accepts l.pairs.left ≡ accepted_left accepts l.initial.pairs.left;
+      most : l.pairs.most ≤ l.initial.pairs.most;
+      kind : l.pairs.kind ≡ l.initial.pairs.kind;
+      bytes : l.pairs.bytes ≡ l.initial.pairs.bytes;
+    }
+
+abbrev pub decreases-loop-pairs : goal.decreases-loop-pairs
+decreases-loop-pairs g l = l.pairs.most
