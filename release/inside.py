@@ -33,9 +33,10 @@ def tried(name, what):
 
 
 def fragments():
-    """What the page of the release shows of each language, and what that prints."""
-    page = pathlib.Path(glob.glob(f"{HOME}/*/README.md")[0]).read_text() if glob.glob(f"{HOME}/*/README.md") else ""
-    return {language: body for language, body in re.findall(r"```(c|cpp|rs|python)\n(.*?)```", page, re.S)}
+    """What the page of the release shows of each language, and for Rust a page of its own."""
+    pages = next(HOME.glob("*/share/doc/zerotrie"))
+    text = (pages / "RUST.md").read_text() + (pages.parents[2] / "README.md").read_text()
+    return dict(re.findall(r"```(c|cpp|rs|python)\n(.*?)```", text, re.S))
 
 
 def wanted(body):

@@ -22,7 +22,7 @@ def tried(name, what):
     try:
         what()
         print(f"ok: {name}")
-    except (subprocess.CalledProcessError, AssertionError) as error:
+    except Exception as error:  # one more line that failed
         print(f"failed: {name}: {error} {getattr(error, 'stderr', '')}")
 
 

@@ -150,7 +150,8 @@ typedef enum zerotrie_status ZEROTRIE_ENUM {
     ZEROTRIE_MIXED_CASE = 4,
     /** zerotrie_dense_build(): a text has the delimiter in it */
     ZEROTRIE_ILLEGAL_DELIMITER = 5,
-    /** zerotrie_build() and zerotrie_index_build(): a key comes twice */
+    /** zerotrie_build() and zerotrie_index_build(): a key comes twice; zerotrie_combine(): more than
+     * one trie has a key, and the rule is ZEROTRIE_REFUSE */
     ZEROTRIE_DUPLICATE_KEY = 6,
     /** zerotrie_build_sorted(): the keys don't ascend strictly by their bytes */
     ZEROTRIE_UNSORTED = 7,
@@ -179,14 +180,21 @@ typedef enum zerotrie_status ZEROTRIE_ENUM {
     ZEROTRIE_DAMAGED = 18,
     /** zerotrie_open(): a sealed file of another version of the format */
     ZEROTRIE_UNKNOWN_VERSION = 19,
-    /** zerotrie_search_some(), zerotrie_sorted_some(): no search, or no bound, has this number */
+    /** zerotrie_search_some(), zerotrie_search_check(), zerotrie_sorted_some(): no search, or no
+     * bound, has this number */
     ZEROTRIE_UNKNOWN_SEARCH = 20,
     /** zerotrie_search_some(): the pattern is malformed, or the word is not UTF-8 */
     ZEROTRIE_MALFORMED_SEARCH = 21,
     /** zerotrie_search_some(): the pattern, the word or the number of edits is over its limit */
     ZEROTRIE_SEARCH_TOO_LONG = 22,
     /** zerotrie_index_build(): too many keys share a bucket under this seed; this is rare */
-    ZEROTRIE_CROWDED = 23
+    ZEROTRIE_CROWDED = 23,
+    /** zerotrie_combine(): no selection, or no rule, has this number */
+    ZEROTRIE_UNKNOWN_SELECTION = 24,
+    /** zerotrie_combine(): the sum of the values of a key is 2^64 or more */
+    ZEROTRIE_SUM_TOO_LARGE = 25,
+    /** zerotrie_combine(): the bytes of a trie are not valid */
+    ZEROTRIE_MALFORMED_TRIE = 26
 } zerotrie_status;
 
 /** The rule of the format that malformed bytes break first. */
@@ -230,6 +238,13 @@ typedef struct zerotrie_pair {
     zerotrie_bytes key; /**< its pointer is never NULL: see ZEROTRIE_TEXT and zerotrie_bytes_of() */
     size_t value;       /**< any number */
 } zerotrie_pair;
+
+/** A trie: its kind, and where its bytes are. The functions zerotrie_trie_..() over it pass its parts
+ * to the function of the same name. */
+typedef struct zerotrie_trie {
+    zerotrie_kind kind;   /**< the kind */
+    zerotrie_bytes bytes; /**< the bytes without a tag, whose pointer is never NULL */
+} zerotrie_trie;
 
 /**
  * A place in a trie, between two bytes of keys, as numbers, which zerotrie_cursor_new() and
@@ -292,6 +307,34 @@ typedef struct zerotrie_search {
     bool beginnings;           /**< true: find all keys that begin with such a key, too */
 } zerotrie_search;
 
+/** Which keys zerotrie_combine() takes. */
+typedef enum zerotrie_selection ZEROTRIE_ENUM {
+    /** the keys of any trie */
+    ZEROTRIE_UNION = 0,
+    /** the keys that every trie has */
+    ZEROTRIE_INTERSECTION = 1,
+    /** the keys that the first trie has, and no other */
+    ZEROTRIE_DIFFERENCE = 2,
+    /** the keys that an odd number of tries has: of two tries, the keys of one alone */
+    ZEROTRIE_SYMMETRIC_DIFFERENCE = 3
+} zerotrie_selection;
+
+/** Which value zerotrie_combine() gives a key that more than one trie has. */
+typedef enum zerotrie_rule ZEROTRIE_ENUM {
+    /** the value of the first trie that has the key */
+    ZEROTRIE_FIRST = 0,
+    /** the value of the last trie that has the key */
+    ZEROTRIE_LAST = 1,
+    /** the sum of the values; ZEROTRIE_SUM_TOO_LARGE if it is 2^64 or more */
+    ZEROTRIE_SUM = 2,
+    /** the least value */
+    ZEROTRIE_MIN = 3,
+    /** the greatest value */
+    ZEROTRIE_MAX = 4,
+    /** none: ZEROTRIE_DUPLICATE_KEY */
+    ZEROTRIE_REFUSE = 5
+} zerotrie_rule;
+
 /** Returns bytes from any pointer; NULL is no bytes. */
 ZEROTRIE_INLINE zerotrie_bytes zerotrie_bytes_of(const void *ptr, size_t len) {
     zerotrie_bytes made;
@@ -337,6 +380,28 @@ ZEROTRIE_INLINE zerotrie_search zerotrie_range(zerotrie_bound from_bound, const 
     made.to_bound = to_bound;
     made.to = zerotrie_bytes_of(to, to_len);
     return made;
+}
+
+/**
+ * Returns the range of the keys that begin with a prefix, for calls that list in the order of bytes.
+ * It writes its upper bound to `above`, which has room for `prefix_len` bytes and stays as long as
+ * the search is used. In IGNORE_CASE too it compares the bytes as they are stored.
+ *
+ *     uint8_t above[2];
+ *     part = zerotrie_listing_between(trie, zerotrie_range_of_prefix("ba", 2, above), &rooms);
+ */
+ZEROTRIE_NEEDS((3))
+ZEROTRIE_INLINE zerotrie_search zerotrie_range_of_prefix(const void *prefix, size_t prefix_len,
+                                                         uint8_t *above) {
+    const zerotrie_bytes from = zerotrie_bytes_of(prefix, prefix_len);
+    size_t len = from.len;
+    /* no byte is above 255, so the one before it grows */
+    while (len > 0 && from.ptr[len - 1] == 255) len--;
+    if (len == 0)
+        return zerotrie_range(ZEROTRIE_INCLUDED, prefix, prefix_len, ZEROTRIE_UNBOUNDED, NULL, 0);
+    memcpy(above, from.ptr, len);
+    above[len - 1]++;
+    return zerotrie_range(ZEROTRIE_INCLUDED, prefix, prefix_len, ZEROTRIE_EXCLUDED, above, len);
 }
 
 /** Returns a search for the keys that a pattern matches, as "s*ing"; see ZEROTRIE_BY_GLOB. */
@@ -569,6 +634,27 @@ zerotrie_status zerotrie_build_many(zerotrie_kind_number kind, const uint8_t *ke
                                     size_t values_len, uint8_t *out, size_t out_len, size_t *len);
 
 /**
+ * Builds the trie of a union, an intersection or a difference of tries of any kinds, in one pass
+ * over their pairs in the order of bytes. Keys are compared as they are stored. The result, `out`
+ * and *len are as in zerotrie_build(), and with these statuses too nothing is written:
+ * ZEROTRIE_MALFORMED_TRIE, as all bytes are validated; ZEROTRIE_UNKNOWN_KIND, also of the number of
+ * a trie; ZEROTRIE_DUPLICATE_KEY and ZEROTRIE_SUM_TOO_LARGE, if a key that is taken is an error by
+ * the rule; and ZEROTRIE_UNKNOWN_SELECTION.
+ *
+ *     const zerotrie_trie shards[] = { first, second, third };
+ *     status = zerotrie_combine(ZEROTRIE_UNION, ZEROTRIE_SUM, shards, 3, ZEROTRIE_PERFECT_HASH,
+ *                               out, sizeof out, &len);
+ *
+ * As much room as all tries have is mostly enough. A call costs about a build of the pairs, and for
+ * each key a comparison with the next key of each trie. Allocates.
+ */
+ZEROTRIE_ANSWERS
+zerotrie_status zerotrie_combine(zerotrie_selection selection, zerotrie_rule rule,
+                                 const zerotrie_trie *tries, size_t count,
+                                 zerotrie_kind_number kind, uint8_t *out, size_t out_len,
+                                 size_t *len);
+
+/**
  * Returns a number of bytes that is enough for any build of at most `count` pairs whose keys have
  * at most `key_bytes` bytes together: 20 for a pair, and 2 for a byte of a key; SIZE_MAX if that is
  * more. Most builds need much less.
@@ -738,6 +824,11 @@ zerotrie_status zerotrie_search_some(zerotrie_kind_number kind, const uint8_t *b
                                      const uint8_t *last, size_t last_len, uint8_t *keys,
                                      size_t keys_len, size_t *ends, size_t ends_len, size_t *values,
                                      size_t values_len, size_t *count, size_t *next_len);
+
+/** Returns the status of a search without a trie: ZEROTRIE_DONE, or the fault that
+ * zerotrie_search_some() returns for it. */
+ZEROTRIE_ANSWERS
+zerotrie_status zerotrie_search_check(const zerotrie_search *search);
 
 /**
  * Lists the pairs whose keys are between two bounds, in the order of bytes in every kind: that of
@@ -1048,6 +1139,20 @@ ZEROTRIE_INLINE zerotrie_status zerotrie_build_many_or_null(zerotrie_kind_number
 #define zerotrie_build_many(...) zerotrie_build_many_or_null(__VA_ARGS__)
 
 ZEROTRIE_MUST_USE
+ZEROTRIE_NEEDS((8))
+ZEROTRIE_INLINE zerotrie_status zerotrie_combine_or_null(zerotrie_selection selection,
+                                                         zerotrie_rule rule,
+                                                         const zerotrie_trie *tries, size_t count,
+                                                         zerotrie_kind_number kind, uint8_t *out,
+                                                         size_t out_len, size_t *len) {
+    const zerotrie_trie no_trie = { ZEROTRIE_SIMPLE_ASCII, { ZEROTRIE_POINTER(const uint8_t *, ""), 0 } };
+    uint8_t byte;
+    return zerotrie_combine(selection, rule, ZEROTRIE_ARRAY(tries, count, &no_trie), kind,
+                            ZEROTRIE_ARRAY(out, out_len, &byte), len);
+}
+#define zerotrie_combine(...) zerotrie_combine_or_null(__VA_ARGS__)
+
+ZEROTRIE_MUST_USE
 ZEROTRIE_NEEDS((4))
 ZEROTRIE_INLINE zerotrie_status zerotrie_encoded_len_or_null(zerotrie_kind_number kind,
                                                              const zerotrie_pair *pairs,
@@ -1299,13 +1404,6 @@ ZEROTRIE_INLINE zerotrie_status zerotrie_index_build_many_or_null(uint64_t seed,
 
 /** @name A trie as one value */
 /** @{ */
-
-/** A trie: its kind, and where its bytes are. The functions over it pass its parts to the function
- * of the same name. */
-typedef struct zerotrie_trie {
-    zerotrie_kind kind;   /**< the kind */
-    zerotrie_bytes bytes; /**< the bytes without a tag */
-} zerotrie_trie;
 
 /** Returns a trie of its parts, which are not validated. If `bytes` is NULL, it has no bytes. */
 ZEROTRIE_INLINE zerotrie_trie zerotrie_trie_of(zerotrie_kind kind, const void *bytes, size_t len) {
@@ -1573,7 +1671,7 @@ ZEROTRIE_INLINE zerotrie_listing zerotrie_listing_found(zerotrie_trie trie, zero
 
 /**
  * Returns a listing of the pairs between the bounds of zerotrie_range(), in the order of bytes in
- * every kind, before its first part. It has no prefix.
+ * every kind, before its first part. For a prefix see zerotrie_range_of_prefix().
  *
  *     zerotrie_search all = zerotrie_range(ZEROTRIE_UNBOUNDED, NULL, 0, ZEROTRIE_UNBOUNDED, NULL,
  *                                          0);
@@ -1687,7 +1785,7 @@ ZEROTRIE_INLINE const char *zerotrie_status_text(uint32_t status) {
     case ZEROTRIE_UNKNOWN_KIND: return "the number is no kind of trie: take 0, 3, 7 or 8";
     case ZEROTRIE_NO_TAG: return "there are no bytes: give all of the tagged bytes";
     case ZEROTRIE_INVALID_TAG:
-        return "the first byte is the tag of no kind: give bytes that were written with a tag";
+        return "these are the bytes of no trie: they are not sealed, and begin with the tag of no kind";
     case ZEROTRIE_NO_ENTRY: return "there is no such entry";
     case ZEROTRIE_RECORD_TRUNCATED: return "the record is cut: give all of its bytes";
     case ZEROTRIE_TRAILING_BYTES: return "bytes follow the record: give its bytes alone";
@@ -1700,6 +1798,9 @@ ZEROTRIE_INLINE const char *zerotrie_status_text(uint32_t status) {
         return "a pattern has at most 63 items, a word at most 63 letters, and at most 254 edits "
                "are allowed";
     case ZEROTRIE_CROWDED: return "too many keys share a bucket: build from another seed";
+    case ZEROTRIE_UNKNOWN_SELECTION: return "no selection, or no rule, has the number";
+    case ZEROTRIE_SUM_TOO_LARGE: return "the sum of the values of a key is 2^64 or more";
+    case ZEROTRIE_MALFORMED_TRIE: return "the bytes of a trie are not valid: get them anew";
     default: return "Unknown status";
     }
 }

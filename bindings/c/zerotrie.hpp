@@ -46,6 +46,7 @@
 #include <system_error>
 #include <tuple>
 #include <type_traits>
+#include <unistd.h>
 #include <utility>
 #include <vector>
 #if __cplusplus >= 202002L
@@ -94,6 +95,22 @@ enum class Kind : uint32_t {
     IgnoreCase = ZEROTRIE_IGNORE_CASE,
 };
 
+/// Which value a key gets that more than one trie has, as in Map::union_of().
+enum class Rule : uint32_t {
+    /// the value of the first trie that has the key
+    First = ZEROTRIE_FIRST,
+    /// the value of the last trie that has the key
+    Last = ZEROTRIE_LAST,
+    /// the sum of the values; an Error if it is 2^64 or more
+    Sum = ZEROTRIE_SUM,
+    /// the least value
+    Min = ZEROTRIE_MIN,
+    /// the greatest value
+    Max = ZEROTRIE_MAX,
+    /// none: an Error
+    Refuse = ZEROTRIE_REFUSE,
+};
+
 /// Where bytes are malformed, and by which rule of the format.
 struct Fault {
     zerotrie_fault cause; ///< the rule that fails first
@@ -120,7 +137,7 @@ public:
     /// A zerotrie_status; ZEROTRIE_DONE for malformed bytes.
     uint32_t status;
     /// The places of the two pairs that are the cause among those that were given, from 0 on; equal
-    /// if one is.
+    /// if one is. Of Map::union_of() and the like the places of two tries.
     std::optional<std::pair<size_t, size_t>> pairs;
     /// Where bytes are malformed.
     std::optional<Fault> fault;
@@ -232,11 +249,16 @@ inline std::string read_file(const std::string &path) {
     return bytes;
 }
 inline void replace_file(const std::string &path, std::string_view bytes) {
-    const std::string beside = path + ".new";
-    File file(std::fopen(beside.c_str(), "wb"));
+    std::string beside = path + ".new";
+    File file(std::fopen(beside.c_str(), "wbx"));
+    // a file of that name is somebody else's
+    for (int turn = 1; !file && errno == EEXIST && turn < 1000; turn++) {
+        beside = path + ".new" + std::to_string(turn);
+        file.reset(std::fopen(beside.c_str(), "wbx"));
+    }
     if (!file) refuse_file(path);
-    const bool written = std::fwrite(bytes.data(), 1, bytes.size(), file.get()) == bytes.size();
-    // what is left in a buffer is written by the last of these
+    const bool written = std::fwrite(bytes.data(), 1, bytes.size(), file.get()) == bytes.size() &&
+                         std::fflush(file.get()) == 0 && fsync(fileno(file.get())) == 0;
     const bool closed = std::fclose(file.release()) == 0;
     if (written && closed && std::rename(beside.c_str(), path.c_str()) == 0) return;
     const int why = errno;
@@ -425,6 +447,7 @@ public:
 
 private:
     friend class detail::Parts;
+    friend class Map;
     friend class Trie;
     Search(zerotrie_search_by by, std::string_view text, uint32_t edits = 0)
         : text_(text), by_(by), edits_(edits) {}
@@ -433,6 +456,17 @@ private:
         Search made = *this;
         made.sorted_ = true;
         return made;
+    }
+    // The keys that begin with a prefix, in that order.
+    static Search sorted_within(std::string_view prefix) {
+        Search made;
+        made.to_ = prefix;
+        const zerotrie_search search =
+            zerotrie_range_of_prefix(prefix.data(), prefix.size(), detail::room(made.to_));
+        made.text_ = prefix;
+        made.to_.resize(search.to.len);
+        made.from_bound_ = search.from_bound, made.to_bound_ = search.to_bound;
+        return made.sorted();
     }
     // The keys after this one, in that order.
     static Search after(std::string_view key) {
@@ -454,13 +488,10 @@ private:
         made.beginnings = beginnings_;
         return made;
     }
-    // Throws Error if it is none: searches no bytes by it.
+    // Throws Error if it is none.
     Search checked() const {
         const zerotrie_search search = raw();
-        size_t count = 0, next_len = 0;
-        detail::check(zerotrie_search_some(ZEROTRIE_SIMPLE_ASCII, nullptr, 0, nullptr, 0, &search,
-                                           false, nullptr, 0, nullptr, 0, nullptr, 0, nullptr, 0,
-                                           &count, &next_len));
+        detail::check(zerotrie_search_check(&search));
         return *this;
     }
     std::string text_, to_, prefix_;
@@ -939,8 +970,11 @@ public:
                                std::optional<std::string_view> below = std::nullopt) const {
         return search(Search::range(from, below).sorted());
     }
-    /// All pairs in the order of bytes in every kind, a part at a time.
-    [[nodiscard]] Stream sorted() const { return range(std::nullopt); }
+    /// The pairs whose keys begin with a prefix, as they are stored, in the order of bytes in every
+    /// kind, a part at a time.
+    [[nodiscard]] Stream sorted(std::string_view prefix = {}) const {
+        return search(Search::sorted_within(prefix));
+    }
     /// The first pair, in the order of bytes, whose key is not below this one. ++ continues in that
     /// order, up to end().
     [[nodiscard]] StreamIterator lower_bound(std::string_view key) const {
@@ -1158,6 +1192,31 @@ public:
         detail::check(zerotrie_tagged_kind(at.ptr, at.len, &kind));
         return from_bytes(static_cast<Kind>(kind), std::string(tagged.substr(1)));
     }
+    /// Of the keys of any of the tries, in this kind. The tries are a range of Trie or of Map, whose
+    /// keys are compared as they are stored. Throws Error if bytes are malformed, and for keys that
+    /// the kind or the rule refuses.
+    ///
+    ///     const Map all = Map::union_of(Kind::PerfectHash, {a.trie(), b.trie()}, Rule::Sum);
+    template <class Tries = std::initializer_list<Trie>>
+    [[nodiscard]] static Map union_of(Kind kind, const Tries &tries, Rule rule = Rule::Last) {
+        return combined(ZEROTRIE_UNION, rule, kind, tries);
+    }
+    /// Of the keys that every trie has; else like union_of().
+    template <class Tries = std::initializer_list<Trie>>
+    [[nodiscard]] static Map intersection_of(Kind kind, const Tries &tries, Rule rule = Rule::First) {
+        return combined(ZEROTRIE_INTERSECTION, rule, kind, tries);
+    }
+    /// Of the keys that the first trie has, and no other; else like union_of().
+    template <class Tries = std::initializer_list<Trie>>
+    [[nodiscard]] static Map difference_of(Kind kind, const Tries &tries) {
+        return combined(ZEROTRIE_DIFFERENCE, Rule::First, kind, tries);
+    }
+    /// Of the keys that an odd number of tries has, as of two tries one alone; else like union_of().
+    template <class Tries = std::initializer_list<Trie>>
+    [[nodiscard]] static Map symmetric_difference_of(Kind kind, const Tries &tries,
+                                                     Rule rule = Rule::Last) {
+        return combined(ZEROTRIE_SYMMETRIC_DIFFERENCE, rule, kind, tries);
+    }
     /// Of the bytes of a file that is sealed or tagged. Throws Error, as Trie::open().
     [[nodiscard]] static Map open(std::string_view file) {
         const Trie opened = Trie::open(file);
@@ -1171,8 +1230,8 @@ public:
     [[nodiscard]] static Map load(const std::string &path) {
         return open(detail::read_file(path));
     }
-    /// Writes a sealed file, with ".new" after its path, and replaces the file of the path by it at
-    /// once. Throws std::system_error.
+    /// Writes a sealed file under a new name, with ".new" after its path, and replaces the file of the
+    /// path by it at once. Throws std::system_error, and then the old file is as it was.
     void save(const std::string &path) const { detail::replace_file(path, seal()); }
     /// A sealed file.
     [[nodiscard]] std::string seal() const { return zerotrie::seal(kind_, bytes_); }
@@ -1264,8 +1323,10 @@ public:
     Stream range(std::optional<std::string_view> from,
                  std::optional<std::string_view> below = std::nullopt) const && = delete;
     /// See Trie::sorted().
-    [[nodiscard]] Stream sorted() const &ZEROTRIE_LIFETIMEBOUND { return trie().sorted(); }
-    Stream sorted() const && = delete;
+    [[nodiscard]] Stream sorted(std::string_view prefix = {}) const &ZEROTRIE_LIFETIMEBOUND {
+        return trie().sorted(prefix);
+    }
+    Stream sorted(std::string_view prefix = {}) const && = delete;
     /// See Trie::lower_bound().
     [[nodiscard]] StreamIterator lower_bound(
         std::string_view key) const &ZEROTRIE_LIFETIMEBOUND {
@@ -1321,6 +1382,68 @@ public:
     friend bool operator!=(const Map &a, const Map &b) noexcept { return !(a == b); }
 
 private:
+    static zerotrie_trie raw(const Trie &trie) noexcept {
+        const auto at = detail::of(trie.bytes());
+        return zerotrie_trie_of(static_cast<zerotrie_kind>(trie.kind()), at.ptr, at.len);
+    }
+    static zerotrie_trie raw(const Map &map) noexcept { return raw(map.trie()); }
+    // Throws the error of the first key that a rule makes one, with the first two tries that have it.
+    static void check_keys(zerotrie_selection selection, uint32_t status,
+                           const std::vector<zerotrie_trie> &tries) {
+        std::vector<StreamIterator> at;
+        for (const auto &one : tries)
+            at.push_back(StreamIterator(static_cast<Kind>(one.kind), detail::text_of(one.bytes),
+                                        Search::sorted_within({})));
+        for (;;) {
+            std::optional<std::string> key;
+            for (const auto &it : at)
+                if (it != StreamIterator() && (!key || it->first < *key)) key = it->first;
+            if (!key) return;
+            std::vector<size_t> places;
+            size_t sum = 0;
+            bool fits = true;
+            for (size_t place = 0; place < at.size(); place++) {
+                if (at[place] == StreamIterator() || at[place]->first != *key) continue;
+                places.push_back(place);
+                fits = fits && at[place]->second <= SIZE_MAX - sum;
+                sum += at[place]->second;
+                ++at[place];
+            }
+            const bool taken = selection == ZEROTRIE_UNION ||
+                               (selection == ZEROTRIE_INTERSECTION ? places.size() == at.size()
+                                                                   : places.size() % 2 == 1);
+            if (taken && places.size() > 1 && (!fits || status == ZEROTRIE_DUPLICATE_KEY))
+                detail::refuse(Error(status, {places[0], places[1]},
+                                     "tries " + std::to_string(places[0]) + " and " +
+                                         std::to_string(places[1]) + " have " +
+                                         detail::shown(detail::of(*key))));
+        }
+    }
+    template <class Tries>
+    static Map combined(zerotrie_selection selection, Rule rule, Kind kind, const Tries &tries) {
+        std::vector<zerotrie_trie> list;
+        size_t len = 64;
+        for (const auto &trie : tries) {
+            list.push_back(raw(trie));
+            len += list.back().bytes.len;
+        }
+        Map made;
+        made.kind_ = kind;
+        made.bytes_ = detail::written(
+            len,
+            [&](uint8_t *out, size_t room, size_t *written) {
+                return zerotrie_combine(selection, static_cast<zerotrie_rule>(rule), list.data(),
+                                        list.size(), static_cast<uint32_t>(kind), out, room,
+                                        written);
+            },
+            [&](uint32_t status) {
+                if (status == ZEROTRIE_DUPLICATE_KEY || status == ZEROTRIE_SUM_TOO_LARGE)
+                    check_keys(selection, status, list);
+                detail::check(status);
+            });
+        made.size_ = made.trie().size();
+        return made;
+    }
     Kind kind_ = Kind::SimpleAscii;
     std::string bytes_;
     size_t size_ = 0;

@@ -134,7 +134,7 @@ def built():
         try:
             subprocess.run(command, check=True)
         except (OSError, subprocess.CalledProcessError) as error:
-            raise SystemExit(f"{error}: to build the library, install Rust 1.88 or later") from error
+            raise SystemExit(f"{error}: to build the library, install Rust 1.85 or later") from error
         made = [*pathlib.Path(room).glob("**/release/*zerotrie_c.*")]
         return first_of(*(it for it in made if it.suffix in (".so", ".dylib", ".dll")))
 

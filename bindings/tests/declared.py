@@ -27,6 +27,7 @@ NUMBERS = {
     "CursorPlace": 24,
     "Pair": 24,
     "Search": 56,
+    "Source": 24,
 }
 C_NUMBERS = {
     "uint8_t": 1,
@@ -45,6 +46,9 @@ C_NUMBERS = {
     "zerotrie_cursor": 24,
     "zerotrie_pair": 24,
     "zerotrie_search": 56,
+    "zerotrie_selection": 4,
+    "zerotrie_rule": 4,
+    "zerotrie_trie": 24,
 }
 #: the statuses whose texts are those of the library's errors, in the order of docs/CALLING.md
 OF_ERRORS = {
@@ -194,8 +198,8 @@ def statuses():
     by_name = texts_of(header, "status")
     cases = [name for name in by_name if name in numbers]
     texts = [by_name[name] for name in sorted(cases, key=numbers.get)]
-    assert len(texts) == len(by_name) == 24, by_name
-    assert [numbers[name] for name in cases] == [*range(24)], by_name
+    assert len(texts) == len(by_name) == 27, by_name
+    assert [numbers[name] for name in cases] == [*range(27)], by_name
     for number, text in texts_of_errors():
         assert texts[number] == text, (number, text, texts[number])
     in_python = (here / "python/zerotrie/_errors.py").read_text()

@@ -42,6 +42,7 @@ static did call(int line, int at, bool null, size_t n, const char **called) {
     const zerotrie_kind kind = ZEROTRIE_SIMPLE_ASCII;
     const zerotrie_pair pairs[] = { { ZEROTRIE_TEXT("a"), 1 }, { ZEROTRIE_TEXT("b"), 2 } };
     const zerotrie_search search = zerotrie_glob(text, 3);
+    const zerotrie_trie tries[] = { zerotrie_trie_of(kind, trie, sizeof trie), zerotrie_trie_of(kind, tagged + 1, 2) };
     did it;
     memset(&it, 0, sizeof it);
     it.cursor.end = it.cursor.trie = sizeof trie;
@@ -65,6 +66,7 @@ static did call(int line, int at, bool null, size_t n, const char **called) {
     CALL(zerotrie_build, kind, PAIRS, OUT(1), it.numbers);
     CALL(zerotrie_build_sorted, kind, PAIRS, OUT(1), it.numbers);
     CALL(zerotrie_build_many, kind, TEXT(0), THREE(1), THREE(2), OUT(3), it.numbers);
+    CALL(zerotrie_combine, ZEROTRIE_UNION, ZEROTRIE_FIRST, ARRAY(0, tries, 2), kind, OUT(1), it.numbers);
     CALL(zerotrie_encoded_len, kind, PAIRS, it.numbers);
     CALL(zerotrie_why_refused, kind, PAIRS, it.numbers, it.numbers + 1);
     CALL(zerotrie_auto_kind, PAIRS);

@@ -301,6 +301,12 @@ static void owner() {
     for (const auto &each : {small, colors, zerotrie::Map()}) {
         each.save(path);
         CHECK(zerotrie::Map::load(path) == each);
+        // files of somebody else stay
+        for (const auto *name : {".new", ".new1"}) CHECK(std::fclose(std::fopen((path + name).c_str(), "wb")) == 0);
+        each.save(path);
+        CHECK(zerotrie::Map::load(path) == each);
+        for (const auto *name : {".new", ".new1"}) CHECK(std::remove((path + name).c_str()) == 0);
+        CHECK(std::fopen((path + ".new2").c_str(), "rb") == nullptr);
     }
     for (const std::string &none : {room + "/no/such"s, std::string(room)}) {
         try {
@@ -373,7 +379,53 @@ template <class T, class = void> struct takes_passing_text : std::false_type {};
 template <class T>
 struct takes_passing_text<T, std::void_t<decltype(std::declval<const T &>().longest_prefix(std::declval<std::string>()))>> : std::true_type {};
 
+// Unions and the like, of maps and of views, of any kinds.
+static void combinations() {
+    using zerotrie::Rule;
+    using Owned = zerotrie::Map;
+    using Places = std::pair<size_t, size_t>;
+    const Owned map{{"foo", 1}, {"bar", 2}, {"bazzoo", 3}};
+    const Owned more(Kind::PerfectHash, {{"bar", 5}, {"to", 6}});
+    CHECK(Owned::union_of(Kind::SimpleAscii, std::vector<Owned>{map, more}).items().size() == 4);
+    const Owned sums = Owned::union_of(Kind::PerfectHash, {map.trie(), more.trie()}, Rule::Sum);
+    CHECK(sums.size() == 4 && sums.kind() == Kind::PerfectHash && sums.get("bar") == 7 && sums.get("to") == 6);
+    CHECK(Owned::intersection_of(Kind::SimpleAscii, {map.trie(), more.trie()}).get("bar") == 2);
+    CHECK(Owned::intersection_of(Kind::SimpleAscii, {map.trie(), more.trie()}, Rule::Max).get("bar") == 5);
+    CHECK(Owned::difference_of(Kind::SimpleAscii, {map.trie(), more.trie()}).size() == 2);
+    CHECK(Owned::symmetric_difference_of(Kind::SimpleAscii, {map.trie(), more.trie()}).size() == 3);
+    CHECK(Owned::union_of(Kind::SimpleAscii, std::vector<zerotrie::Trie>()).empty());
+    try {
+        CHECK(Owned::union_of(Kind::SimpleAscii, {map.trie(), more.trie()}, Rule::Refuse).empty());
+    } catch (const zerotrie::Error &error) {
+        CHECK(error.status == ZEROTRIE_DUPLICATE_KEY && error.pairs == Places(0, 1));
+        CHECK(std::string(error.what()).find("(tries 0 and 1 have \"bar\")") != std::string::npos);
+    }
+    // the first key that is an error, and not one that is not taken
+    const Owned high{{"bar", SIZE_MAX}, {"to", SIZE_MAX}, {"zoo", 1}};
+    try {
+        CHECK(Owned::intersection_of(Kind::PerfectHash, std::vector<Owned>{Owned{{"to", 0}, {"zoo", 2}}, more}, Rule::Refuse).empty());
+        CHECK(false);
+    } catch (const zerotrie::Error &error) {
+        CHECK(error.pairs == Places(0, 1) && std::string(error.what()).find("have \"to\")") != std::string::npos);
+    }
+    for (const auto &[tries, places] : std::vector<std::pair<std::vector<Owned>, Places>>{
+             {{map, more, high}, {0, 1}}, {{more, high, map}, {0, 1}}, {{high, {{"zoo", 3}}, {{"to", 2}}}, {0, 2}}}) {
+        try {
+            CHECK(Owned::union_of(Kind::PerfectHash, tries, Rule::Sum).empty());
+            CHECK(false);
+        } catch (const zerotrie::Error &error) {
+            CHECK(error.status == ZEROTRIE_SUM_TOO_LARGE && error.pairs == places);
+        }
+    }
+    try {
+        CHECK(Owned::union_of(Kind::SimpleAscii, {zerotrie::Trie(Kind::SimpleAscii, "into"sv)}).empty());
+    } catch (const zerotrie::Error &error) {
+        CHECK(error.status == ZEROTRIE_MALFORMED_TRIE);
+    }
+}
+
 int main(int count, char **arguments) {
+    combinations();
     const Map map{{"foo", 1}, {"bar", 2}, {"bazzoo", 3}};
     const std::string bytes = zerotrie::build(Kind::SimpleAscii, map);
     const auto trie = zerotrie::Trie::checked(Kind::SimpleAscii, bytes);

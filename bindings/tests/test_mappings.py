@@ -35,6 +35,10 @@ def refused(kind, call, *words):
 for pairs, kind, key, index, words in (
     ({"a": 1, "b": -1}, OverflowError, "b", 1, "a value is from 0 to 2**64 - 1: that of key 1, 'b', is -1"),
     ({"a": 1, "b": math.nan}, TypeError, "b", 1, "a value is a whole number, not float: that of key 1, 'b', is nan"),
+    # a column with a gap is all floats
+    ({"a": 1.0, "b": 2.0, "c": math.nan}, TypeError, "c", 2, "not float: that of key 2, 'c', is nan"),
+    ({"a": 1.0, "b": 2.0}, TypeError, "a", 0, "not float: that of key 0, 'a', is 1.0"),
+    ({"a": 1.0, "b": -1}, OverflowError, "b", 1, "that of key 1, 'b', is -1"),
     ({"a": None}, TypeError, "a", 0, "not NoneType: that of key 0, 'a', is None"),
     ({"a": 1, 3: 4}, TypeError, 3, 1, "a key is text or bytes, not int: key 1 is 3"),
     ({"a": 1, "\ud800": 2}, UnicodeEncodeError, "\ud800", 1, "surrogates not allowed: key 1 is "),
@@ -85,6 +89,13 @@ for wrong in (3, None, 1.5, "\ud800", ("foo",), ["foo"]):
         assert wrong not in mapping
     assert (wrong, 1) not in trie.items()
     assert ("de", wrong) not in table and (wrong, "AT") not in table
+
+for wrong in (3, None, "de", "de/AT", ("de",), ("de", "AT", 1), ["de", "AT"]):
+    refused(TypeError, lambda: table[wrong], "a key is a tuple of a prefix and a suffix, not ")
+refused(TypeError, lambda: table.get(("de",)), "a key is a tuple")
+for rows, status, text in (({"a": {"b/c": 1}}, 5, b"b/c"), ({"a": {"\xe5": 1}}, 1, "\xe5".encode()), ({b"\xff": {"b": 1}}, 1, b"\xff")):
+    error = refused(ZeroTrieError, lambda: build_dense(rows), f"a text is {text!r}")
+    assert (error.status, error.key) == (status, text)
 
 # buffers and pickles: from protocol 5 on the bytes go by reference
 large = StrTrie.build({f"{number * 7919 % 100003:06}": number for number in range(30000)})
@@ -197,7 +208,12 @@ with tempfile.TemporaryDirectory() as room:
     path.write_bytes(bytes(index))
     assert Index.open(path) == index and os.listdir(room) == ["a file"]
     index.save(path)
-    refused(ZeroTrieError, lambda: StrTrie.open(path))
+    error = refused(ZeroTrieError, lambda: StrTrie.open(path), "a file: this is the file of an index, and not of a trie")
+    assert (error.status, error.path) == (18, path)
+    path.write_bytes(index.seal()[:-1])
+    refused(ZeroTrieError, lambda: StrTrie.open(path), "a file: the sealed file is damaged")
+    error = refused(ZeroTrieError, lambda: DenseTable.open(path), "a file: this is no file of a dense table: the record is cut")
+    assert (error.status, error.path) == (16, path)
     trie.save(path)
     error = refused(ZeroTrieError, lambda: Index.open(path), "a file: this is the file of a trie, and not of an index")
     assert error.path == path

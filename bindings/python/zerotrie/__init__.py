@@ -82,15 +82,19 @@ from ._readers import (
     COUNT, INDEX, PAIRS, AnyPlace, Place, Reader, Table, Word, accelerated as accelerated,
 )
 from ._search import BY_GLOB, BY_SUBSEQUENCE, Search
-from ._sets import Keyed, chosen, kind_of
+from ._sets import (
+    DIFFERENCE, INTERSECTION, SYMMETRIC_DIFFERENCE, UNION, Keyed, chosen, difference, intersection,
+    kind_of, made_of, symmetric_difference, union,
+)
 from ._tables import dense_parts, index_entries
 from ._version import __version__ as __version__
-from ._views import Found, Items, Keys, Values
+from ._views import Found, Items, Keys, Range, Values
 
 __all__ = [
     "SIMPLE_ASCII", "PERFECT_HASH", "EXTENDED_CAPACITY", "IGNORE_CASE",
     "Cursor", "DenseTable", "Index", "Kind", "StrTrie", "ZeroTrie", "ZeroTrieError",
-    "accelerated", "auto_kind", "build", "build_dense", "build_sorted", "encoded_len", "tagged",
+    "accelerated", "auto_kind", "build", "build_dense", "build_sorted", "difference", "encoded_len",
+    "intersection", "symmetric_difference", "tagged", "union",
 ]
 
 Trie = TypeVar("Trie", bound="_Trie[Any]")
@@ -369,39 +373,32 @@ class _Trie(Reader[Word], _InBytes, Mapping[Any, int]):
         """A view of the values of items()."""
         return Values(self, prefix)
 
-    def range(self, start: Optional[Key] = None, stop: Optional[Key] = None) -> Found[Word]:
+    def range(
+        self, start: Optional[Key] = None, stop: Optional[Key] = None, prefix: Key = b""
+    ) -> Range[Word]:
         """A view of the pairs whose keys are from `start` on and below `stop`, in the order of their
-        bytes in every kind. None: there is no bound, so range() has all pairs in order.
+        bytes in every kind, and begin with a prefix. None: there is no bound, so range() has all
+        pairs in order.
 
         >>> words = StrTrie.build({"tin": 3, "sting": 2, "sing": 1}, PERFECT_HASH)
         >>> list(words.range("sj")), words.first_from("t"), words.first_after("tin")
         ([('sting', 2), ('tin', 3)], ('tin', 3), None)
 
-        It lists a part at a time. In IGNORE_CASE upper case comes before lower case, as bytes are
-        compared as they are stored.
+        It lists a part at a time; reversed() of it begins with the last pair. In IGNORE_CASE upper
+        case comes before lower case, as bytes are compared as they are stored.
         """
-        return Found(self, search=Search.range(start, stop))
+        return Range(self, search=Search.within(key_bytes(prefix), start, stop))
 
     def first_from(self, key: Key) -> Optional[tuple[Word, int]]:
         """The first pair, in the order of bytes, whose key is not below this one. None: there is
         none.
         """
-        return self._first(Search.range(key_bytes(key), None))
+        return self._end(False, INCLUDED, key)
 
     def first_after(self, key: Key) -> Optional[tuple[Word, int]]:
         """The first pair, in the order of bytes, whose key is after this one. None: there is none.
         """
-        return self._first(Search.after(key))
-
-    def _first(self, search: Search) -> Optional[tuple[Word, int]]:
-        """The first pair of a range."""
-        part: Sequence[Any] = ()
-        room, status = 64, TOO_SMALL
-        while status == TOO_SMALL and not part:
-            part, _, status, room = self._part(PAIRS, b"", None, room, 1, search.address(), True)
-            if status != TOO_SMALL:
-                check_status(status)
-        return part[0] if part else None
+        return self._end(False, EXCLUDED, key)
 
     def last(self) -> Optional[tuple[Word, int]]:
         """The last pair, in the order of bytes. None: there is none.
@@ -410,26 +407,18 @@ class _Trie(Reader[Word], _InBytes, Mapping[Any, int]):
         >>> words.last(), words.last_before("tin"), words.last_up_to("t")
         (('tin', 3), ('sting', 2), ('sting', 2))
         """
-        return self._last(UNBOUNDED, b"")
+        return self._end(True, UNBOUNDED, b"")
 
     def last_before(self, key: Key) -> Optional[tuple[Word, int]]:
         """The last pair, in the order of bytes, whose key is before this one. None: there is none.
         """
-        return self._last(EXCLUDED, key_bytes(key))
+        return self._end(True, EXCLUDED, key)
 
     def last_up_to(self, key: Key) -> Optional[tuple[Word, int]]:
         """The last pair, in the order of bytes, whose key is this one or before it. None: there is
         none.
         """
-        return self._last(INCLUDED, key_bytes(key))
-
-    def _last(self, bound: int, key: bytes) -> Optional[tuple[Word, int]]:
-        """The last pair up to a bound."""
-        value = c_size_t()
-        view, kind, at, length = self._lent()
-        found = found_key(lambda *room: lib.zerotrie_last_within(
-            kind, at, length, UNBOUNDED, b"", 0, bound, key, len(key), *room, value))
-        return None if found is None else (self._word(found), value.value)
+        return self._end(True, INCLUDED, key)
 
     def first_key_of(self, value: int) -> Optional[Word]:
         """The first key of items() that has this value. None: no key has it. It reads the pairs up
@@ -478,9 +467,9 @@ class _Trie(Reader[Word], _InBytes, Mapping[Any, int]):
     def __and__(self: Trie, other: Keyed) -> Trie:
         """A trie of the pairs whose keys the other mapping or set has, too.
 
-        This and the next two build a trie, of the kind of auto_kind(), but IGNORE_CASE or
+        This and the next three build a trie, of the kind of auto_kind(), but IGNORE_CASE or
         EXTENDED_CAPACITY if this trie or the other one is. Keys are compared as bytes, and letters
-        in either case if one of both tries is IGNORE_CASE.
+        in either case if one of both tries is IGNORE_CASE. union() takes any number of tries.
         """
         return self._chosen(other, True)
 
@@ -494,8 +483,10 @@ class _Trie(Reader[Word], _InBytes, Mapping[Any, int]):
         """
         if not isinstance(other, Mapping):
             return NotImplemented
+        if kind_of(self, other) != IGNORE_CASE:
+            return made_of(UNION, "last", (self, self._trie_of(other)), None, type(self))
         left = chosen(self, other, isinstance(other, _Trie), False)
-        return type(self).build([*left.items(), *other.items()], kind_of(self, other))
+        return type(self).build([*left.items(), *other.items()], IGNORE_CASE)
 
     def __ror__(self: Trie, other: Mapping[Any, int]) -> Trie:
         """A trie of the pairs of a mapping and of this one, whose values count."""
@@ -503,11 +494,35 @@ class _Trie(Reader[Word], _InBytes, Mapping[Any, int]):
             return NotImplemented
         return type(self).build(other, kind_of(self)) | self
 
+    def __xor__(self: Trie, other: Mapping[Any, int]) -> Trie:
+        """A trie of the pairs whose keys this trie or the other mapping has, and not both."""
+        if not isinstance(other, Mapping):
+            return NotImplemented
+        right = self._trie_of(other)
+        if kind_of(self, other) != IGNORE_CASE:
+            return made_of(SYMMETRIC_DIFFERENCE, "last", (self, right), None, type(self))
+        return (self - right) | (right - self)
+
+    def __rxor__(self: Trie, other: Mapping[Any, int]) -> Trie:
+        """The same, of a mapping and of this trie."""
+        return self ^ other
+
+    def _trie_of(self: Trie, other: Mapping[Any, int]) -> _Trie[Any]:
+        """The other mapping as a trie."""
+        if isinstance(other, _Trie):
+            return other
+        return type(self).build(other)
+
     def _chosen(self: Trie, other: Keyed, wanted: bool) -> Trie:
         if not isinstance(other, (Mapping, Set)):
             return NotImplemented
-        pairs = chosen(self, other, isinstance(other, _Trie), wanted)
-        return type(self).build(pairs, kind_of(self, other))
+        if kind_of(self, other) == IGNORE_CASE:
+            pairs = chosen(self, other, isinstance(other, _Trie), wanted)
+            return type(self).build(pairs, IGNORE_CASE)
+        if not isinstance(other, _Trie):
+            other = ZeroTrie.build(dict.fromkeys(map(key_bytes, other), 0))
+        selection = INTERSECTION if wanted else DIFFERENCE
+        return made_of(selection, "first", (self, other), None, type(self))
 
     def __iter__(self) -> Iterator[Word]:
         """The keys, as keys() lists them."""
@@ -624,9 +639,18 @@ class DenseTable(_InBytes, Mapping[Any, int]):
 
     @classmethod
     def open(cls: type[AnyDense], path: Path) -> AnyDense:
-        """The table of a file that has its record, mapped into memory. Don't cut or overwrite it."""
+        """The table of a file that has its record, mapped into memory. Don't cut or overwrite it.
+
+        ZeroTrieError, which names the file, if its bytes are no record.
+        """
         with open(path, "rb") as file:
-            return cls(mapped(file))
+            made = cls(mapped(file))
+        try:
+            made._find("", "")
+        except ZeroTrieError as error:
+            text = f"this is no file of a dense table: {error}"
+            raise ZeroTrieError(text, error.status, path=path) from None
+        return made
 
     def save(self, path: Path) -> None:
         """Writes the record to a file, which replaces the old one at once."""
@@ -650,8 +674,7 @@ class DenseTable(_InBytes, Mapping[Any, int]):
         both. ZeroTrieError if the bytes are no record.
         """
         if isinstance(prefix, tuple):
-            first, second = prefix
-            return self._find(first, second, suffix)
+            return self._find(*_both(prefix), suffix)
         return self._find(prefix, suffix, default)
 
     def _find(self, prefix: Key, suffix: Key, default: Any = None) -> Any:
@@ -665,7 +688,7 @@ class DenseTable(_InBytes, Mapping[Any, int]):
 
     def __getitem__(self, key: tuple[Key, Key]) -> int:
         """The value of a prefix and a suffix. KeyError if there is none."""
-        value: Optional[int] = self._find(*key)
+        value: Optional[int] = self._find(*_both(key))
         if value is None:
             raise KeyError(key)
         return value
@@ -805,6 +828,13 @@ class Index(Table, _InBytes, Mapping[Any, int]):
 
     def __repr__(self) -> str:
         return f"<{type(self).__name__} {_first_pairs(self)}, {self.nbytes} bytes>"
+
+
+def _both(key: Any) -> tuple[Key, Key]:
+    """The two texts that are a key of a dense table."""
+    if not isinstance(key, tuple) or len(key) != 2:
+        raise TypeError(f"a key is a tuple of a prefix and a suffix, not {reprlib.repr(key)}")
+    return key[0], key[1]
 
 
 def _first_pairs(mapping: Mapping[Any, int], number: Optional[int] = None) -> str:

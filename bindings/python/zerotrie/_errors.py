@@ -24,8 +24,9 @@ class Kind(IntEnum):
     IGNORE_CASE = 8
 
 
-DONE, UNSORTED, TOO_SMALL, NO_MEMORY, UNKNOWN_KIND = 0, 7, 8, 11, 12
-NO_TAG, INVALID_TAG, NO_ENTRY, DAMAGED, UNKNOWN_VERSION = 13, 14, 15, 18, 19
+DONE, NON_ASCII, MIXED_CASE, ILLEGAL_DELIMITER, DUPLICATE_KEY, UNSORTED = 0, 1, 4, 5, 6, 7
+TOO_SMALL, NO_MEMORY, UNKNOWN_KIND, NO_TAG, INVALID_TAG, NO_ENTRY = 8, 11, 12, 13, 14, 15
+DAMAGED, UNKNOWN_VERSION, SUM_TOO_LARGE, MALFORMED_TRIE = 18, 19, 25, 26
 
 #: The texts of the statuses from 0 on, as zerotrie.h has them. The test compares them.
 TEXTS = (
@@ -43,7 +44,7 @@ TEXTS = (
     "Out of memory: free memory, or build from fewer pairs",
     "the number is no kind of trie: take 0, 3, 7 or 8",
     "there are no bytes: give all of the tagged bytes",
-    "the first byte is the tag of no kind: give bytes that were written with a tag",
+    "these are the bytes of no trie: they are not sealed, and begin with the tag of no kind",
     "there is no such entry",
     "the record is cut: give all of its bytes",
     "bytes follow the record: give its bytes alone",
@@ -53,6 +54,9 @@ TEXTS = (
     "the pattern is malformed, or the word is not UTF-8",
     "a pattern has at most 63 items, a word at most 63 letters, and at most 254 edits are allowed",
     "too many keys share a bucket: build from another seed",
+    "no selection, or no rule, has the number",
+    "the sum of the values of a key is 2^64 or more",
+    "the bytes of a trie are not valid: get them anew",
 )
 
 #: The texts of the rules of the format, by their numbers from 1 on. The test compares them.

@@ -24,6 +24,7 @@ static struct {
     __typeof__(zerotrie_list_some) *list_some;
     __typeof__(zerotrie_search_some) *search_some;
     __typeof__(zerotrie_sorted_some) *sorted_some;
+    __typeof__(zerotrie_last_within) *last_within;
     __typeof__(zerotrie_index_get) *index_get;
     __typeof__(zerotrie_cursor_new) *cursor_new;
     __typeof__(zerotrie_with_prefix) *with_prefix;
@@ -34,8 +35,9 @@ static struct {
 static const char *const names[] = {
     "zerotrie_get", "zerotrie_longest_prefix", "zerotrie_longest_prefix_at",
     "zerotrie_common_prefixes", "zerotrie_list_some", "zerotrie_search_some",
-    "zerotrie_sorted_some", "zerotrie_index_get", "zerotrie_cursor_new", "zerotrie_with_prefix",
-    "zerotrie_cursor_step", "zerotrie_cursor_take_value", "zerotrie_cursor_probe",
+    "zerotrie_sorted_some", "zerotrie_last_within", "zerotrie_index_get", "zerotrie_cursor_new",
+    "zerotrie_with_prefix", "zerotrie_cursor_step", "zerotrie_cursor_take_value",
+    "zerotrie_cursor_probe",
 };
 enum { NAMES = sizeof names / sizeof *names };
 
@@ -43,6 +45,8 @@ enum { NAMES = sizeof names / sizeof *names };
 enum { MANY = 256 };
 /* This many prefixes of a text are found without an allocation. */
 enum { FEW = 32 };
+/* A key of this many bytes that _end() returns needs no room of its own. */
+enum { SHORT = 256 };
 
 /* The number that a Table holds in place of a kind. _readers.py has the same. */
 #define INDEX 0xFFFFFFFF
@@ -552,6 +556,57 @@ static PyObject *reader_part(PyObject *object, PyObject *args) {
     return result;
 }
 
+/* Writes the key of the last pair up to an upper bound, or of the first one from a lower bound on,
+ * in the order of bytes. Returns ZEROTRIE_DONE, ZEROTRIE_NO_ENTRY, an error, or
+ * ZEROTRIE_BUFFER_TOO_SMALL if the key, of *len bytes, has no room. */
+static uint32_t end_within(const Held *held, bool is_last, zerotrie_bound bound,
+                           zerotrie_bytes key, uint8_t *room, size_t size, size_t *len,
+                           size_t *value) {
+    size_t count = 0, next_len = 0;
+    uint32_t status;
+    if (is_last)
+        return library.last_within(held->kind, held->bytes, held->len, ZEROTRIE_UNBOUNDED, key.ptr,
+                                   0, bound, key.ptr, key.len, room, size, len, value);
+    status = library.sorted_some(held->kind, held->bytes, held->len, bound, key.ptr, key.len,
+                                 ZEROTRIE_UNBOUNDED, key.ptr, 0, room, size, len, 1, value, 1,
+                                 &count, &next_len);
+    if (count)
+        return ZEROTRIE_DONE;
+    *len = next_len;
+    return status == ZEROTRIE_DONE ? ZEROTRIE_NO_ENTRY : status;
+}
+
+/* _end(is_last, bound, key): the last pair up to a bound, or the first one from it on. */
+static PyObject *reader_end(PyObject *object, PyObject *args) {
+    uint8_t few[SHORT], *room = few, *grown = NULL;
+    size_t size = sizeof few, len = 0, value = 0;
+    uint32_t status = ZEROTRIE_BUFFER_TOO_SMALL;
+    int is_last, bound;
+    zerotrie_bytes key;
+    PyObject *given, *bytes, *result = NULL;
+    Held *held;
+    if (!PyArg_ParseTuple(args, "piO:_end", &is_last, &bound, &given))
+        return NULL;
+    bytes = bytes_of(given, &key);
+    held = bytes ? held_by(object) : NULL;
+    while (held && room && status == ZEROTRIE_BUFFER_TOO_SMALL) {
+        status = end_within(held, is_last != 0, (zerotrie_bound)bound, key, room, size, &len, &value);
+        if (status == ZEROTRIE_BUFFER_TOO_SMALL) {
+            free(grown);
+            room = grown = malloc(size = len);
+        }
+    }
+    if (held && status == ZEROTRIE_DONE)
+        result = pair_of(held->text, room, len, value);
+    else if (held && status == ZEROTRIE_NO_ENTRY)
+        result = none();
+    else if (held)
+        PyErr_NoMemory();
+    free(grown);
+    Py_XDECREF(bytes);
+    return result;
+}
+
 /* _lent(): the view, the kind, where its bytes are, and how many they are. */
 static PyObject *reader_lent(PyObject *object, PyObject *Py_UNUSED(unused)) {
     Held *held = held_by(object);
@@ -688,6 +743,7 @@ static PyMethodDef reader_methods[] = {
     { "_lent", reader_lent, METH_NOARGS, NULL },
     { "_close", reader_close, METH_NOARGS, NULL },
     { "_part", reader_part, METH_VARARGS, NULL },
+    { "_end", reader_end, METH_VARARGS, NULL },
     { "_values_of", reader_values_of, METH_VARARGS, NULL },
     { "__class_getitem__", reader_of, METH_O | METH_CLASS, NULL },
     { "get", WORDS(reader_get),

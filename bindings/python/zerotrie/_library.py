@@ -25,6 +25,14 @@ class Pair(Structure):
     _fields_ = [("key", Bytes), ("value", c_size_t)]
 
 
+class RawTrie(Structure):
+    """A trie; its bytes are elsewhere."""
+
+    kind: int
+    bytes: Bytes
+    _fields_ = [("kind", c_uint32), ("bytes", Bytes)]
+
+
 class CursorPlace(Structure):
     run: int
     trie: int
@@ -79,6 +87,8 @@ _DECLARED: dict[str, tuple[Any, list[Any]]] = {
     "zerotrie_build": (c_uint32, [c_uint32, *RAW_PAIRS, *BYTES, SIZE]),
     "zerotrie_build_sorted": (c_uint32, [c_uint32, *RAW_PAIRS, *BYTES, SIZE]),
     "zerotrie_build_many": (c_uint32, [c_uint32, *TEXT, *SIZES, *SIZES, *BYTES, SIZE]),
+    "zerotrie_combine": (
+        c_uint32, [c_uint32, c_uint32, POINTER(RawTrie), c_size_t, c_uint32, *BYTES, SIZE]),
     "zerotrie_build_bound": (c_size_t, [c_size_t, c_size_t]),
     "zerotrie_encoded_len": (c_uint32, [c_uint32, *RAW_PAIRS, SIZE]),
     "zerotrie_why_refused": (c_uint32, [c_uint32, *RAW_PAIRS, SIZE, SIZE]),
@@ -97,6 +107,7 @@ _DECLARED: dict[str, tuple[Any, list[Any]]] = {
         c_uint32,
         [c_uint32, *BYTES, *TEXT, POINTER(RawSearch), c_bool, *TEXT, *BYTES, *SIZES, *SIZES, SIZE,
          SIZE]),
+    "zerotrie_search_check": (c_uint32, [POINTER(RawSearch)]),
     "zerotrie_sorted_some": (
         c_uint32,
         [c_uint32, *BYTES, c_uint32, *TEXT, c_uint32, *TEXT, *BYTES, *SIZES, *SIZES, SIZE, SIZE]),
@@ -116,7 +127,7 @@ SHORT = {
     "zerotrie_common_prefixes", "zerotrie_with_prefix", "zerotrie_cursor_new",
     "zerotrie_cursor_step", "zerotrie_cursor_take_value", "zerotrie_cursor_probe",
     "zerotrie_dense_get", "zerotrie_version", "zerotrie_build_bound", "zerotrie_index_get",
-    "zerotrie_last_within",
+    "zerotrie_last_within", "zerotrie_search_check",
 }
 
 HERE = os.path.dirname(os.path.abspath(__file__))

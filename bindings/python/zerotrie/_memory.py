@@ -46,7 +46,10 @@ def trie_in(view: memoryview, at: int) -> tuple[int, memoryview, int, bool]:
     whether it is sealed. The file is at an address.
     """
     kind, begin, length = c_uint32(), c_size_t(), c_size_t()
-    check_status(lib.zerotrie_open(at, len(view), kind, begin, length))
+    status: int = lib.zerotrie_open(at, len(view), kind, begin, length)
+    if status == DAMAGED and holds_index(view, at):
+        raise ZeroTrieError("this is the file of an index, and not of a trie", status)
+    check_status(status)
     trie = view[begin.value : begin.value + length.value]
     return kind.value, trie, at + begin.value, begin.value == SEAL_LEN
 
@@ -100,6 +103,14 @@ def index_in(view: memoryview, at: int) -> tuple[memoryview, int, bool]:
     if view[:SEAL_LEN] != bytes(sealed_index(at + SEAL_LEN, len(content))[:SEAL_LEN]):
         raise error_of(DAMAGED)
     return content, at + SEAL_LEN, True
+
+
+def holds_index(view: memoryview, at: int) -> bool:
+    """Whether the file at an address is the sealed file of an index."""
+    try:
+        return index_in(view, at)[2]
+    except ZeroTrieError:
+        return False
 
 
 def validate(kind: int, at: int, length: int) -> None:

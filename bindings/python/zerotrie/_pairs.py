@@ -13,8 +13,8 @@ from itertools import accumulate, chain
 from typing import Any, Optional, Protocol, Union
 
 from ._errors import (
-    DONE, NO_MEMORY, TEXTS, TOO_SMALL, UNKNOWN_KIND, UNSORTED, Kind, ZeroTrieError, check_status,
-    error_of,
+    DONE, ILLEGAL_DELIMITER, NO_MEMORY, NON_ASCII, TEXTS, TOO_SMALL, UNKNOWN_KIND, UNSORTED, Kind,
+    ZeroTrieError, check_status, error_of,
 )
 from ._library import NOTHING, Pair, lib
 
@@ -92,14 +92,22 @@ def value_array(values: list[Any], keys: list[Any]) -> array[int]:
     try:
         return array("Q", values)
     except (TypeError, OverflowError):
-        numbers = array("Q")
+        numbers, wrong = array("Q"), None
     # to say which one is wrong
     for place, (key, value) in enumerate(zip(keys, values)):
         try:
             numbers.append(whole_number(value, 64, "a value"))
         except (TypeError, OverflowError) as error:
-            text = f"that of key {place}, {reprlib.repr(key)}, is {reprlib.repr(value)}"
-            raise in_row(error, place, key, text) from None
+            # a column with one gap is all floats, and the gap is the cause
+            has_gap = not (isinstance(value, float) and value.is_integer())
+            if has_gap or wrong is None:
+                shown = " ".join(reprlib.repr(value).split())
+                text = f"that of key {place}, {reprlib.repr(key)}, is {shown}"
+                wrong = in_row(error, place, key, text)
+            if has_gap:
+                break
+    if wrong is not None:
+        raise wrong
     return numbers
 
 
@@ -331,5 +339,14 @@ def build_dense(rows: Mapping[Any, Mapping[Any, int]], delimiter: Key = b"/") ->
             *texts, sizes(values), len(values), byte[0], room, len(room), length)
         if status != TOO_SMALL:
             break
-    check_status(status)
+    check_texts(status, chain.from_iterable(words for words, _ in entries), byte)
     return ctypes.string_at(room, length.value)
+
+
+def check_texts(status: int, texts: Iterable[bytes], delimiter: bytes) -> None:
+    """Raises what a status of the build of a dense table of these texts means."""
+    for text in texts:
+        refused = status == NON_ASCII and not text.isascii()
+        if refused or status == ILLEGAL_DELIMITER and delimiter in text:
+            raise ZeroTrieError(f"{TEXTS[status]}: a text is {reprlib.repr(text)}", status, key=text)
+    check_status(status)

@@ -12,8 +12,9 @@ from ctypes import addressof, c_size_t, c_uint8, c_uint16, c_void_p
 from itertools import accumulate
 from typing import TYPE_CHECKING, Any, Generic, Optional, TypeVar, Union, overload
 
-from ._errors import Other, check_status
-from ._library import _DECLARED, EXCLUDED, MADE, Bytes, CursorPlace, RawSearch, lib
+from ._errors import DONE, NO_ENTRY, Other, check_status
+from ._library import _DECLARED, EXCLUDED, MADE, UNBOUNDED, Bytes, CursorPlace, RawSearch, lib
+from ._memory import found_key
 from ._pairs import Key, all_key_bytes, delimiter_bytes, key_bytes, sizes, whole_number
 
 AnyPlace = TypeVar("AnyPlace", bound="Place")
@@ -178,6 +179,31 @@ class Reader(Generic[Word]):
         if what == PAIRS:
             part = list(zip(part, values[: count.value]))
         return part, words[-1] if words else last, status, next_len.value
+
+    def _end(self, is_last: bool, bound: int, key: Key, /) -> Optional[tuple[Word, int]]:
+        """The last pair up to a bound, or the first one from it on, in the order of bytes. None:
+        there is none.
+        """
+        text, value = key_bytes(key), c_size_t()
+        view, kind, at, length, as_text = held_by(self)
+
+        def last(room: Any, most: int, size: c_size_t) -> int:
+            return int(lib.zerotrie_last_within(
+                kind, at, length, UNBOUNDED, b"", 0, bound, text, len(text), room, most, size,
+                value))
+
+        def first(room: Any, most: int, size: c_size_t) -> int:
+            count, next_len = c_size_t(), c_size_t()
+            status: int = lib.zerotrie_sorted_some(
+                kind, at, length, bound, text, len(text), UNBOUNDED, b"", 0, room, most, size, 1,
+                value, 1, count, next_len)
+            if count.value:
+                return DONE
+            size.value = next_len.value
+            return NO_ENTRY if status == DONE else status
+
+        found = found_key(last if is_last else first)
+        return None if found is None else (word_of(found, as_text), value.value)
 
 
 #: The number that a Table holds in place of a kind. _fast.c has the same.

@@ -2,11 +2,11 @@
 
 from __future__ import annotations
 
-from ctypes import addressof, c_size_t, c_uint8
+from ctypes import addressof, c_uint8
 from typing import Any, Optional
 
 from ._errors import check_status
-from ._library import EXCLUDED, INCLUDED, NOTHING, UNBOUNDED, Bytes, RawSearch, lib
+from ._library import EXCLUDED, INCLUDED, UNBOUNDED, Bytes, RawSearch, lib
 from ._pairs import Key, key_bytes, whole_number
 
 BY_RANGE, BY_GLOB, BY_SUBSEQUENCE, BY_EDITS, BY_CHAR_EDITS = range(5)
@@ -17,7 +17,10 @@ class Search:
     texts that its structure points to.
     """
 
-    __slots__ = ("_raw", "_texts", "in_order")
+    __slots__ = ("_raw", "_texts", "in_order", "start", "stop")
+    #: The bounds of a range.
+    start: bytes
+    stop: Optional[bytes]
 
     def __init__(self, by: int, text: bytes, **others: Any) -> None:
         self._raw = RawSearch(by=by, **others)
@@ -37,31 +40,32 @@ class Search:
         return addressof(self._raw)
 
     def checked(self) -> Search:
-        """The search, if it is one: it searches no bytes by it. ZeroTrieError if not."""
-        none, number = (c_size_t * 1)(), c_size_t()
-        check_status(lib.zerotrie_search_some(
-            0, NOTHING, 0, b"", 0, self._raw, False, b"", 0, NOTHING, 0, none, 0, none, 0, number,
-            number))
+        """The search, if it is one. ZeroTrieError if not."""
+        check_status(lib.zerotrie_search_check(self._raw))
         return self
 
     @classmethod
     def range(cls, start: Optional[Key], stop: Optional[Key]) -> Search:
         """The keys from one on and below another one, which are listed in the order of bytes."""
+        first = b"" if start is None else key_bytes(start)
         made = cls(
-            BY_RANGE, b"" if start is None else key_bytes(start),
+            BY_RANGE, first,
             from_bound=UNBOUNDED if start is None else INCLUDED,
             to_bound=UNBOUNDED if stop is None else EXCLUDED)
-        if stop is not None:
-            made._raw.to = made._kept(key_bytes(stop))
+        made.start, made.stop = first, None if stop is None else key_bytes(stop)
+        if made.stop is not None:
+            made._raw.to = made._kept(made.stop)
         made.in_order = True
         return made
 
     @classmethod
-    def after(cls, key: Key) -> Search:
-        """The keys after this one, which are listed in the order of bytes."""
-        made = cls.range(key_bytes(key), None)
-        made._raw.from_bound = EXCLUDED
-        return made
+    def within(cls, prefix: bytes, start: Optional[Key], stop: Optional[Key]) -> Search:
+        """Those of range() that begin with a prefix."""
+        grows = prefix.rstrip(b"\xff")
+        above = grows[:-1] + bytes([grows[-1] + 1]) if grows else None
+        ends = [key_bytes(end) for end in (stop, above) if end is not None]
+        first = prefix if start is None else max(key_bytes(start), prefix)
+        return cls.range(first, min(ends) if ends else None)
 
     @classmethod
     def fuzzy(cls, word: Key, edits: int, beginnings: bool) -> Search:

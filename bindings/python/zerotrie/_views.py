@@ -7,6 +7,7 @@ from itertools import chain, islice
 from typing import TYPE_CHECKING, Any, Optional, cast
 
 from ._errors import Kind
+from ._library import EXCLUDED, UNBOUNDED
 from ._pairs import Key, key_bytes
 from ._readers import COUNT, KEYS, PAIRS, VALUES, Word
 from ._search import Search
@@ -96,6 +97,23 @@ class Found(Items[Word]):
         front = key_bytes(cast("tuple[Any, int]", item)[0])
         keys = chain.from_iterable(self._trie()._parts(KEYS, front, self._search))
         return any(len(key_bytes(key)) == len(front) for key in islice(keys, 1))
+
+
+class Range(Found[Word]):
+    """The pairs between two bounds, in the order of their keys."""
+
+    __slots__ = ()
+
+    def __reversed__(self) -> Iterator[tuple[Word, int]]:
+        """The same pairs, the last one first. Each takes as long as two look-ups."""
+        trie, search = self._trie(), cast(Search, self._search)
+        bound = UNBOUNDED if search.stop is None else EXCLUDED
+        pair = trie._end(True, bound, search.stop or b"")
+        # of malformed bytes too there are no more
+        left = trie.nbytes + 1
+        while pair is not None and left > 0 and key_bytes(pair[0]) >= search.start:
+            yield pair
+            pair, left = trie._end(True, EXCLUDED, pair[0]), left - 1
 
 
 class Values(Listed, ValuesView[int]):

@@ -46,13 +46,13 @@ no_entries (suc n) (x ∷ P) [] V over = refl
 no_entries (suc n) (x ∷ P) (y ∷ S) [] over = refl
 no_entries (suc n) (x ∷ P) (y ∷ S) (v ∷ V) over = no_entries n P S V (λ p s v. over (omega arith) (omega arith) (omega arith))
 
-any_here : {A : Type 0} (P : A → Type 0) (x : A) (xs : List A) → P x → Any P (x ∷ xs)
+pub any_here : {A : Type 0} (P : A → Type 0) (x : A) (xs : List A) → P x → Any P (x ∷ xs)
 any_here P x xs h = (0, x, omega arith, refl, h)
 
-any_there : {A : Type 0} (P : A → Type 0) (x : A) (xs : List A) → Any P xs → Any P (x ∷ xs)
+pub any_there : {A : Type 0} (P : A → Type 0) (x : A) (xs : List A) → Any P xs → Any P (x ∷ xs)
 any_there P x xs any = (suc any.0, any.1, omega (arith, any.2), any.3, any.4)
 
-any_head : {A : Type 0} (P : A → Type 0) (x : A) (xs : List A) (k : ℕ) (y : A) → k < length (x ∷ xs) → get_or (x ∷ xs) k y ≡ y → P y → P x ⊎ Any P xs
+pub any_head : {A : Type 0} (P : A → Type 0) (x : A) (xs : List A) (k : ℕ) (y : A) → k < length (x ∷ xs) → get_or (x ∷ xs) k y ≡ y → P y → P x ⊎ Any P xs
 any_head P x xs zero y some is h = inl (subst P (sym is) h)
 any_head P x xs (suc k) y some is h = inr (k, y, omega arith, is, h)
 

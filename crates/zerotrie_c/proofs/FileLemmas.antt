@@ -1,10 +1,13 @@
 -- Files that are sealed or tagged.
-use Rattle.std.proofs.Common.{◌≡◌, ℕ, ◌+◌, ◌≤◌, ◌<◌, inl, inr, List, ◌++◌, length, take, drop, get_or, sym, ap, ◌∙◌, arith}
+use Rattle.std.proofs.Common.{◌≡◌, ℕ, ◌+◌, ◌≤◌, ◌<◌, inl, inr, List, ◌++◌, length, take, drop, get_or, refl, sym, ap, ◌∙◌, arith}
 use Rattle.std.proofs.lemmas.List.{take_all}
 use Rattle.zerotrie_core.specs.Kind.{Kind, simple_ascii, ignore_case, perfect_hash, extended_capacity, tag}
 use Rattle.zerotrie_any.specs.Tagged.{tagged}
 use Rattle.zerotrie_sealed.specs.Sealed.{magic, header, IsSealed}
-use Rattle.zerotrie_c.specs.Files.{IsNoFile}
+use Rattle.zerotrie_sealed.specs.Faults.{IsSealFault, IsSealRightBefore}
+use Rattle.zerotrie_sealed.specs.declared.reading.SealError.{SealError}
+use Rattle.zerotrie_sealed.specs.declared.reading.SealError.TheVariants.{NoMagic, UnknownVersion, UnknownKind, CutShort, TooLong, Checksum}
+use Rattle.zerotrie_c.specs.Files.{seal_status_of, IsNoFile, IsFileFault}
 
 -- ---- a sealed file
 
@@ -38,3 +41,12 @@ no_sealed_file file begins none kind trie is = elim is [
   | inl sealed ↦ none kind trie sealed
   | inr t ↦ tag_no_magic kind trie (sym (ap (take 8) t) ∙ begins)
 ]
+
+-- the first cause of an error, where the file begins as a sealed one
+pub seal_fault : (file : List ℕ) (e : SealError) → take 8 file ≡ magic → IsSealFault file e → IsSealRightBefore file e → IsFileFault file (seal_status_of e)
+seal_fault file NoMagic begins fault before = absurd (fault begins)
+seal_fault file (UnknownVersion number) begins fault before = inr (inl (begins, refl, before.1, λ same. fault.1 (sym fault.0 ∙ same)))
+seal_fault file (UnknownKind number) begins fault before = inl (begins, refl, λ long. before.1)
+seal_fault file CutShort begins fault before = inl (begins, refl, λ long. (before.1 long).0.1)
+seal_fault file TooLong begins fault before = inl (begins, refl, λ long. before.0.1)
+seal_fault file Checksum begins fault before = inl (begins, refl, λ long. before.0.0.1)

@@ -9,3 +9,4 @@ mod FlatLemmas
 mod FrontsLemmas
 mod BoundLemmas
 mod FileLemmas
+mod SetLemmas

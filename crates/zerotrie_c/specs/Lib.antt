@@ -15,3 +15,4 @@ pub mod Found
 pub mod Entries
 pub mod Dense
 pub mod Indexes
+pub mod Sets

@@ -1,21 +1,19 @@
 -- The searches that C asks for.
 use Rattle.std.specs.Prelude.{◌≡◌, ◌≢◌, ◌<◌, ◌⊎◌, ◌==◌, ◌&&◌, ℕ, List, [], Bool, Option, Some, None, length, if◌then◌else◌}
 use Rattle.std.specs.Str.{chars, IsUtf8}
-use Rattle.std.specs.Range.Bound.{bound_map, bounds_contain}
 use Rattle.std.specs.declared.ops.Bound.{Bound}
 use Rattle.std.specs.declared.ops.Bound.TheVariants.{Included, Excluded, Unbounded}
 use Rattle.zerotrie_core.specs.Maps.{Pairs}
 use Rattle.zerotrie_search.specs.Searches.{accepted}
-use Rattle.zerotrie_search.specs.Sets.{by_bytes, from_left, to_left, has_within, some_front}
+use Rattle.zerotrie_search.specs.Sets.{from_left, to_left, has_within, some_front}
 use Rattle.zerotrie_search.specs.Globs.{items, no_item, matches}
 use Rattle.zerotrie_search.specs.Edits.{is_near}
 use Rattle.zerotrie_search.specs.Pending.{is_near_text}
-use Rattle.zerotrie_search.specs.Words.{letters_of}
-use Rattle.zerotrie_c.specs.Statuses.{unknown_search, malformed_search, search_too_long}
+use Rattle.zerotrie_search.specs.Automata.{IsMalformedWord, IsLongWord}
+use Rattle.zerotrie_search.specs.declared.any.SearchBy.{SearchBy}
+use Rattle.zerotrie_c.specs.Statuses.{done, unknown_search, malformed_search, search_too_long}
 use Rattle.zerotrie_c.specs.Listed.{IsListedSome}
 use Rattle.zerotrie_c.specs.declared.searches.Search.{Search}
-use Rattle.zerotrie_c.specs.declared.searches.Sought.{Sought}
-use Rattle.zerotrie_c.specs.declared.searches.Sought.TheVariants.{Range, Pattern, Within, Near, NearText}
 
 -- the bound of this number at a key, if one has it
 abbrev pub bound_with : ℕ → List ℕ → Option (Bound (List ℕ))
@@ -74,10 +72,13 @@ IsSearchedSome s pairs status old_keys keys old_ends ends old_values values old_
     ⊎ (IsSearchFault s status × (keys ≡ old_keys) × (ends ≡ old_ends) × (values ≡ old_values)
     × (count ≡ old_count) × (next_len ≡ old_next_len))
 
--- a word of private functions: what an automaton accepts
-abbrev pub sought_keys : Sought → List ℕ → Bool
-sought_keys (Range r) = bounds_contain by_bytes (bound_map (λ b. b.now) r.from) (bound_map (λ b. b.now) r.to)
-sought_keys (Pattern g) = matches (items g.pattern.now)
-sought_keys (Within s) = has_within s.0.now
-sought_keys (Near l) = is_near l.edits (letters_of l.word)
-sought_keys (NearText l) = is_near_text l.edits (letters_of l.word)
+-- what is told of a search alone: that it has no fault, or its fault
+abbrev pub IsSearchChecked : Search → ℕ → Type 0
+IsSearchChecked s status = ((status ≡ done) × ((fault : ℕ) → IsSearchFault s fault → ⊥)) ⊎ IsSearchFault s status
+
+-- words of private functions: a word without a fault, and why one is refused
+abbrev pub IsRightWord : SearchBy → List ℕ → Type 0
+IsRightWord by word = (IsMalformedWord by word → ⊥) × (IsLongWord by word → ⊥)
+
+abbrev pub IsWordFault : SearchBy → List ℕ → ℕ → Type 0
+IsWordFault by word status = ((status ≡ malformed_search) × IsMalformedWord by word) ⊎ ((status ≡ search_too_long) × IsLongWord by word)

@@ -5,7 +5,7 @@ ghost use Rattle.zerotrie_sealed.specs.Sealed.{magic, IsSealed};
 ghost use Rattle.zerotrie_c.specs.Numbers.{kind_of};
 ghost use Rattle.zerotrie_c.specs.Builds.{IsHandedOut};
 ghost use Rattle.zerotrie_c.specs.Statuses.{unknown_kind};
-ghost use Rattle.zerotrie_c.specs.Files.{IsOpened};
+ghost use Rattle.zerotrie_c.specs.Files.{seal_status_of, IsOpened};
 
 use crate::numbers::{BUFFER_TOO_SMALL, DAMAGED, DONE, UNKNOWN_KIND, UNKNOWN_VERSION, kind_of};
 use crate::tags::{put_both, zerotrie_tagged_kind};
@@ -24,6 +24,20 @@ fn open_tagged(file: &[u8], kind: &mut u32, at: &mut usize, trie_len: &mut usize
     status
 }
 
+/// Returns the status of an error of a file that begins as a sealed one.
+fn seal_status_of(error: SealError) -> u32
+    ensures { result ≡ seal_status_of error }
+{
+    match error {
+        SealError::UnknownVersion(_) => UNKNOWN_VERSION,
+        SealError::NoMagic => DAMAGED,
+        SealError::UnknownKind(_) => DAMAGED,
+        SealError::CutShort => DAMAGED,
+        SealError::TooLong => DAMAGED,
+        SealError::Checksum => DAMAGED,
+    }
+}
+
 /// Finds the trie in a file that begins as a sealed one.
 fn open_sealed(file: &[u8], kind: &mut u32, at: &mut usize, trie_len: &mut usize) -> u32
     ensures { take 8 file.now ≡ magic
@@ -36,8 +50,7 @@ fn open_sealed(file: &[u8], kind: &mut u32, at: &mut usize, trie_len: &mut usize
             *trie_len = sealed.trie.len();
             DONE
         }
-        Err(SealError::UnknownVersion(_)) => UNKNOWN_VERSION,
-        Err(_) => DAMAGED,
+        Err(error) => seal_status_of(error),
     }
 }
 

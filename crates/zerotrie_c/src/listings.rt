@@ -1,6 +1,6 @@
 //! Whole listings.
 
-ghost use Rattle.std.specs.Prelude.{◌≡◌, ◌≤◌, ◌&&◌, length, IfOk, IfErr, IfSome, IfNone};
+ghost use Rattle.std.specs.Prelude.{◌≡◌, ◌≤◌, ◌+◌, ◌&&◌, ◌++◌, ◌∷◌, [], length, IfOk, IfErr, OnOk, IfSome, IfNone};
 ghost use Rattle.zerotrie_core.specs.Maps.{Pairs, beginning};
 ghost use Rattle.zerotrie_core.specs.Texts.{Lists};
 ghost use Rattle.zerotrie_core.specs.declared.listing.ListError.TheVariants.{OutOfMemory};
@@ -9,15 +9,41 @@ ghost use Rattle.zerotrie_c.specs.Statuses.{unknown_kind};
 ghost use Rattle.zerotrie_c.specs.Listed.{joined, ends_from, values_of, status_if, IsFlat, IsPut, IsGiven, IsListed};
 
 use crate::numbers::{BUFFER_TOO_SMALL, DONE, OUT_OF_MEMORY, UNKNOWN_KIND, trie_of};
-use std::alloc::Global;
+use std::alloc::{AllocError, Global};
 use zerotrie_core::{ListError, Trie, ZeroTrieStream};
 
 /// Keys one after another, where each ends, and their values.
 #[derive(Drop)]
-struct Flat {
-    keys: Vec<u8>,
-    ends: Vec<usize>,
-    values: Vec<usize>,
+pub struct Flat {
+    pub keys: Vec<u8>,
+    pub ends: Vec<usize>,
+    pub values: Vec<usize>,
+}
+
+impl Flat {
+    /// Returns no keys.
+    pub fn new(alloc: Global) -> Self
+        ensures { (result.keys.items ≡ []) × (result.ends.items ≡ []) × (result.values.items ≡ []) }
+    {
+        Flat {
+            keys: Vec::new(alloc),
+            ends: Vec::new(alloc),
+            values: Vec::new(alloc),
+        }
+    }
+
+    /// Adds a key and its value.
+    pub fn push(&mut self, key: &[u8], value: usize) -> Result<(), AllocError>
+        ensures keys { OnOk result (self.new.keys.items ≡ self.old.keys.items ++ key.now) }
+        ensures ends { OnOk result (self.new.ends.items
+            ≡ self.old.ends.items ++ (length self.old.keys.items + length key.now) ∷ []) }
+        ensures values { OnOk result (self.new.values.items ≡ self.old.values.items ++ value ∷ []) }
+    {
+        self.keys.extend_from_slice(key)?;
+        self.ends.push(self.keys.len())?;
+        self.values.push(value)?;
+        Ok(())
+    }
 }
 
 /// Returns the pairs of a stream.
@@ -26,15 +52,11 @@ fn flat_of(alloc: Global, mut pairs: ZeroTrieStream<'_>) -> Result<Flat, ListErr
         IsFlat pairs.entry.left.pairs f.keys.items f.ends.items f.values.items) }
     ensures refused { IfErr result (λ e. e ≡ OutOfMemory) }
 {
-    let mut keys = Vec::new(alloc);
-    let mut ends = Vec::new(alloc);
-    let mut values = Vec::new(alloc);
+    let mut listed = Flat::new(alloc);
     while pairs.advance()? {
-        keys.extend_from_slice(pairs.key())?;
-        ends.push(keys.len())?;
-        values.push(pairs.value())?;
+        listed.push(pairs.key(), pairs.value())?;
     }
-    Ok(Flat { keys, ends, values })
+    Ok(listed)
 }
 
 /// Copies numbers to the beginning of the room, if there is enough.

@@ -1,28 +1,27 @@
 //! Searches, a part at a time.
 
-ghost use Rattle.std.specs.Prelude.{◌≡◌, ◌≤◌, ◌<◌, ◌⊎◌, ℕ, length, IfOk, IfErr, IfSome, IfNone};
+ghost use Rattle.std.specs.Prelude.{◌≡◌, ◌≤◌, ℕ, length, IfOk, IfErr, IfSome, IfNone};
 ghost use Rattle.std.specs.Option.{option_map};
 ghost use Rattle.std.specs.Range.Bound.{bound_map};
-ghost use Rattle.std.specs.Str.{chars};
 ghost use Rattle.zerotrie_core.specs.Maps.{Pairs, beginning};
 ghost use Rattle.zerotrie_core.specs.Texts.{Lists};
+ghost use Rattle.zerotrie_search.specs.Automata.{any_accepts, finds};
 ghost use Rattle.zerotrie_search.specs.Searches.{accepted};
-ghost use Rattle.zerotrie_search.specs.Words.{letters_of};
 ghost use Rattle.zerotrie_c.specs.Numbers.{kind_of};
 ghost use Rattle.zerotrie_c.specs.Statuses.{unknown_kind};
 ghost use Rattle.zerotrie_c.specs.Listed.{left_of, IsListedSome};
-ghost use Rattle.zerotrie_c.specs.Searched.{bound_with, finds_whole, or_beginnings, sought_keys, IsSearchFault, IsSearchedSome};
+ghost use Rattle.zerotrie_c.specs.Searched.{bound_with, finds_whole, or_beginnings, IsSearchChecked, IsSearchFault, IsSearchedSome, IsWordFault, IsRightWord};
 
 use crate::numbers::{
-    MALFORMED_SEARCH, OUT_OF_MEMORY, SEARCH_TOO_LONG, UNKNOWN_KIND, UNKNOWN_SEARCH, trie_of,
+    DONE, MALFORMED_SEARCH, OUT_OF_MEMORY, SEARCH_TOO_LONG, UNKNOWN_KIND, UNKNOWN_SEARCH, trie_of,
 };
 use crate::parts::{left_of, write_some};
 use std::alloc::Global;
 use std::ops::Bound;
 use zerotrie_core::ZeroTrieStream;
 use zerotrie_search::{
-    Automaton, BeginsWith, Glob, GlobError, KeyRange, Levenshtein, LevenshteinChars, Subsequence,
-    ZeroTrieSearch,
+    AnyAutomaton, Automaton, BeginsWith, KeyRange, SearchBy, WordError, ZeroTrieSearch,
+    by_automaton,
 };
 
 /// What is searched, with C's layout. `by` is the number of how keys are found, and the bounds are
@@ -39,16 +38,6 @@ pub struct Search<'q> {
     pub beginnings: bool,
 }
 
-/// The automaton of a search.
-#[derive(Clone, Copy)]
-pub enum Sought<'q> {
-    Range(KeyRange<'q>),
-    Pattern(Glob<'q>),
-    Within(Subsequence<'q>),
-    Near(Levenshtein),
-    NearText(LevenshteinChars),
-}
-
 /// Returns the bound with this number at a key, or `None` if no bound has it.
 pub fn bound_with(number: u32, key: &[u8]) -> Option<Bound<&[u8]>>
     ensures { option_map (bound_map (λ b. b.now)) result ≡ bound_with number key.now }
@@ -61,9 +50,22 @@ pub fn bound_with(number: u32, key: &[u8]) -> Option<Bound<&[u8]>>
     }
 }
 
+/// Returns the automaton of a word, or the status of what is wrong with the word.
+fn word_of(by: SearchBy, word: &[u8]) -> Result<AnyAutomaton<'_>, u32>
+    ensures ok { IfOk result (λ any. any_accepts any ≡ finds by word.now) }
+    ensures right { IfOk result (λ _. IsRightWord by word.now) }
+    ensures fault { IfErr result (IsWordFault by word.now) }
+{
+    match AnyAutomaton::new(by, word) {
+        Ok(any) => Ok(any),
+        Err(WordError::Malformed) => Err(MALFORMED_SEARCH),
+        Err(WordError::TooLong) => Err(SEARCH_TOO_LONG),
+    }
+}
+
 /// Returns the automaton of a search, or the status of its fault.
-fn sought_of<'q>(search: &Search<'q>) -> Result<Sought<'q>, u32>
-    ensures ok { IfOk result (λ sought. sought_keys sought ≡ finds_whole search.now) }
+fn sought_of<'q>(search: &Search<'q>) -> Result<AnyAutomaton<'q>, u32>
+    ensures ok { IfOk result (λ sought. any_accepts sought ≡ finds_whole search.now) }
     ensures faultless { IfOk result (λ _. (fault : ℕ) → IsSearchFault search.now fault → ⊥) }
     ensures fault { IfErr result (IsSearchFault search.now) }
 {
@@ -71,45 +73,26 @@ fn sought_of<'q>(search: &Search<'q>) -> Result<Sought<'q>, u32>
         0 => {
             let from = bound_with(search.from_bound, search.text).ok_or(UNKNOWN_SEARCH)?;
             let to = bound_with(search.to_bound, search.to).ok_or(UNKNOWN_SEARCH)?;
-            Ok(Sought::Range(KeyRange { from, to }))
+            Ok(AnyAutomaton::Range(KeyRange { from, to }))
         }
-        1 => match Glob::new(search.text) {
-            Ok(glob) => Ok(Sought::Pattern(glob)),
-            Err(GlobError::Malformed) => Err(MALFORMED_SEARCH),
-            Err(GlobError::TooLong) => Err(SEARCH_TOO_LONG),
-        },
-        2 => Ok(Sought::Within(Subsequence(search.text))),
-        3 => {
-            let near = near(search.text, search.edits).ok_or(SEARCH_TOO_LONG)?;
-            Ok(Sought::Near(near))
-        }
-        4 => {
-            let Ok(word) = std::str::from_utf8(search.text) else {
-                return Err(MALFORMED_SEARCH);
-            };
-            let near = near_text(word, search.edits).ok_or(SEARCH_TOO_LONG)?;
-            Ok(Sought::NearText(near))
-        }
+        1 => word_of(SearchBy::Glob, search.text),
+        2 => word_of(SearchBy::Subsequence, search.text),
+        3 => word_of(SearchBy::Fuzzy(search.edits), search.text),
+        4 => word_of(SearchBy::FuzzyChars(search.edits), search.text),
         _ => Err(UNKNOWN_SEARCH),
     }
 }
 
-/// Returns the automaton of the keys that few edits of bytes make of a word.
-fn near(word: &[u8], edits: u32) -> Option<Levenshtein>
-    ensures some { IfSome result (λ l. (letters_of l.word ≡ word.now) × (l.edits ≡ edits)
-        × (length word.now ≤ 63) × (edits ≤ 254)) }
-    ensures none { IfNone result ((63 < length word.now) ⊎ (254 < edits)) }
+/// Returns the status of a search without a trie: `DONE` if it has a meaning, and else its fault,
+/// which is what `zerotrie_search_some` returns for it.
+#[unsafe(no_mangle)]
+pub extern "C" fn zerotrie_search_check(search: &Search<'_>) -> u32
+    ensures { IsSearchChecked search.now result }
 {
-    Levenshtein::new(word, u8::try_from(edits).ok()?)
-}
-
-/// Returns the automaton of the keys that few edits of characters make of a word.
-fn near_text(word: &str, edits: u32) -> Option<LevenshteinChars>
-    ensures some { IfSome result (λ l. (letters_of l.word ≡ chars word.now) × (l.edits ≡ edits)
-        × (length (chars word.now) ≤ 63) × (edits ≤ 254)) }
-    ensures none { IfNone result ((63 < length (chars word.now)) ⊎ (254 < edits)) }
-{
-    LevenshteinChars::new(word, u8::try_from(edits).ok()?)
+    match sought_of(search) {
+        Ok(_) => DONE,
+        Err(status) => status,
+    }
 }
 
 /// Writes the next pairs of a stream whose keys an automaton accepts, or begin with such a key.
@@ -142,7 +125,7 @@ fn write_accepted<T: Automaton + Drop>(
 fn write_sought(
     alloc: Global,
     pairs: ZeroTrieStream<'_>,
-    sought: Sought<'_>,
+    sought: AnyAutomaton<'_>,
     beginnings: bool,
     keys: &mut [u8],
     ends: &mut [usize],
@@ -151,37 +134,13 @@ fn write_sought(
     next_len: &mut usize,
 ) -> u32
     ensures { IsListedSome
-        (accepted (or_beginnings beginnings (sought_keys sought.entry)) pairs.entry.left.pairs) result
-        keys.old keys.new ends.old ends.new values.old values.new count.new
+        (accepted (or_beginnings beginnings (any_accepts sought.entry)) pairs.entry.left.pairs)
+        result keys.old keys.new ends.old ends.new values.old values.new count.new
         next_len.old next_len.new }
 {
-    match sought {
-        Sought::Range(range) => {
-            write_accepted(
-                alloc, pairs, range, beginnings, keys, ends, values, count, next_len,
-            )
-        }
-        Sought::Pattern(glob) => {
-            write_accepted(
-                alloc, pairs, glob, beginnings, keys, ends, values, count, next_len,
-            )
-        }
-        Sought::Within(bytes) => {
-            write_accepted(
-                alloc, pairs, bytes, beginnings, keys, ends, values, count, next_len,
-            )
-        }
-        Sought::Near(near) => {
-            write_accepted(
-                alloc, pairs, near, beginnings, keys, ends, values, count, next_len,
-            )
-        }
-        Sought::NearText(near) => {
-            write_accepted(
-                alloc, pairs, near, beginnings, keys, ends, values, count, next_len,
-            )
-        }
-    }
+    by_automaton!(sought, automaton => write_accepted(
+        alloc, pairs, automaton, beginnings, keys, ends, values, count, next_len,
+    ))
 }
 
 /// Like `zerotrie_list_some`, of those pairs whose keys a search finds: a range, a pattern, bytes in

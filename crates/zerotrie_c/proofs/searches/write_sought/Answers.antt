@@ -1,16 +1,19 @@
 use Rattle.zerotrie_c.proofs.searches.write_sought.Goals as goal
 
-pub returns-in-Range : goal.returns-in-Range
-returns-in-Range c = rw c.in-Range.is c.write_accepted.ensures
+pub returns-in-Prefix-by_automaton : goal.returns-in-Prefix-by_automaton
+returns-in-Prefix-by_automaton c = rw c.in-Prefix-by_automaton.is c.write_accepted.ensures
 
-pub returns-in-Pattern : goal.returns-in-Pattern
-returns-in-Pattern c = rw c.in-Pattern.is c.write_accepted-in-Pattern.ensures
+pub returns-in-Range-by_automaton : goal.returns-in-Range-by_automaton
+returns-in-Range-by_automaton c = rw c.in-Range-by_automaton.is c.write_accepted-2.ensures
 
-pub returns-in-Within : goal.returns-in-Within
-returns-in-Within c = rw c.in-Within.is c.write_accepted-in-Within.ensures
+pub returns-in-Glob-by_automaton : goal.returns-in-Glob-by_automaton
+returns-in-Glob-by_automaton c = rw c.in-Glob-by_automaton.is c.write_accepted-3.ensures
 
-pub returns-in-Near : goal.returns-in-Near
-returns-in-Near c = rw c.in-Near.is c.write_accepted-in-Near.ensures
+pub returns-in-Subsequence-by_automaton : goal.returns-in-Subsequence-by_automaton
+returns-in-Subsequence-by_automaton c = rw c.in-Subsequence-by_automaton.is c.write_accepted-4.ensures
 
-pub returns-in-NearText : goal.returns-in-NearText
-returns-in-NearText c = rw c.in-NearText.is c.write_accepted-in-NearText.ensures
+pub returns-in-Fuzzy-by_automaton : goal.returns-in-Fuzzy-by_automaton
+returns-in-Fuzzy-by_automaton c = rw c.in-Fuzzy-by_automaton.is c.write_accepted-5.ensures
+
+pub returns-in-FuzzyChars-by_automaton : goal.returns-in-FuzzyChars-by_automaton
+returns-in-FuzzyChars-by_automaton c = rw c.in-FuzzyChars-by_automaton.is c.write_accepted-6.ensures
