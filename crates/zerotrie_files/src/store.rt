@@ -12,7 +12,6 @@ use crate::found::Found;
 use crate::output::write_output;
 use std::alloc::Global;
 use std::io;
-use std::io::ErrorKind;
 use std::marker::Model;
 
 /// The files of a disk, read and replaced, with a note of what failed.
@@ -107,17 +106,17 @@ impl<D: Disk> Store<D> {
         ensures fault { IfErr result D.is_fault }
         ensures same { self.new.disk ≡ self.old.disk }
         ensures unchanged { OnOk result (self.new ≡ self.old) }
+        ensures unread { IsTrue self.new.unread ↔ IsTrue self.old.unread ⊎ IsFault result }
         ensures unwritten { self.new.unwritten ≡ self.old.unwritten }
         ensures closed { self.new.closed ≡ self.old.closed }
         ensures noted { IsNoted result self.old.unread self.new.unread }
     {
-        match self.disk.find(path) {
+        let outcome = self.disk.find(path);
+        self.unread |= is_fault(&outcome);
+        match outcome {
             Ok(Found::Nothing) => Ok(false),
             Ok(_) => Ok(true),
-            Err(error) => {
-                self.unread |= error.kind() != ErrorKind::OutOfMemory;
-                Err(error)
-            }
+            Err(error) => Err(error),
         }
     }
 

@@ -2,6 +2,7 @@ mod ShownLemmas
 mod MadeLemmas
 mod PlaceLemmas
 mod ListedLemmas
+mod JsonLineLemmas
 mod KeptLemmas
 mod WholeLemmas
 mod UnreadLemmas

@@ -1,52 +1,66 @@
 -- What a build of the pairs answers is what one of the input does.
 use Rattle.std.proofs.Common.{◌≡◌, ℕ, List, Bool, true, false, subst, refl}
 use Rattle.std.specs.Prelude.{not}
+use Rattle.std.specs.Prelude.{None, Some}
 use Rattle.zerotrie_core.specs.Maps.{Pairs}
 use Rattle.zerotrie_lines.specs.Tables.{lowered}
 use Rattle.zerotrie_lines.specs.Reads.{Reads}
 use Rattle.zerotrie_lines.specs.declared.reading.Format.{Format}
 use Rattle.zerotrie_lines.specs.declared.reading.LineEnd.{LineEnd}
+use Rattle.zerotrie_making.specs.Others.{IsOther}
 use Rattle.zerotrie_making.specs.Sources.{IsPairs, NoPairs}
 use Rattle.zerotrie_making.specs.Made.{OfInput, Explains, ExplainsKept}
 use Rattle.zerotrie_core.specs.declared.ZeroTrieBuildError.{ZeroTrieBuildError}
 use Rattle.zerotrie_index.specs.declared.error.ZeroIndexBuildError.{ZeroIndexBuildError}
+use Rattle.zerotrie_making.specs.declared.others.OtherFile.{OtherFile}
 use Rattle.zerotrie_making.specs.declared.plan.Plan.{Plan}
 use Rattle.zerotrie_making.specs.declared.plan.Source.{Source}
-use Rattle.zerotrie_making.specs.declared.plan.Source.TheVariants.{Text, Json}
+use Rattle.zerotrie_making.specs.declared.plan.Source.TheVariants.{Text, Json, JsonLines}
 use Rattle.zerotrie_making.specs.declared.error.Shown.{Shown}
 use Rattle.zerotrie_making.specs.declared.error.MakeError.{MakeError}
-use Rattle.zerotrie_making.specs.declared.error.MakeError.TheVariants.{Line, NotJson, NotPairs, NotPair, Keys, Refused, IndexRefused, OutOfMemory}
+use Rattle.zerotrie_making.specs.declared.error.MakeError.TheVariants.{NotText, Line, NotJson, NotPairs, NotPair, Keys, Refused, IndexRefused, OutOfMemory}
 
-pub of_table : (plan : Plan) (input : List ℕ) (table : Pairs) (Fact : Pairs → Type 0) → (pairs : Pairs) × IsPairs plan.read.source input pairs × (table ≡ lowered plan.read.lower_case pairs)
+pub of_table : (plan : Plan) (input : List ℕ) (table : Pairs) (Fact : Pairs → Type 0) → IsOther input None → (pairs : Pairs) × IsPairs plan.read.source input pairs × (table ≡ lowered plan.read.lower_case pairs)
     → Fact table → OfInput plan input Fact
-of_table plan input table Fact h fact = (h.0, h.1, subst Fact h.2 fact)
+of_table plan input table Fact own h fact = (own, h.0, h.1, subst Fact h.2 fact)
 
-pub explains_of : (plan : Plan) (input : List ℕ) (table : Pairs) (e : MakeError) → (pairs : Pairs) × IsPairs plan.read.source input pairs × (table ≡ lowered plan.read.lower_case pairs)
+pub explains_of : (plan : Plan) (input : List ℕ) (table : Pairs) (e : MakeError) → IsOther input None → (pairs : Pairs) × IsPairs plan.read.source input pairs × (table ≡ lowered plan.read.lower_case pairs)
     → ExplainsKept plan table e → Explains plan input e
-explains_of plan input table (Line number bad) h fact = absurd fact
-explains_of plan input table (NotJson line column) h fact = absurd fact
-explains_of plan input table NotPairs h fact = absurd fact
-explains_of plan input table (NotPair bad) h fact = absurd fact
-explains_of plan input table (Keys s) h fact = of_table plan input table (λ pairs. ExplainsKept plan pairs (Keys s)) h fact
-explains_of plan input table (Refused e) h fact = of_table plan input table (λ pairs. ExplainsKept plan pairs (Refused e)) h fact
-explains_of plan input table (IndexRefused e) h fact = of_table plan input table (λ pairs. ExplainsKept plan pairs (IndexRefused e)) h fact
-explains_of plan input table OutOfMemory h fact = tt
+explains_of plan input table (NotText other) own h fact = absurd fact
+explains_of plan input table (Line number bad) own h fact = absurd fact
+explains_of plan input table (NotJson line column) own h fact = absurd fact
+explains_of plan input table NotPairs own h fact = absurd fact
+explains_of plan input table (NotPair bad) own h fact = absurd fact
+explains_of plan input table (Keys s) own h fact = of_table plan input table (λ pairs. ExplainsKept plan pairs (Keys s)) own h fact
+explains_of plan input table (Refused e) own h fact = of_table plan input table (λ pairs. ExplainsKept plan pairs (Refused e)) own h fact
+explains_of plan input table (IndexRefused e) own h fact = of_table plan input table (λ pairs. ExplainsKept plan pairs (IndexRefused e)) own h fact
+explains_of plan input table OutOfMemory own h fact = tt
 
 -- an input that is no pairs shows no keys
 no_keys : (source : Source) (input : List ℕ) (s : Shown) → NoPairs source input (Keys s) → ⊥
 no_keys (Text format end) input s h = h
 no_keys Json input s h = h
+no_keys JsonLines input s h = h
 
 no_refusal : (source : Source) (input : List ℕ) (e : ZeroTrieBuildError) → NoPairs source input (Refused e) → ⊥
 no_refusal (Text format end) input e h = h
 no_refusal Json input e h = h
+no_refusal JsonLines input e h = h
 
 no_index_refusal : (source : Source) (input : List ℕ) (e : ZeroIndexBuildError) → NoPairs source input (IndexRefused e) → ⊥
 no_index_refusal (Text format end) input e h = h
 no_index_refusal Json input e h = h
+no_index_refusal JsonLines input e h = h
+
+-- an input that is another file is no pairs
+pub other_is_unread : (source : Source) (input : List ℕ) (other : OtherFile) → IsOther input (Some other) → NoPairs source input (NotText other)
+other_is_unread (Text format end) input other h = h
+other_is_unread Json input other h = h
+other_is_unread JsonLines input other h = h
 
 -- an input that is no pairs makes no file
 pub no_pairs : (plan : Plan) (input : List ℕ) (e : MakeError) → NoPairs plan.read.source input e → Explains plan input e
+no_pairs plan input (NotText other) h = h
 no_pairs plan input (Line number bad) h = h
 no_pairs plan input (NotJson line column) h = h
 no_pairs plan input NotPairs h = h

@@ -1,5 +1,5 @@
 -- The line and the column after one byte more.
-use Rattle.std.proofs.Common.{◌≡◌, ◌∙◌, ◌+◌, ◌<◌, ◌≤◌, ℕ, suc, Bool, true, false, cond, List, [], ◌∷◌, ◌++◌, length, take, drop, get_or, reverse, arith, refl, sym, ap, subst, take-append-drop, ◌==◌, not}
+use Rattle.std.proofs.Common.{◌≡◌, ◌∙◌, ◌+◌, ◌<◌, ◌≤◌, ℕ, suc, true, false, cond, List, [], ◌∷◌, ◌++◌, length, take, drop, get_or, reverse, arith, refl, sym, ap, subst, take-append-drop, ◌==◌, not}
 use Rattle.std.specs.Prelude.{count_by, IsUtf8}
 use Rattle.csv.specs.Reading.{strip_bom}
 use Rattle.std.specs.List.{take_while, prefix_len}

@@ -26,9 +26,9 @@ use Rattle.zerotrie_making.specs.Made.{OfInput, AreAtFault, ExplainsKept, IsBuil
 use Rattle.zerotrie_making.specs.Laws.{RefusedMakesNoFile}
 use Rattle.zerotrie_making.specs.declared.plan.Plan.{Plan}
 use Rattle.zerotrie_making.specs.declared.plan.Source.{Source}
-use Rattle.zerotrie_making.specs.declared.plan.Source.TheVariants.{Text, Json}
+use Rattle.zerotrie_making.specs.declared.plan.Source.TheVariants.{Text, Json, JsonLines}
 use Rattle.zerotrie_making.specs.declared.error.MakeError.{MakeError}
-use Rattle.zerotrie_making.specs.declared.error.MakeError.TheVariants.{Line, NotJson, NotPairs, NotPair, Keys, Refused, IndexRefused, OutOfMemory}
+use Rattle.zerotrie_making.specs.declared.error.MakeError.TheVariants.{NotText, Line, NotJson, NotPairs, NotPair, Keys, Refused, IndexRefused, OutOfMemory}
 use Rattle.zerotrie_making.proofs.UnreadLemmas.{some_is, no_file}
 
 -- a value is found at the key of each pair
@@ -149,18 +149,20 @@ one_list one (Text format end) input pairs others h k = one format end input pai
 one_list one Json input pairs others h k =
     let same : h.0 ≡ k.0 = some_is h.0 k.0 (sym h.1.1 ∙ k.1.1) in
     some_is others pairs (sym k.2 ∙ ap pairs_in (sym same) ∙ h.2)
+one_list one JsonLines input pairs others h k = some_is others pairs (sym k ∙ h)
 
 -- the pairs that explain are those of the file
 of_one : OneReading → (plan : Plan) (input file : List ℕ) (e : MakeError) → OfInput plan input (λ pairs. ExplainsKept plan pairs e) → IsFile plan input file
     → (pairs : Pairs) × ExplainsKept plan pairs e × IsFileOfKept plan pairs file
 of_one one plan input file e h made =
-    (_, h.2, subst (λ ps. IsFileOfKept plan (lowered plan.read.lower_case ps) file) (one_list one plan.read.source input h.0 made.0 h.1 made.1) made.2)
+    (_, h.3, subst (λ ps. IsFileOfKept plan (lowered plan.read.lower_case ps) file) (one_list one plan.read.source input h.1 made.1 h.2 made.2) made.3)
 
 pub refused : OneReading → BadIsUnread → IndexExcludesCauses → RefusedMakesNoFile
-refused one bad excludes plan input file (Line number fault) h some other crowd made = no_file bad plan.read.source input (Line number fault) made.0 h some made.1
-refused one bad excludes plan input file (NotJson line column) h some other crowd made = no_file bad plan.read.source input (NotJson line column) made.0 h some made.1
-refused one bad excludes plan input file NotPairs h some other crowd made = no_file bad plan.read.source input NotPairs made.0 h some made.1
-refused one bad excludes plan input file (NotPair why) h some other crowd made = no_file bad plan.read.source input (NotPair why) made.0 h some made.1
+refused one bad excludes plan input file (NotText kind) h some other crowd made = no_file bad plan.read.source input (NotText kind) made.1 made.0 h some made.2
+refused one bad excludes plan input file (Line number fault) h some other crowd made = no_file bad plan.read.source input (Line number fault) made.1 made.0 h some made.2
+refused one bad excludes plan input file (NotJson line column) h some other crowd made = no_file bad plan.read.source input (NotJson line column) made.1 made.0 h some made.2
+refused one bad excludes plan input file NotPairs h some other crowd made = no_file bad plan.read.source input NotPairs made.1 made.0 h some made.2
+refused one bad excludes plan input file (NotPair why) h some other crowd made = no_file bad plan.read.source input (NotPair why) made.1 made.0 h some made.2
 refused one bad excludes plan input file (Keys s) h some other crowd made =
     let o = of_one one plan input file (Keys s) h made in
     let ps = kept plan.read.duplicates o.0 in

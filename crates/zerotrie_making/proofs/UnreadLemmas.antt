@@ -4,11 +4,14 @@ use Rattle.zerotrie_lines.specs.Tables.{Pairs}
 use Rattle.zerotrie_lines.specs.Laws.{BadIsUnread}
 use Rattle.json.specs.Json.{Json as Value}
 use Rattle.zerotrie_making.specs.Json.{pairs_in}
+use Rattle.zerotrie_making.specs.Others.{IsOther}
 use Rattle.zerotrie_making.specs.Sources.{IsJson, IsPairs, NoPairs}
+use Rattle.zerotrie_making.specs.declared.others.OtherFile.{OtherFile}
+use Rattle.zerotrie_making.specs.declared.others.OtherFile.TheVariants.{Utf16, Gzip, Sealed}
 use Rattle.zerotrie_making.specs.declared.plan.Source.{Source}
-use Rattle.zerotrie_making.specs.declared.plan.Source.TheVariants.{Text, Json}
+use Rattle.zerotrie_making.specs.declared.plan.Source.TheVariants.{Text, Json, JsonLines}
 use Rattle.zerotrie_making.specs.declared.error.MakeError.{MakeError}
-use Rattle.zerotrie_making.specs.declared.error.MakeError.TheVariants.{Line, NotJson, NotPairs, NotPair, Keys, Refused, IndexRefused, OutOfMemory}
+use Rattle.zerotrie_making.specs.declared.error.MakeError.TheVariants.{NotText, Line, NotJson, NotPairs, NotPair, Keys, Refused, IndexRefused, OutOfMemory}
 
 pub some_is : {A : Type 0} (a b : A) → Some a ≡ Some b → a ≡ b
 some_is {A} a b e = ap (inside a) e
@@ -22,20 +25,37 @@ no_value : (input : List ℕ) (j k : Value) (pairs : Pairs) → IsJson input j �
 no_value input j k pairs h p none some =
     let same : j ≡ k = some_is j k (sym h.1 ∙ p.1) in absurd (cc (sym none ∙ ap pairs_in same ∙ some))
 
-pub no_file : BadIsUnread → (source : Source) (input : List ℕ) (e : MakeError) (pairs : Pairs) → NoPairs source input e → e ≢ OutOfMemory → IsPairs source input pairs → ⊥
-no_file bad (Text format end) input (Line number fault) pairs h some p = bad format end input number fault pairs h p
-no_file bad (Text format end) input (NotJson line column) pairs h some p = h
-no_file bad (Text format end) input NotPairs pairs h some p = h
-no_file bad (Text format end) input (NotPair why) pairs h some p = h
-no_file bad (Text format end) input (Keys s) pairs h some p = h
-no_file bad (Text format end) input (Refused e) pairs h some p = h
-no_file bad (Text format end) input (IndexRefused e) pairs h some p = h
-no_file bad (Text format end) input OutOfMemory pairs h some p = some refl
-no_file bad Json input (Line number fault) pairs h some p = h
-no_file bad Json input (NotJson line column) pairs h some p = absurd (cc (sym (h.0 p.1.0) ∙ p.1.1))
-no_file bad Json input NotPairs pairs h some p = no_value input h.0 p.0 pairs h.1 p.1 h.2 p.2
-no_file bad Json input (NotPair why) pairs h some p = no_value input h.0 p.0 pairs h.1 p.1 h.2 p.2
-no_file bad Json input (Keys s) pairs h some p = h
-no_file bad Json input (Refused e) pairs h some p = h
-no_file bad Json input (IndexRefused e) pairs h some p = h
-no_file bad Json input OutOfMemory pairs h some p = some refl
+-- an input that is another file is not none of them
+not_both : (input : List ℕ) (other : OtherFile) → IsOther input (Some other) → IsOther input None → ⊥
+not_both input Utf16 is none = none.0 is
+not_both input Gzip is none = none.1 is
+not_both input Sealed is none = none.2 is
+
+pub no_file : BadIsUnread → (source : Source) (input : List ℕ) (e : MakeError) (pairs : Pairs) → IsOther input None → NoPairs source input e → e ≢ OutOfMemory → IsPairs source input pairs → ⊥
+no_file bad (Text format end) input (NotText other) pairs own h some p = not_both input other h own
+no_file bad Json input (NotText other) pairs own h some p = not_both input other h own
+no_file bad (Text format end) input (Line number fault) pairs own h some p = bad format end input number fault pairs h p
+no_file bad (Text format end) input (NotJson line column) pairs own h some p = h
+no_file bad (Text format end) input NotPairs pairs own h some p = h
+no_file bad (Text format end) input (NotPair why) pairs own h some p = h
+no_file bad (Text format end) input (Keys s) pairs own h some p = h
+no_file bad (Text format end) input (Refused e) pairs own h some p = h
+no_file bad (Text format end) input (IndexRefused e) pairs own h some p = h
+no_file bad (Text format end) input OutOfMemory pairs own h some p = some refl
+no_file bad Json input (Line number fault) pairs own h some p = h
+no_file bad Json input (NotJson line column) pairs own h some p = absurd (cc (sym (h.0 p.1.0) ∙ p.1.1))
+no_file bad Json input NotPairs pairs own h some p = no_value input h.0 p.0 pairs h.1 p.1 h.2 p.2
+no_file bad Json input (NotPair why) pairs own h some p = no_value input h.0 p.0 pairs h.1 p.1 h.2 p.2
+no_file bad Json input (Keys s) pairs own h some p = h
+no_file bad Json input (Refused e) pairs own h some p = h
+no_file bad Json input (IndexRefused e) pairs own h some p = h
+no_file bad Json input OutOfMemory pairs own h some p = some refl
+no_file bad JsonLines input (NotText other) pairs own h some p = not_both input other h own
+no_file bad JsonLines input (Line number fault) pairs own h some p = h
+no_file bad JsonLines input (NotJson line column) pairs own h some p = h
+no_file bad JsonLines input NotPairs pairs own h some p = absurd (cc (sym h.0 ∙ p))
+no_file bad JsonLines input (NotPair why) pairs own h some p = absurd (cc (sym h.0 ∙ p))
+no_file bad JsonLines input (Keys s) pairs own h some p = h
+no_file bad JsonLines input (Refused e) pairs own h some p = h
+no_file bad JsonLines input (IndexRefused e) pairs own h some p = h
+no_file bad JsonLines input OutOfMemory pairs own h some p = some refl

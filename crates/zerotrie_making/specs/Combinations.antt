@@ -1,7 +1,8 @@
 -- Which file is made of the combination of two maps, and why none is.
-use Rattle.std.specs.Prelude.{◌≡◌, ◌⊎◌, ℕ, List, Option, None, false}
+use Rattle.std.specs.Prelude.{◌≡◌, ◌⊎◌, ◌==◌, ℕ, List, Option, Some, None, false, if◌then◌else◌}
 use Rattle.std.specs.FinMap.{entries}
-use Rattle.zerotrie_core.specs.Kind.{Kind}
+use Rattle.zerotrie_core.specs.Kind.{Kind, tag}
+use Rattle.zerotrie_core.specs.Kinds.{kind_of}
 use Rattle.zerotrie_core.specs.Maps.{Pairs, Map}
 use Rattle.zerotrie_core.specs.Texts.{Means}
 use Rattle.zerotrie_core.specs.declared.TrieKind.{TrieKind}
@@ -13,6 +14,11 @@ use Rattle.zerotrie_making.specs.declared.plan.FileForm.{FileForm}
 use Rattle.zerotrie_making.specs.declared.plan.FilePlan.{FilePlan}
 use Rattle.zerotrie_making.specs.declared.error.MakeError.{MakeError}
 use Rattle.zerotrie_making.specs.declared.error.MakeError.TheVariants.{OutOfMemory}
+
+-- the kind that is asked for: the one that is named, or else the one that both tries have, which is known by its number
+abbrev pub kind_kept : Option TrieKind → TrieKind → TrieKind → Option TrieKind
+kind_kept (Some kind) first second = Some kind
+kind_kept None first second = if tag (kind_of first) == tag (kind_of second) then Some first else None
 
 -- what file is made of the pairs of a combination, which may have any order
 abbrev pub plan_of : Option TrieKind → FileForm → FilePlan

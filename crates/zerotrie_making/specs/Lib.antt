@@ -2,8 +2,10 @@ pub mod Plans
 pub mod Json
 pub mod Kept
 pub mod Places
+pub mod Others
 pub mod Sources
 pub mod Unread
+pub mod JsonLines
 pub mod Made
 pub mod Combinations
 pub mod Laws

@@ -1,5 +1,5 @@
 -- Which file a plan makes of an input, and why it makes none.
-use Rattle.std.specs.Prelude.{◌≡◌, ◌≢◌, ℕ, List, Bool, true, false, Result, Ok, Err, Some}
+use Rattle.std.specs.Prelude.{◌≡◌, ◌≢◌, ℕ, List, Bool, true, false, Result, Ok, Err, Some, None}
 use Rattle.zerotrie_core.specs.Kind.{perfect_hash}
 use Rattle.zerotrie_core.specs.Maps.{Pairs}
 use Rattle.zerotrie_core.specs.Routes.{Takes, HasCause, IsBuild}
@@ -13,6 +13,7 @@ use Rattle.zerotrie_index.specs.declared.error.ZeroIndexBuildError.TheVariants a
 use Rattle.zerotrie_lines.specs.Tables.{lowered}
 use Rattle.zerotrie_lines.specs.declared.fault.ReadError.{ReadError}
 use Rattle.zerotrie_lines.specs.declared.fault.ReadError.TheVariants as fault
+use Rattle.zerotrie_making.specs.Others.{IsOther}
 use Rattle.zerotrie_making.specs.Sources.{IsPairs, NoPairs}
 use Rattle.zerotrie_making.specs.Plans.{Content, a_trie, an_index, content_of, route_of, kind_for, IsFormOf}
 use Rattle.zerotrie_making.specs.Kept.{kept, number_at}
@@ -21,11 +22,11 @@ use Rattle.zerotrie_making.specs.declared.plan.Plan.{Plan}
 use Rattle.zerotrie_making.specs.declared.error.NumberedKey.{NumberedKey}
 use Rattle.zerotrie_making.specs.declared.error.Shown.{Shown}
 use Rattle.zerotrie_making.specs.declared.error.MakeError.{MakeError}
-use Rattle.zerotrie_making.specs.declared.error.MakeError.TheVariants.{Line, NotJson, NotPairs, NotPair, Keys, Refused, IndexRefused, OutOfMemory}
+use Rattle.zerotrie_making.specs.declared.error.MakeError.TheVariants.{NotText, Line, NotJson, NotPairs, NotPair, Keys, Refused, IndexRefused, OutOfMemory}
 
--- the input is pairs, and the fact holds of them, with their keys in lower case if the plan says so
+-- the input is no other file, it is pairs, and the fact holds of them, with their keys in lower case if the plan says so
 abbrev pub OfInput : Plan → List ℕ → (Pairs → Type 0) → Type 0
-OfInput plan input Fact = (pairs : Pairs) × IsPairs plan.read.source input pairs × Fact (lowered plan.read.lower_case pairs)
+OfInput plan input Fact = IsOther input None × (pairs : Pairs) × IsPairs plan.read.source input pairs × Fact (lowered plan.read.lower_case pairs)
 
 -- the result of a build of an index of the pairs, whose keys are to ascend or may have any order
 abbrev pub IsIndexed : {B : Type 0} → Bool → (B → List ℕ) → Pairs → Result B ZeroIndexBuildError → Type 0
@@ -81,6 +82,7 @@ IsIndexRefusedBy an_index sorted pairs e = (e ≢ unindexed.OutOfMemory) × IsIn
 
 -- Why a build of the pairs fails: keys that show an error, a cause though no keys show one, or an allocation failed.
 abbrev pub IsRefusedAs : Content → Bool → (ℕ → ℕ) → Pairs → MakeError → Type 0
+IsRefusedAs content sorted number pairs (NotText other) = ⊥
 IsRefusedAs content sorted number pairs (Line m bad) = ⊥
 IsRefusedAs content sorted number pairs (NotJson line column) = ⊥
 IsRefusedAs content sorted number pairs NotPairs = ⊥
@@ -98,8 +100,9 @@ ExplainsOf plan number pairs e = IsRefusedAs (content_of plan.form (kind_for pla
 abbrev pub ExplainsKept : Plan → Pairs → MakeError → Type 0
 ExplainsKept plan pairs e = ExplainsOf plan.file (number_at plan.read.duplicates pairs) (kept plan.read.duplicates pairs) e
 
--- why the plan makes no file of the input: it is no pairs, a build of its pairs fails, or an allocation failed
+-- why the plan makes no file of the input: it is another file, it is no pairs, a build of its pairs fails, or an allocation failed
 abbrev pub Explains : Plan → List ℕ → MakeError → Type 0
+Explains plan input (NotText other) = NoPairs plan.read.source input (NotText other)
 Explains plan input (Line number bad) = NoPairs plan.read.source input (Line number bad)
 Explains plan input (NotJson line column) = NoPairs plan.read.source input (NotJson line column)
 Explains plan input NotPairs = NoPairs plan.read.source input NotPairs

@@ -10,12 +10,14 @@ use Rattle.zerotrie_lines.specs.declared.reading.Format.{Format}
 use Rattle.zerotrie_lines.specs.declared.reading.LineEnd.{LineEnd}
 use Rattle.zerotrie_lines.specs.declared.fault.ReadError.TheVariants as fault
 use Rattle.zerotrie_making.specs.Unread.{IsFirst}
+use Rattle.zerotrie_making.specs.Others.{IsOther}
+use Rattle.zerotrie_making.specs.JsonLines.{IsUnreadLine, json_lines, pairs_in_lines}
 use Rattle.zerotrie_making.specs.Places.{IsPlaceIn}
 use Rattle.zerotrie_making.specs.declared.plan.Source.{Source}
-use Rattle.zerotrie_making.specs.declared.plan.Source.TheVariants.{Text, Json}
+use Rattle.zerotrie_making.specs.declared.plan.Source.TheVariants.{Text, Json, JsonLines}
 use Rattle.zerotrie_making.specs.declared.error.NoPair.{NoPair}
 use Rattle.zerotrie_making.specs.declared.error.MakeError.{MakeError}
-use Rattle.zerotrie_making.specs.declared.error.MakeError.TheVariants.{Line, NotJson, NotPairs, NotPair, Keys, Refused, IndexRefused, OutOfMemory}
+use Rattle.zerotrie_making.specs.declared.error.MakeError.TheVariants.{NotText, Line, NotJson, NotPairs, NotPair, Keys, Refused, IndexRefused, OutOfMemory}
 
 -- the input is the text of this JSON value, after the byte order mark that may be in front
 abbrev pub IsJson : List ℕ → Value → Type 0
@@ -23,6 +25,7 @@ IsJson input j = IsUtf8 (strip_bom input) × (document (strip_bom input) ≡ Som
 
 -- why a text is no JSON value: it is none, or an allocation failed
 abbrev pub NoValue : List ℕ → MakeError → Type 0
+NoValue text (NotText other) = ⊥
 NoValue text (Line number bad) = ⊥
 NoValue text (NotJson line column) = (document text ≡ None) × IsPlaceIn text line column
 NoValue text NotPairs = ⊥
@@ -40,9 +43,11 @@ IsNotJson text e = (line column : ℕ) × (e ≡ NotJson line column) × IsPlace
 abbrev pub IsPairs : Source → List ℕ → Pairs → Type 0
 IsPairs (Text format end) input pairs = Reads format end input pairs
 IsPairs Json input pairs = (j : Value) × IsJson input j × (pairs_in j ≡ Some pairs)
+IsPairs JsonLines input pairs = pairs_in_lines (json_lines input) ≡ Some pairs
 
--- why an input is no text of pairs: this line or record is none, or an allocation failed
+-- why an input is no text of pairs: it is another file, this line or record is none, or an allocation failed
 abbrev pub NoText : Format → LineEnd → List ℕ → MakeError → Type 0
+NoText format end input (NotText other) = IsOther input (Some other)
 NoText format end input (Line number bad) = reads.Explains format end input (fault.Line number bad)
 NoText format end input (NotJson line column) = ⊥
 NoText format end input NotPairs = ⊥
@@ -56,9 +61,10 @@ NoText format end input OutOfMemory = Unit {0}
 abbrev pub IsUnread : List ℕ → Option NoPair → Type 0
 IsUnread input bad = (j : Value) × IsJson input j × (pairs_in j ≡ None) × IsFirst j bad
 
--- why an input is no JSON value of pairs: it is no JSON value, or no object and no list, or this of its members or items is no pair,
--- or an allocation failed
+-- why an input is no JSON value of pairs: it is another file, or no JSON value, or no object and no list, or this of its members or items
+-- is no pair, or an allocation failed
 abbrev pub NoJson : List ℕ → MakeError → Type 0
+NoJson input (NotText other) = IsOther input (Some other)
 NoJson input (Line number bad) = ⊥
 NoJson input (NotJson line column) = (IsUtf8 (strip_bom input) → document (strip_bom input) ≡ None) × IsPlaceIn (strip_bom input) line column
 NoJson input NotPairs = IsUnread input None
@@ -68,7 +74,20 @@ NoJson input (Refused e) = ⊥
 NoJson input (IndexRefused e) = ⊥
 NoJson input OutOfMemory = Unit {0}
 
+-- why an input is no lines of JSON with a pair in each: it is another file, or this line has none, or an allocation failed
+abbrev pub NoJsonLines : List ℕ → MakeError → Type 0
+NoJsonLines input (NotText other) = IsOther input (Some other)
+NoJsonLines input (Line number bad) = ⊥
+NoJsonLines input (NotJson line column) = ⊥
+NoJsonLines input NotPairs = IsUnreadLine input None
+NoJsonLines input (NotPair bad) = IsUnreadLine input (Some bad)
+NoJsonLines input (Keys s) = ⊥
+NoJsonLines input (Refused e) = ⊥
+NoJsonLines input (IndexRefused e) = ⊥
+NoJsonLines input OutOfMemory = Unit {0}
+
 -- why an input is no pairs
 abbrev pub NoPairs : Source → List ℕ → MakeError → Type 0
 NoPairs (Text format end) input e = NoText format end input e
 NoPairs Json input e = NoJson input e
+NoPairs JsonLines input e = NoJsonLines input e

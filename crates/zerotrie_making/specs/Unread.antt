@@ -4,7 +4,7 @@ use Rattle.json.specs.Json.{Json, Items, no_items, item, Members, no_members, me
 use Rattle.json.specs.Find.{as_array, as_object}
 use Rattle.zerotrie_making.specs.Json.{number_in, pair_in}
 use Rattle.zerotrie_making.specs.declared.error.NoPair.{NoPair}
-use Rattle.zerotrie_making.specs.declared.error.NoPair.TheVariants.{Member, Item}
+use Rattle.zerotrie_making.specs.declared.error.NoPair.TheVariants.{Member, Item, Line}
 
 -- 1 if nothing is read, and else one more than the number among the rest, if one of these has it
 abbrev pub first_or_later : {A : Type 0} → Option A → Option ℕ → Option ℕ
@@ -39,3 +39,4 @@ abbrev pub IsFirst : Json → Option NoPair → Type 0
 IsFirst j None = (bad_member j ≡ None) × (bad_item j ≡ None)
 IsFirst j (Some (Member key)) = bad_member j ≡ Some key.items
 IsFirst j (Some (Item number)) = bad_item j ≡ Some number
+IsFirst j (Some (Line number)) = ⊥

@@ -8,7 +8,7 @@ ghost use Rattle.zerotrie_core.specs.Maps.{Map, Ascends};
 ghost use Rattle.zerotrie_core.specs.Texts.{Means};
 ghost use Rattle.zerotrie_core.specs.WellFormed.{IsWellFormed};
 ghost use Rattle.zerotrie_sets.specs.Operations.{IsCombined};
-ghost use Rattle.zerotrie_making.specs.Combinations.{IsFileOfBoth, ExplainsBoth, OfMeant};
+ghost use Rattle.zerotrie_making.specs.Combinations.{IsFileOfBoth, ExplainsBoth, OfMeant, kind_kept};
 
 use crate::error::MakeError;
 use crate::file::make_of;
@@ -60,6 +60,18 @@ fn combine(
     collect(alloc, Combined::new(first, second, operation))
 }
 
+/// Returns the kind that is asked for: the one that is named, or else the one that both tries have.
+/// `None` if theirs differ.
+fn kind_kept(named: Option<TrieKind>, first: TrieKind, second: TrieKind) -> Option<TrieKind>
+    ensures { result ≡ kind_kept named first second }
+{
+    match named {
+        Some(kind) => Some(kind),
+        None if first.tag() == second.tag() => Some(first),
+        None => None,
+    }
+}
+
 /// Makes the file of the union, the intersection or a difference of two tries, of any kinds.
 ///
 /// ```
@@ -75,11 +87,14 @@ fn combine(
 /// let file = make_combined(rt.alloc(), operation, &first, &second, None, FileForm::Bare)
 ///     .map_err(|_| "refused")?;
 /// assert_eq!(rt; file.as_slice(), b"a\x81".as_slice());
+/// let file = make_combined(rt.alloc(), union, &second, &second, None, FileForm::Tagged)
+///     .map_err(|_| "refused")?;
+/// assert_eq!(rt; TrieKind::of_tag(file[0]), Some(TrieKind::Hash));
 /// ```
 ///
-/// The kind is the one that is named. If none is, it is the one that a build of the pairs takes,
-/// whatever those of the two tries are. Keys are equal if their bytes are, also in a kind that
-/// ignores case.
+/// The kind is the one that is named, or else that of the two tries. If theirs differ, it is the one
+/// that a build of the pairs takes. Keys are equal if their bytes are, also in a kind that ignores
+/// case, where a build is an error if keys that begin alike differ in the case of a letter.
 ///
 /// The error is `Keys` if keys show why a build of the pairs fails, `Refused` or `IndexRefused` if it
 /// fails and none do, and `OutOfMemory`. The numbers of keys are those of their pairs in the order of
@@ -96,15 +111,17 @@ pub fn make_combined(
     requires second { IsWellFormed (kind_of second.now.kind) second.now.bytes.now }
     ensures ok { IfOk result (λ file. OfMeant (kind_of first.now.kind) first.now.bytes.now
         (kind_of second.now.kind) second.now.bytes.now
-        (λ m n. IsFileOfBoth operation kind form m n file.items)) }
+        (λ m n. IsFileOfBoth operation (kind_kept kind first.now.kind second.now.kind) form
+        m n file.items)) }
     ensures err { IfErr result (λ e. OfMeant (kind_of first.now.kind) first.now.bytes.now
         (kind_of second.now.kind) second.now.bytes.now
-        (λ m n. ExplainsBoth operation kind form m n e)) }
+        (λ m n. ExplainsBoth operation (kind_kept kind first.now.kind second.now.kind) form
+        m n e)) }
 {
     let table = combine(alloc, operation, first, second)?;
     let items = table.items(alloc)?;
     let plan = FilePlan {
-        kind,
+        kind: kind_kept(kind, first.kind, second.kind),
         sorted: false,
         form,
     };

@@ -6,6 +6,7 @@ ghost use Rattle.zerotrie_making.specs.Made.{IsKeyAt, Shows, IsOfReading};
 ghost use Rattle.zerotrie_making.specs.Kept.{number_of};
 ghost use Rattle.zerotrie_making.specs.declared.error.MakeError.TheVariants.{OutOfMemory};
 
+use crate::others::OtherFile;
 use std::alloc::{AllocError, Global};
 use zerotrie_build::Refusal;
 use zerotrie_core::ZeroTrieBuildError;
@@ -31,7 +32,7 @@ pub struct Shown {
     pub second: NumberedKey,
 }
 
-/// A member or an item of a JSON value that is no pair.
+/// A member or an item of a JSON value, or a line, that is no pair.
 #[derive(PartialEq, Eq, Debug, Drop)]
 pub enum NoPair {
     /// Of an object the member with this key: its value is not written as a whole number below
@@ -39,6 +40,8 @@ pub enum NoPair {
     Member(Vec<u8>),
     /// Of a list the item with this number, from 1 on: it is no list of a key and such a number.
     Item(usize),
+    /// The line with this number, from 1 on: it is no such list, and no object of the two.
+    Line(usize),
 }
 
 /// Why no file is made.
@@ -55,6 +58,8 @@ pub enum NoPair {
 /// ```
 #[derive(PartialEq, Eq, Debug, Drop)]
 pub enum MakeError {
+    /// The input is no text, but this other file.
+    NotText(OtherFile),
     /// The line, or record of comma-separated fields, with this number is no pair, and why.
     Line(usize, BadLine),
     /// The input is no JSON value. At this line and column, both from 1 on, a token begins that can't
@@ -62,7 +67,8 @@ pub enum MakeError {
     NotJson(usize, usize),
     /// The input is a JSON value, and neither an object nor a list.
     NotPairs,
-    /// The input is a JSON object or list, and this member or item is the first that is no pair.
+    /// The input is a JSON object or list or lines of JSON, and this member, item or line is the first
+    /// that is no pair.
     NotPair(NoPair),
     /// The build fails, and these keys show why.
     Keys(Shown),

@@ -1,10 +1,11 @@
 //! Makes the file of a trie or an index from the bytes of an input.
 
-ghost use Rattle.std.specs.Prelude.{◌≡◌, length, IfOk, IfErr, IfSome, Err};
+ghost use Rattle.std.specs.Prelude.{◌≡◌, length, IfOk, IfErr, IfSome, Err, None};
 ghost use Rattle.zerotrie_any.specs.Tagged.{tagged};
 ghost use Rattle.zerotrie_core.specs.Kinds.{kind_of};
 ghost use Rattle.zerotrie_core.specs.Items.{pairs_of};
 ghost use Rattle.zerotrie_core.specs.Routes.{IsRefusal};
+ghost use Rattle.zerotrie_making.specs.Others.{IsOther};
 ghost use Rattle.zerotrie_making.specs.Plans.{a_trie, an_index, content_of, route_of, IsFormOf};
 ghost use Rattle.zerotrie_making.specs.Made.{IsIndexed, IsBuiltAs, IsFile, IsFileOf, IsFileOfKept, IsRefusedAs, Explains, ExplainsOf, ExplainsKept};
 ghost use Rattle.zerotrie_making.specs.Kept.{number_in, number_of};
@@ -12,6 +13,7 @@ ghost use Rattle.zerotrie_making.specs.Kept.{number_in, number_of};
 use crate::duplicates::{Duplicates, Kept, firsts, lasts};
 use crate::error::{MakeError, show};
 use crate::input::{items_in, read_input};
+use crate::others::other_file;
 use crate::plan::{FileForm, FilePlan, Plan};
 use crate::tries::{bytes_of, index_bytes_of, kind_for, why_refused, why_unindexed};
 use std::alloc::{AllocError, Global};
@@ -199,24 +201,10 @@ fn make_from(alloc: Global, plan: Plan, items: &[(&[u8], usize)]) -> Result<Vec<
     }
 }
 
-/// Makes the file of the pairs of an input.
-///
-/// ```
-/// let read = ReadPlan {
-///     source: Source::Text(Format::Tsv, LineEnd::CrLf),
-///     lower_case: false,
-///     duplicates: Duplicates::Refuse,
-/// };
-/// let file = FilePlan { kind: None, sorted: false, form: FileForm::Tagged };
-/// let input = Vec::from_slice(rt.alloc(), b"adef\t33\nad\t22\n")?;
-/// let file = make(rt.alloc(), Plan { read, file }, input).map_err(|_| "refused")?;
-/// assert_eq!(rt; file.as_slice(), b"\x00ad\x90\x06ef\x90\x11".as_slice());
-/// ```
-///
-/// It takes the input. If keys must be copied from it, it is freed before the build. The error is
-/// `Line`, `NotJson`, `NotPairs` or `NotPair` if the input is no pairs, `Keys` if keys show why a
-/// build of the pairs fails, `Refused` or `IndexRefused` if it fails and none do, and `OutOfMemory`.
-pub fn make(alloc: Global, plan: Plan, input: Vec<u8>) -> Result<Vec<u8>, MakeError>
+/// Makes the file of the pairs of an input that is no other file. It takes the input. If keys must be
+/// copied from it, it is freed before the build.
+fn make_text(alloc: Global, plan: Plan, input: Vec<u8>) -> Result<Vec<u8>, MakeError>
+    requires { IsOther input.items None }
     ensures ok { IfOk result (λ file. IsFile plan input.items file.items) }
     ensures err { IfErr result (λ e. Explains plan input.items e) }
 {
@@ -227,4 +215,36 @@ pub fn make(alloc: Global, plan: Plan, input: Vec<u8>) -> Result<Vec<u8>, MakeEr
     drop(input);
     let items = table.items(alloc)?;
     make_from(alloc, plan, items.as_slice())
+}
+
+/// Makes the file of the pairs of an input.
+///
+/// ```
+/// let read = ReadPlan {
+///     source: Source::Text(Format::Tsv, LineEnd::CrLf),
+///     lower_case: false,
+///     duplicates: Duplicates::Refuse,
+/// };
+/// let file = FilePlan { kind: None, sorted: false, form: FileForm::Tagged };
+/// let input = Vec::from_slice(rt.alloc(), b"adef\t33\nad\t22\n")?;
+/// let trie = make(rt.alloc(), Plan { read, file }, input).map_err(|_| "refused")?;
+/// assert_eq!(rt; trie.as_slice(), b"\x00ad\x90\x06ef\x90\x11".as_slice());
+/// let read = ReadPlan { source: Source::Text(Format::Lines, LineEnd::CrLf), ..read };
+/// let input = Vec::from_slice(rt.alloc(), b"\xFF\xFEa\0\n\0")?;
+/// let why = MakeError::NotText(OtherFile::Utf16);
+/// assert_eq!(rt; make(rt.alloc(), Plan { read, file }, input), Err(why));
+/// ```
+///
+/// It takes the input. If keys must be copied from it, it is freed before the build. The error is
+/// `NotText` if the input is another file, `Line`, `NotJson`, `NotPairs` or `NotPair` if it is no
+/// pairs, `Keys` if keys show why a build of the pairs fails, `Refused` or `IndexRefused` if it fails
+/// and none do, and `OutOfMemory`.
+pub fn make(alloc: Global, plan: Plan, input: Vec<u8>) -> Result<Vec<u8>, MakeError>
+    ensures ok { IfOk result (λ file. IsFile plan input.items file.items) }
+    ensures err { IfErr result (λ e. Explains plan input.items e) }
+{
+    match other_file(input.as_slice()) {
+        Some(other) => Err(MakeError::NotText(other)),
+        None => make_text(alloc, plan, input),
+    }
 }

@@ -5,6 +5,7 @@ ghost use Rattle.zerotrie_lines.specs.Tables.{Pairs, pairs_of, lowered};
 ghost use Rattle.zerotrie_making.specs.Sources.{IsPairs, NoPairs};
 
 use crate::error::MakeError;
+use crate::json_lines::read_json_lines;
 use crate::json_pairs::read_json;
 use crate::plan::{ReadPlan, Source};
 use std::alloc::{AllocError, Global};
@@ -27,6 +28,17 @@ pub(crate) fn items_in(
     }
 }
 
+/// Returns the pairs, with the ASCII letters of their keys in lower case if that is asked for.
+fn lowered(lower_case: bool, pairs: Table) -> Table
+    ensures { result ≡ lowered lower_case pairs }
+{
+    let mut table = pairs;
+    if lower_case {
+        table.lower_case();
+    }
+    table
+}
+
 /// Reads the pairs of an input, in their order. If the plan says so, the ASCII letters of their keys
 /// become lower case.
 pub(crate) fn read_input(alloc: Global, read: ReadPlan, input: &[u8]) -> Result<Table, MakeError>
@@ -36,12 +48,7 @@ pub(crate) fn read_input(alloc: Global, read: ReadPlan, input: &[u8]) -> Result<
 {
     match read.source {
         Source::Text(format, end) => Ok(read_pairs(alloc, format, end, read.lower_case, input)?),
-        Source::Json => {
-            let mut table = read_json(alloc, input)?;
-            if read.lower_case {
-                table.lower_case();
-            }
-            Ok(table)
-        }
+        Source::Json => Ok(lowered(read.lower_case, read_json(alloc, input)?)),
+        Source::JsonLines => Ok(lowered(read.lower_case, read_json_lines(alloc, input)?)),
     }
 }

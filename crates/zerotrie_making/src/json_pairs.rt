@@ -40,7 +40,7 @@ fn members_of<'v, 'a>(value: &'v Value<'a>) -> Option<&'v [(&'a str, Value<'a>)]
 }
 
 /// Returns the whole number in a value.
-fn number_of(value: &Value<'_>) -> Option<usize>
+pub(crate) fn number_of(value: &Value<'_>) -> Option<usize>
     ensures { result ≡ number_in (value_view value.now) }
 {
     parse_number(value.as_number()?.as_bytes())
@@ -73,7 +73,7 @@ fn bytes_of(alloc: Global, items: &[Value<'_>]) -> Result<Vec<u8>, JsonError>
 }
 
 /// Returns the key in a value: a text, or a list of bytes.
-fn key_of(alloc: Global, value: &Value<'_>) -> Result<Vec<u8>, JsonError>
+pub(crate) fn key_of(alloc: Global, value: &Value<'_>) -> Result<Vec<u8>, JsonError>
     ensures { IsReading (λ key. key.items) (key_in (value_view value.now)) result }
 {
     if let Some(text) = value.as_str() {
@@ -86,7 +86,7 @@ fn key_of(alloc: Global, value: &Value<'_>) -> Result<Vec<u8>, JsonError>
 }
 
 /// Returns the pair in a value, which is a list of exactly two.
-fn pair_of(alloc: Global, value: &Value<'_>) -> Result<(Vec<u8>, usize), JsonError>
+pub(crate) fn pair_of(alloc: Global, value: &Value<'_>) -> Result<(Vec<u8>, usize), JsonError>
     ensures { IsReading (λ e. (e.0.items, e.1)) (pair_in (value_view value.now)) result }
 {
     let Some(items) = items_of(value) else {
@@ -184,7 +184,7 @@ fn first_bad(alloc: Global, value: &Value<'_>) -> Result<Option<NoPair>, AllocEr
 }
 
 /// Reads the JSON value of a text.
-fn value_of<'a>(
+pub(crate) fn value_of<'a>(
     alloc: Global,
     text: &'a str,
     scratch: &'a mut Scratch,

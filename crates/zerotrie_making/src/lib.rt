@@ -6,9 +6,11 @@ mod duplicates;
 mod error;
 mod file;
 mod input;
+mod json_lines;
 mod json_pairs;
 mod json_places;
 pub mod laws;
+mod others;
 mod plan;
 mod tries;
 
@@ -16,4 +18,5 @@ pub use combine::make_combined;
 pub use duplicates::Duplicates;
 pub use error::{MakeError, NoPair, NumberedKey, Shown};
 pub use file::make;
+pub use others::OtherFile;
 pub use plan::{FileForm, FilePlan, Plan, ReadPlan, Source};

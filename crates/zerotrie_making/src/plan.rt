@@ -13,6 +13,9 @@ pub enum Source {
     /// key and a number, and a key is a text or a list of bytes. The pairs are in the order of the
     /// text; a name that comes twice is a key that two pairs have.
     Json,
+    /// Lines, each a JSON value: such a pair, or an object whose members `key` and `value` are the
+    /// two. Other members count for nothing.
+    JsonLines,
 }
 
 /// What a file has: a trie, with what is beside its bytes, or an index.

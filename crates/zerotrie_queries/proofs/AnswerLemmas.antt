@@ -1,68 +1,69 @@
 -- What is printed of texts that are answered part by part.
-use Rattle.std.proofs.Common.{◌≡◌, ℕ, ◌+◌, ◌<◌, inl, inr, List, [], ◌∷◌, ◌++◌, map, take, drop, length, get_or, Option, Bool, true, false, refl, sym, ◌∙◌, ap, subst, arith, append_assoc, append-nil}
+use Rattle.std.proofs.Common.{◌≡◌, ℕ, ◌+◌, ◌<◌, inl, inr, List, [], ◌∷◌, ◌++◌, map, take, drop, length, get_or, Option, None, Bool, true, false, refl, sym, ◌∙◌, ap, subst, arith, append_assoc, append-nil}
 use Rattle.std.specs.Prelude.{◌&&◌, nat_lt, is_some, codes}
 use Rattle.std.specs.Borrow.{Bor}
 use Rattle.std.specs.Io.KnownBytes.{Appends}
 use Rattle.std.proofs.lemmas.List.{take_more, take-append-drop, get_or-map, length-map}
 use Rattle.std.proofs.KnownBytes.{Appends-nil, Appends-trans}
-use Rattle.zerotrie_core.specs.Maps.{Map, look}
+use Rattle.zerotrie_core.specs.Maps.{Map, Pairs, look}
 use Rattle.zerotrie_core.specs.Prefixes.{fronts}
 use Rattle.zerotrie_core.specs.Borders.{at_borders}
-use Rattle.zerotrie_core.specs.Texts.{Means}
+use Rattle.zerotrie_core.specs.Texts.{Lists, Means}
 use Rattle.zerotrie_core.specs.Kinds.{kind_of}
 use Rattle.zerotrie_core.specs.declared.TrieKind.{TrieKind}
 use Rattle.zerotrie_queries.specs.declared.question.Asked.{Asked}
-use Rattle.zerotrie_queries.specs.declared.question.Asked.TheVariants.{Value, Pair, Longest, LongestAt, Prefixes}
+use Rattle.zerotrie_queries.specs.declared.question.Asked.TheVariants.{Value, Pair, Longest, LongestAt, Prefixes, KeyOf}
 use Rattle.zerotrie_queries.specs.declared.question.Spelling.{Spelling}
 use Rattle.zerotrie_queries.specs.declared.question.Spelling.TheVariants.{Plain, Escaped}
 use Rattle.zerotrie_queries.specs.declared.question.Query.{Query}
-use Rattle.zerotrie_queries.specs.Printed.{value_line, value_lines, key_line, found_line, fronts_text, are_found}
+use Rattle.zerotrie_queries.specs.Printed.{value_line, value_lines, key_line, found_line, fronts_text, first_key_line, are_found}
 use Rattle.zerotrie_queries.specs.Answers.{IsAnswer, IsAnswerAs, IsAdded, Belongs, AreAnswered, AreAnsweredInPart, as_is, with_escapes}
-use Rattle.zerotrie_queries.specs.Finders.{TrieFinds}
+use Rattle.zerotrie_queries.specs.Finders.{Dictionary, TrieFinds, dictionary_of}
 use Rattle.zerotrie_lines.specs.Escapes.{Spells}
 use Rattle.zerotrie_lines.proofs.SpellingLemmas.{spells_or_not}
 use Rattle.zerotrie_files.specs.Parts.{AppendsPart}
 use Rattle.zerotrie_queries.proofs.FoundLemmas.{answers_of, answers_are, nows, no_key, and_true, and_assoc}
 use Rattle.zerotrie_queries.proofs.PartLemmas.{part_all, part_front, part_behind}
 use Rattle.zerotrie_queries.proofs.LongestLemmas.{found_in}
+use Rattle.zerotrie_queries.proofs.NumberLemmas.{number_or_none}
 
 -- one text
-one_asked : (of : Query) (at : List ℕ → Option ℕ) (text printed : List ℕ) (found : Bool) → IsAnswerAs of.spelling of.asked at text printed found → Belongs of at (text ∷ []) printed found
-one_asked of at text printed found h = (printed, [], found, true, h, (refl, refl), sym (append-nil printed), sym (and_true found))
+one_asked : (of : Query) (d : Dictionary) (text printed : List ℕ) (found : Bool) → IsAnswerAs of.spelling of.asked d text printed found → Belongs of d (text ∷ []) printed found
+one_asked of d text printed found h = (printed, [], found, true, h, (refl, refl), sym (append-nil printed), sym (and_true found))
 
 -- texts, and then more of them
-more_asked : (of : Query) (at : List ℕ → Option ℕ) (a b : List (List ℕ)) (p q : List ℕ) (all found : Bool) → Belongs of at a p all → Belongs of at b q found → Belongs of at (a ++ b) (p ++ q) (all && found)
-more_asked of at [] b p q all found h k =
-    subst (λ x. Belongs of at b (x ++ q) (all && found)) (sym h.0) (subst (λ t. Belongs of at b q (t && found)) (sym h.1) k)
-more_asked of at (text ∷ a) b p q all found h k = (
+more_asked : (of : Query) (d : Dictionary) (a b : List (List ℕ)) (p q : List ℕ) (all found : Bool) → Belongs of d a p all → Belongs of d b q found → Belongs of d (a ++ b) (p ++ q) (all && found)
+more_asked of d [] b p q all found h k =
+    subst (λ x. Belongs of d b (x ++ q) (all && found)) (sym h.0) (subst (λ t. Belongs of d b q (t && found)) (sym h.1) k)
+more_asked of d (text ∷ a) b p q all found h k = (
   h.0,
   h.1 ++ q,
   h.2,
   h.3 && found,
   h.4,
-  more_asked of at a b h.1 q h.3 found h.5 k,
+  more_asked of d a b h.1 q h.3 found h.5 k,
   ap (λ l. l ++ q) h.6 ∙ append_assoc h.0 h.1 q,
   ap (λ t. t && found) h.7 ∙ and_assoc h.2 h.3 found,
 )
 
 -- values of keys
-values_asked : (at : List ℕ → Option ℕ) (keys : List (List ℕ)) → Belongs (as_is Value) at keys (value_lines (map at keys)) (are_found (map at keys))
-values_asked at [] = (refl, refl)
-values_asked at (key ∷ keys) =
-    let rest = map at keys in
-    let value = at key in
-    (value_line value, value_lines rest, is_some value, are_found rest, (refl, refl), values_asked at keys, refl, refl)
+values_asked : (d : Dictionary) (keys : List (List ℕ)) → Belongs (as_is Value) d keys (value_lines (map d.value_of keys)) (are_found (map d.value_of keys))
+values_asked d [] = (refl, refl)
+values_asked d (key ∷ keys) =
+    let rest = map d.value_of keys in
+    let value = d.value_of key in
+    (value_line value, value_lines rest, is_some value, are_found rest, (refl, refl), values_asked d keys, refl, refl)
 
 -- no texts
-pub none_answered : (of : Query) (Has : (List ℕ → Option ℕ) → Type 0) (a : Option (List ℕ)) → AreAnswered of Has [] a a true
-none_answered of Has a at has = ([], (refl, refl), Appends-nil a)
+pub none_answered : (of : Query) (Has : Dictionary → Type 0) (a : Option (List ℕ)) → AreAnswered of Has [] a a true
+none_answered of Has a d has = ([], (refl, refl), Appends-nil a)
 
 -- texts, and then more of them
-pub more_answered : (of : Query) (Has : (List ℕ → Option ℕ) → Type 0) (texts more : List (List ℕ)) (a b c : Option (List ℕ)) (all found : Bool) → AreAnswered of Has texts a b all
+pub more_answered : (of : Query) (Has : Dictionary → Type 0) (texts more : List (List ℕ)) (a b c : Option (List ℕ)) (all found : Bool) → AreAnswered of Has texts a b all
     → AreAnswered of Has more b c found → AreAnswered of Has (texts ++ more) a c (all && found)
-more_answered of Has texts more a b c all found h k at has =
-    let x = h at has in
-    let y = k at has in (x.0 ++ y.0, more_asked of at texts more x.0 y.0 all found x.1 y.1, Appends-trans a b c x.0 y.0 x.2 y.2)
+more_answered of Has texts more a b c all found h k d has =
+    let x = h d has in
+    let y = k d has in (x.0 ++ y.0, more_asked of d texts more x.0 y.0 all found x.1 y.1, Appends-trans a b c x.0 y.0 x.2 y.2)
 
 -- one text more
 pub next_text : (texts : List (Bor (List ℕ))) (i : ℕ) → i < length texts → take (i + 1) (nows texts) ≡ take i (nows texts) ++ (get_or texts i no_key).now ∷ []
@@ -71,105 +72,111 @@ next_text texts i within =
     take_more (nows texts) i [] (omega arith) ∙ ap (λ t. take i (nows texts) ++ t ∷ []) (get_or-map (λ t. t.now) texts i no_key [] within)
 
 -- one text, whose answer was added to an empty buffer
-pub one_answered : (of : Query) (Has : (List ℕ → Option ℕ) → Type 0) (text old line : List ℕ) (found : Bool) (b c : Option (List ℕ)) → old ≡ [] → IsAdded of Has text old line found → Appends b c line
+pub one_answered : (of : Query) (Has : Dictionary → Type 0) (text old line : List ℕ) (found : Bool) (b c : Option (List ℕ)) → old ≡ [] → IsAdded of Has text old line found → Appends b c line
     → AreAnswered of Has (text ∷ []) b c found
-one_answered of Has text old line found b c none added appends at has =
-    let x = added at has in
+one_answered of Has text old line found b c none added appends d has =
+    let x = added d has in
     let is : line ≡ x.0 = x.2 ∙ ap (λ l. l ++ x.0) none in
-    (x.0, one_asked of at text x.0 found x.1, subst (Appends b c) is appends)
+    (x.0, one_asked of d text x.0 found x.1, subst (Appends b c) is appends)
 
 -- any text has an answer
 abbrev HasAnswer : (List ℕ → Bool → Type 0) → Type 0
 HasAnswer IsOf = (printed : List ℕ) × (found : Bool) × IsOf printed found
 
-plain_has : (of : Asked) (at : List ℕ → Option ℕ) (text : List ℕ) → HasAnswer (IsAnswer of at text)
-plain_has Value at text = (value_line (at text), is_some (at text), (refl, refl))
-plain_has Pair at text = (key_line text (at text), is_some (at text), (refl, refl))
-plain_has Longest at text =
-    let r = found_in at text (length text) in (found_line text r.0, is_some r.0, (r.0, r.1, refl, refl))
-plain_has (LongestAt d) at text =
-    let r = found_in (at_borders (d ∷ []) text at) text (length text) in (found_line text r.0, is_some r.0, (r.0, r.1, refl, refl))
-plain_has Prefixes at text =
-    let keys = fronts at 0 text in (fronts_text text keys, nat_lt 0 (length keys), (refl, refl))
+plain_has : (of : Asked) (d : Dictionary) (text : List ℕ) → HasAnswer (IsAnswer of d text)
+plain_has Value d text = (value_line (d.value_of text), is_some (d.value_of text), (refl, refl))
+plain_has Pair d text = (key_line text (d.value_of text), is_some (d.value_of text), (refl, refl))
+plain_has Longest d text =
+    let r = found_in d.value_of text (length text) in (found_line text r.0, is_some r.0, (r.0, r.1, refl, refl))
+plain_has (LongestAt border) d text =
+    let r = found_in (at_borders (border ∷ []) text d.value_of) text (length text) in (found_line text r.0, is_some r.0, (r.0, r.1, refl, refl))
+plain_has Prefixes d text =
+    let keys = fronts d.value_of 0 text in (fronts_text text keys, nat_lt 0 (length keys), (refl, refl))
+plain_has KeyOf d text = elim (number_or_none text) [
+  | inl number ↦ let key = d.key_of number.0 in (first_key_line key, is_some key, (key, inl (number.0, number.1, refl), refl, refl))
+  | inr none ↦ (first_key_line None, false, (None, inr (none, refl), refl, refl))
+]
 
-one_has : (how : Spelling) (of : Asked) (at : List ℕ → Option ℕ) (text : List ℕ) → HasAnswer (IsAnswerAs how of at text)
-one_has Plain of at text = plain_has of at text
-one_has Escaped of at text = elim (spells_or_not text) [
-  | inl key ↦ let x = plain_has of at key.0 in (x.0, x.1, inl (key.0, key.1, x.2))
+one_has : (how : Spelling) (of : Asked) (d : Dictionary) (text : List ℕ) → HasAnswer (IsAnswerAs how of d text)
+one_has Plain of d text = plain_has of d text
+one_has Escaped of d text = elim (spells_or_not text) [
+  | inl key ↦ let x = plain_has of d key.0 in (x.0, x.1, inl (key.0, key.1, x.2))
   | inr none ↦ (codes "none\n", false, inr (none, refl, refl))
 ]
 
 -- so it is with each of some texts
-answered : (of : Query) (at : List ℕ → Option ℕ) (texts : List (List ℕ)) → (printed : List ℕ) × (all : Bool) × Belongs of at texts printed all
-answered of at [] = ([], true, (refl, refl))
-answered of at (text ∷ texts) =
-    let one = one_has of.spelling of.asked at text in
-    let rest = answered of at texts in
+answered : (of : Query) (d : Dictionary) (texts : List (List ℕ)) → (printed : List ℕ) × (all : Bool) × Belongs of d texts printed all
+answered of d [] = ([], true, (refl, refl))
+answered of d (text ∷ texts) =
+    let one = one_has of.spelling of.asked d text in
+    let rest = answered of d texts in
     (one.0 ++ rest.0, one.1 && rest.1, (one.0, rest.0, one.1, rest.1, one.2, rest.2, refl, refl))
 
 -- all of them
-pub begun_all : (of : Query) (Has : (List ℕ → Option ℕ) → Type 0) (texts : List (List ℕ)) (a b : Option (List ℕ)) (all : Bool) → AreAnswered of Has texts a b all → AreAnsweredInPart of Has texts a b
-begun_all of Has texts a b all h at has = let x = h at has in (x.0, all, x.1, part_all a b x.0 x.2)
+pub begun_all : (of : Query) (Has : Dictionary → Type 0) (texts : List (List ℕ)) (a b : Option (List ℕ)) (all : Bool) → AreAnswered of Has texts a b all → AreAnsweredInPart of Has texts a b
+begun_all of Has texts a b all h d has = let x = h d has in (x.0, all, x.1, part_all a b x.0 x.2)
 
 -- a beginning of the answers to the first texts is one of the answers to all
-pub begun_front : (of : Query) (Has : (List ℕ → Option ℕ) → Type 0) (texts more : List (List ℕ)) (a b : Option (List ℕ)) → AreAnsweredInPart of Has texts a b → AreAnsweredInPart of Has (texts ++ more) a b
-begun_front of Has texts more a b h at has =
-    let x = h at has in
-    let y = answered of at more in
-    (x.0 ++ y.0, x.1 && y.1, more_asked of at texts more x.0 y.0 x.1 y.1 x.2 y.2, part_front a b x.0 y.0 (x.0 ++ y.0) x.3 refl)
+pub begun_front : (of : Query) (Has : Dictionary → Type 0) (texts more : List (List ℕ)) (a b : Option (List ℕ)) → AreAnsweredInPart of Has texts a b → AreAnsweredInPart of Has (texts ++ more) a b
+begun_front of Has texts more a b h d has =
+    let x = h d has in
+    let y = answered of d more in
+    (x.0 ++ y.0, x.1 && y.1, more_asked of d texts more x.0 y.0 x.1 y.1 x.2 y.2, part_front a b x.0 y.0 (x.0 ++ y.0) x.3 refl)
 
 -- nothing was printed
-pub begun_none : (of : Query) (Has : (List ℕ → Option ℕ) → Type 0) (texts : List (List ℕ)) (a : Option (List ℕ)) → AreAnsweredInPart of Has texts a a
+pub begun_none : (of : Query) (Has : Dictionary → Type 0) (texts : List (List ℕ)) (a : Option (List ℕ)) → AreAnsweredInPart of Has texts a a
 begun_none of Has texts a = begun_front of Has [] texts a a (begun_all of Has [] a a true (none_answered of Has a))
 
 -- all of the first texts, and a beginning of the answers to more of them
-pub more_begun : (of : Query) (Has : (List ℕ → Option ℕ) → Type 0) (texts more : List (List ℕ)) (a b c : Option (List ℕ)) (all : Bool) → AreAnswered of Has texts a b all
+pub more_begun : (of : Query) (Has : Dictionary → Type 0) (texts more : List (List ℕ)) (a b c : Option (List ℕ)) (all : Bool) → AreAnswered of Has texts a b all
     → AreAnsweredInPart of Has more b c → AreAnsweredInPart of Has (texts ++ more) a c
-more_begun of Has texts more a b c all h k at has =
-    let x = h at has in
-    let y = k at has in
-    (x.0 ++ y.0, all && y.1, more_asked of at texts more x.0 y.0 all y.1 x.1 y.2, part_behind a b c x.0 y.0 (x.0 ++ y.0) x.2 y.3 refl)
+more_begun of Has texts more a b c all h k d has =
+    let x = h d has in
+    let y = k d has in
+    (x.0 ++ y.0, all && y.1, more_asked of d texts more x.0 y.0 all y.1 x.1 y.2, part_behind a b c x.0 y.0 (x.0 ++ y.0) x.2 y.3 refl)
 
 -- all of the first texts, and nothing of the others
-pub begun_done : (of : Query) (Has : (List ℕ → Option ℕ) → Type 0) (texts : List (List ℕ)) (n : ℕ) (a b : Option (List ℕ)) (all : Bool) → AreAnswered of Has (take n texts) a b all
+pub begun_done : (of : Query) (Has : Dictionary → Type 0) (texts : List (List ℕ)) (n : ℕ) (a b : Option (List ℕ)) (all : Bool) → AreAnswered of Has (take n texts) a b all
     → AreAnsweredInPart of Has texts a b
 begun_done of Has texts n a b all h =
     subst (λ ts. AreAnsweredInPart of Has ts a b) (take-append-drop n texts) (begun_front of Has (take n texts) (drop n texts) a b (begun_all of Has (take n texts) a b all h))
 
 -- all of the first texts, and a beginning of the answer to the next
-pub begun_next : (of : Query) (Has : (List ℕ → Option ℕ) → Type 0) (texts : List (List ℕ)) (n : ℕ) (text old line : List ℕ) (found : Bool) (a b c : Option (List ℕ)) (all : Bool)
+pub begun_next : (of : Query) (Has : Dictionary → Type 0) (texts : List (List ℕ)) (n : ℕ) (text old line : List ℕ) (found : Bool) (a b c : Option (List ℕ)) (all : Bool)
     → take (n + 1) texts ≡ take n texts ++ text ∷ [] → old ≡ [] → IsAdded of Has text old line found → AppendsPart b c line → AreAnswered of Has (take n texts) a b all
     → AreAnsweredInPart of Has texts a c
 begun_next of Has texts n text old line found a b c all more none added part h =
     let one : AreAnsweredInPart of Has (text ∷ []) b c =
-    λ at has.
-    let x = added at has in
+    λ d has.
+    let x = added d has in
     let is : line ≡ x.0 = x.2 ∙ ap (λ l. l ++ x.0) none in
-    (x.0, found, one_asked of at text x.0 found x.1, subst (AppendsPart b c) is part) in
+    (x.0, found, one_asked of d text x.0 found x.1, subst (AppendsPart b c) is part) in
     let first : AreAnsweredInPart of Has (take (n + 1) texts) a c =
     subst (λ ts. AreAnsweredInPart of Has ts a c) (sym more) (more_begun of Has (take n texts) (text ∷ []) a b c all h one) in
     subst (λ ts. AreAnsweredInPart of Has ts a c) (take-append-drop (n + 1) texts) (begun_front of Has (take (n + 1) texts) (drop (n + 1) texts) a c first)
 
 -- the values of all keys
-pub values_are : (at : List ℕ → Option ℕ) (keys : List (Bor (List ℕ))) (all : Bool) → all ≡ are_found (answers_of at keys) → Belongs (as_is Value) at (nows keys) (value_lines (answers_of at keys)) all
-values_are at keys all is =
-    subst (λ found. Belongs (as_is Value) at (nows keys) (value_lines found) all) (sym (answers_are at keys))
-    (subst (λ t. Belongs (as_is Value) at (nows keys) (value_lines (map at (nows keys))) t) (sym (is ∙ ap are_found (answers_are at keys))) (values_asked at (nows keys)))
+pub values_are : (d : Dictionary) (keys : List (Bor (List ℕ))) (all : Bool) → all ≡ are_found (answers_of d.value_of keys) → Belongs (as_is Value) d (nows keys) (value_lines (answers_of d.value_of keys)) all
+values_are d keys all is =
+    subst (λ found. Belongs (as_is Value) d (nows keys) (value_lines found) all) (sym (answers_are d.value_of keys))
+    (subst (λ t. Belongs (as_is Value) d (nows keys) (value_lines (map d.value_of (nows keys))) t) (sym (is ∙ ap are_found (answers_are d.value_of keys))) (values_asked d (nows keys)))
 
 -- a beginning of the values of all keys
-pub values_begun : (at : List ℕ → Option ℕ) (keys : List (Bor (List ℕ))) (a b : Option (List ℕ)) → AppendsPart a b (value_lines (answers_of at keys))
-    → (printed : List ℕ) × (all : Bool) × Belongs (as_is Value) at (nows keys) printed all × AppendsPart a b printed
-values_begun at keys a b p =
-    let found = answers_of at keys in (value_lines found, are_found found, values_are at keys (are_found found) refl, p)
+pub values_begun : (d : Dictionary) (keys : List (Bor (List ℕ))) (a b : Option (List ℕ)) → AppendsPart a b (value_lines (answers_of d.value_of keys))
+    → (printed : List ℕ) × (all : Bool) × Belongs (as_is Value) d (nows keys) printed all × AppendsPart a b printed
+values_begun d keys a b p =
+    let found = answers_of d.value_of keys in (value_lines found, are_found found, values_are d keys (are_found found) refl, p)
 
 -- the answer to a text is one to a text that spells it
-pub added_spelled : (of : Asked) (Has : (List ℕ → Option ℕ) → Type 0) (text key old new : List ℕ) (found : Bool) → Spells text key → IsAdded (as_is of) Has key old new found
+pub added_spelled : (of : Asked) (Has : Dictionary → Type 0) (text key old new : List ℕ) (found : Bool) → Spells text key → IsAdded (as_is of) Has key old new found
     → IsAdded (with_escapes of) Has text old new found
-added_spelled of Has text key old new found spells added at has = let x = added at has in (x.0, inl (key, spells, x.1), x.2)
+added_spelled of Has text key old new found spells added d has = let x = added d has in (x.0, inl (key, spells, x.1), x.2)
 
--- what holds of the map that the bytes of a trie mean holds of the values that keys have in the trie
-pub in_map : (kind : TrieKind) (bytes : List ℕ) (P : (List ℕ → Option ℕ) → Type 0) → ((m : Map) → Means (kind_of kind) bytes m → P (look (kind_of kind) m)) → (at : List ℕ → Option ℕ) → TrieFinds kind bytes at → P at
-in_map kind bytes P h at has = subst P (sym has.2) (h has.0 has.1)
+-- what holds of the pairs that the bytes of a trie list, and of their map, holds of the dictionary of the trie
+pub in_pairs : (kind : TrieKind) (bytes : List ℕ) (P : Dictionary → Type 0)
+    → ((m : Map) (pairs : Pairs) → Means (kind_of kind) bytes m → Lists (kind_of kind) bytes pairs → P (dictionary_of (look (kind_of kind) m) pairs))
+    → (d : Dictionary) → TrieFinds kind bytes d → P d
+in_pairs kind bytes P h d has = subst P (sym has.4) (h has.0 has.1 has.2 has.3)
 
 -- what is asked of texts, by how they are written
 abbrev query_of : Asked → Spelling → Query

@@ -1,19 +1,23 @@
 -- The pairs that are chosen.
-use Rattle.std.proofs.Common.{◌≡◌, ℕ, ◌≤◌, List, Bool, not, length, refl, ap, arith, subst, Option, Some, None, Result, Ok, Err, IfOk, IfSome, IfNone, OnErr}
+use Rattle.std.proofs.Common.{◌≡◌, ℕ, suc, ◌≤◌, List, [], ◌∷◌, Bool, true, false, cond, not, length, refl, ap, ◌∙◌, arith, subst, Option, Some, None, Result, Ok, Err, IfOk, IfSome, IfNone, OnErr}
+use Rattle.std.specs.Prelude.{◌&&◌, ◌==◌}
 use Rattle.std.specs.Io.KnownBytes.{Appends}
+use Rattle.std.proofs.lemmas.Bool.{ne_eqb}
 use Rattle.std.proofs.lemmas.List.Filters.{length-filter_both}
 use Rattle.zerotrie_core.specs.Kind.{Kind}
 use Rattle.zerotrie_core.specs.Kinds.{kind_of}
 use Rattle.zerotrie_core.specs.Listings.{Left}
-use Rattle.zerotrie_core.specs.Maps.{Pairs}
+use Rattle.zerotrie_core.specs.Maps.{Pairs, beginning, begins_with}
 use Rattle.zerotrie_core.specs.Texts.{Lists}
 use Rattle.zerotrie_core.specs.declared.TrieKind.{TrieKind}
 use Rattle.zerotrie_files.specs.Parts.{AppendsPart}
 use Rattle.zerotrie_search.specs.Searches.{accepted, IsSearch}
+use Rattle.zerotrie_queries.specs.Chosen.{begins_left, chosen, is_chosen, is_in, is_matched}
 use Rattle.zerotrie_queries.specs.Json.{IsFirstNoText}
-use Rattle.zerotrie_queries.specs.Listed.{limited, IsPrintable, AreListed, AreListedInPart}
+use Rattle.zerotrie_queries.specs.Listed.{limited, IsPrintable, ArePrinted, AreListed, AreListedInPart, AreNoText}
 use Rattle.zerotrie_queries.specs.Printed.{listed}
 use Rattle.zerotrie_queries.specs.declared.print.Form.{Form}
+use Rattle.zerotrie_queries.specs.declared.question.Choice.{Choice}
 
 -- those that are accepted are no more than all
 pub few_accepted : (accepts : List ℕ → Bool) (pairs : Pairs) → length (accepted accepts pairs) ≤ length pairs
@@ -67,3 +71,55 @@ module _ (pick : Pairs → Pairs) (kind : TrieKind) (bytes : List ℕ) where
   pub no_text : (limit : Option ℕ) (seen : Pairs) (key : List ℕ) → Picked seen → IsFirstNoText (limited limit seen) key
       → (pairs : Pairs) → Lists (kind_of kind) bytes pairs → IsFirstNoText (limited limit (pick pairs)) key
   no_text limit seen key s is = λ pairs lists. subst (λ l. IsFirstNoText (limited limit l) key) (s pairs lists) is
+
+-- what is picked alike is listed alike
+module _ (p q : Pairs → Pairs) (same : (pairs : Pairs) → p pairs ≡ q pairs) where
+  pub all_alike : (form : Form) (limit : Option ℕ) (kind : TrieKind) (bytes : List ℕ) (old new : Option (List ℕ)) → AreListed form p limit kind bytes old new → AreListed form q limit kind bytes old new
+  all_alike form limit kind bytes old new h = λ pairs lists. subst (λ l. ArePrinted form (limited limit l) old new) (same pairs) (h pairs lists)
+
+  pub part_alike : (form : Form) (limit : Option ℕ) (kind : TrieKind) (bytes : List ℕ) (old new : Option (List ℕ)) → AreListedInPart form p limit kind bytes old new → AreListedInPart form q limit kind bytes old new
+  part_alike form limit kind bytes old new h = λ pairs lists. subst (λ l. AppendsPart old new (listed form (limited limit l))) (same pairs) (h pairs lists)
+
+  pub none_alike : (form : Form) (limit : Option ℕ) (kind : TrieKind) (bytes key : List ℕ) → AreNoText form p limit kind bytes key → AreNoText form q limit kind bytes key
+  none_alike form limit kind bytes key h = (h.0, λ pairs lists. subst (λ l. IsFirstNoText (limited limit l) key) (same pairs) (h.1 pairs lists))
+
+-- keys that are accepted alike are picked alike
+pub accepted_alike : (p q : List ℕ → Bool) → ((key : List ℕ) → p key ≡ q key) → (pairs : Pairs) → accepted p pairs ≡ accepted q pairs
+accepted_alike p q same [] = refl
+accepted_alike p q same (e ∷ pairs) = rw (same e.0) (ap (λ l. cond (q e.0) (e ∷ l) l) (accepted_alike p q same pairs))
+
+-- all keys begin with no byte
+free_prefix : (kind : TrieKind) (prefix key : List ℕ) → prefix ≡ [] → begins_with (kind_of kind) prefix key ≡ true
+free_prefix kind prefix key is = rw is refl
+
+true_and : (a b c : Bool) → a ≡ true → b ≡ true → c ≡ ((a && b) && c)
+true_and a b c p q = rw (p, q) refl
+
+and_true : (a b c : Bool) → b ≡ true → c ≡ true → a ≡ ((a && b) && c)
+and_true true b c p q = rw (p, q) refl
+and_true false b c p q = refl
+
+-- without a prefix and a range the keys are chosen that the automaton accepts
+pub alone : (kind : TrieKind) (c : Choice) (accepts : List ℕ → Bool) → c.prefix.now ≡ [] → ((key : List ℕ) → is_in c.range key ≡ true) → ((key : List ℕ) → accepts key ≡ is_matched c.automaton key)
+    → (key : List ℕ) → accepts key ≡ is_chosen kind c key
+alone kind c accepts none all is key = is key ∙ true_and (begins_with (kind_of kind) c.prefix.now key) (is_in c.range key) (is_matched c.automaton key) (free_prefix kind c.prefix.now key none) (all key)
+
+pub by_automaton_alone : (kind : TrieKind) (c : Choice) (accepts : List ℕ → Bool) → c.prefix.now ≡ [] → ((key : List ℕ) → is_in c.range key ≡ true) → ((key : List ℕ) → accepts key ≡ is_matched c.automaton key)
+    → (pairs : Pairs) → accepted accepts pairs ≡ chosen kind c pairs
+by_automaton_alone kind c accepts none all is = accepted_alike accepts (is_chosen kind c) (alone kind c accepts none all is)
+
+-- with all conditions
+pub by_all : (kind : TrieKind) (c : Choice) (accepts : List ℕ → Bool) → ((key : List ℕ) → accepts key ≡ is_matched c.automaton key)
+    → (pairs : Pairs) → accepted (λ key. (begins_with (kind_of kind) c.prefix.now key && is_in c.range key) && accepts key) pairs ≡ chosen kind c pairs
+by_all kind c accepts is = accepted_alike (λ key. (begins_with (kind_of kind) c.prefix.now key && is_in c.range key) && accepts key) (is_chosen kind c)
+    (λ key. ap (λ b. (begins_with (kind_of kind) c.prefix.now key && is_in c.range key) && b) (is key))
+
+-- and with a prefix alone
+pub by_prefix_alone : (kind : TrieKind) (c : Choice) → c.automaton ≡ None → ((key : List ℕ) → is_in c.range key ≡ true) → (pairs : Pairs) → beginning (kind_of kind) c.prefix.now pairs ≡ chosen kind c pairs
+by_prefix_alone kind c none all = accepted_alike (begins_with (kind_of kind) c.prefix.now) (is_chosen kind c)
+    (λ key. and_true (begins_with (kind_of kind) c.prefix.now key) (is_in c.range key) (is_matched c.automaton key) (all key) (rw none refl))
+
+-- a prefix is at its end if it has no byte left
+pub ends_here : (kind : TrieKind) (left : List ℕ) → (length left == 0) ≡ begins_left kind (Some left) []
+ends_here kind [] = refl
+ends_here kind (b ∷ left) = ne_eqb (suc (length left)) 0 (λ e. omega (arith, e))

@@ -7,11 +7,12 @@ use Rattle.zerotrie_core.specs.Kind.{Kind}
 use Rattle.zerotrie_core.specs.Kinds.{kind_of}
 use Rattle.zerotrie_core.specs.declared.TrieKind.{TrieKind}
 use Rattle.zerotrie_core.specs.Maps.{Pairs, Map, look, value_at}
-use Rattle.zerotrie_core.specs.Texts.{Means}
+use Rattle.zerotrie_core.specs.Texts.{Lists, Means}
 use Rattle.zerotrie_base.proofs.CallerLemmas.{look-map_of}
 use Rattle.zerotrie_core.specs.Prefixes.{Along, Leaves, at_front, fronts, fronts_left, common_prefixes, NextFront}
 use Rattle.zerotrie_queries.specs.Printed.{front_line, front_lines, fronts_text}
 use Rattle.zerotrie_queries.specs.Answers.{AddsAnswer, as_is}
+use Rattle.zerotrie_queries.specs.Finders.{dictionary_of}
 use Rattle.zerotrie_queries.specs.declared.question.Asked.TheVariants.{Prefixes}
 
 -- what was printed of the keys, and how many they are, belong to those to come and to all
@@ -84,16 +85,17 @@ text_some text (r ∷ found) some = (refl, grind (arith, nat_tests))
 
 -- no key is told as none
 pub added_none : (kind : TrieKind) (bytes text lines old new : List ℕ) (before : Along) → before ≡ at_front (kind_of kind) bytes text → PrintsAll text lines 0 before → new ≡ old ++ codes "none\n"
-    → (m : Map) → Means (kind_of kind) bytes m → AddsAnswer (as_is Prefixes) (look (kind_of kind) m) text old new false
-added_none kind bytes text lines old new before is h added m means =
+    → (m : Map) (pairs : Pairs) → Means (kind_of kind) bytes m → Lists (kind_of kind) bytes pairs → AddsAnswer (as_is Prefixes) (dictionary_of (look (kind_of kind) m) pairs) text old new false
+added_none kind bytes text lines old new before is h added m pairs means lists =
     let keys = prints_fronts (kind_of kind) bytes text lines 0 before m is h means in
     let none = text_none text (common_prefixes (kind_of kind) m text) (sym keys.1) in
     (codes "none\n", (none.0, none.1), added)
 
 -- and some by their number and their lines
 pub added_some : (kind : TrieKind) (bytes text lines old new : List ℕ) (count : ℕ) (before : Along) → before ≡ at_front (kind_of kind) bytes text → PrintsAll text lines count before → (count ≡ 0 → ⊥)
-    → new ≡ old ++ (decimal count ++ (codes " found\n" ++ lines)) → (m : Map) → Means (kind_of kind) bytes m → AddsAnswer (as_is Prefixes) (look (kind_of kind) m) text old new true
-added_some kind bytes text lines old new count before is h some added m means =
+    → new ≡ old ++ (decimal count ++ (codes " found\n" ++ lines)) → (m : Map) (pairs : Pairs) → Means (kind_of kind) bytes m → Lists (kind_of kind) bytes pairs
+    → AddsAnswer (as_is Prefixes) (dictionary_of (look (kind_of kind) m) pairs) text old new true
+added_some kind bytes text lines old new count before is h some added m pairs means lists =
     let found = common_prefixes (kind_of kind) m text in
     let keys = prints_fronts (kind_of kind) bytes text lines count before m is h means in
     let all = text_some text found (λ none. some (keys.1 ∙ none)) in

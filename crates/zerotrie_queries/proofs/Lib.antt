@@ -1,7 +1,8 @@
-mod ChoiceLemmas
+pub mod ChoiceLemmas
 mod WriteLemmas
 mod FoundLemmas
 pub mod AnswerLemmas
+pub mod NumberLemmas
 mod JsonLemmas
 mod CodeLemmas
 mod CountLemmas

@@ -1,19 +1,18 @@
 -- Sorted listings of the pairs that are chosen.
-use Rattle.std.proofs.Common.{◌≡◌, ℕ, zero, suc, ◌+◌, ◌<◌, ◌≤◌, ◌^◌, take, drop, List, [], ◌∷◌, ◌++◌, Bool, true, false, cond, not, length, refl, sym, ◌∙◌, ap, subst, arith, Option, Some, None, Vec, inl, inr, Ordering, Less, Equal, Greater}
+use Rattle.std.proofs.Common.{◌≡◌, ℕ, suc, ◌+◌, ◌<◌, ◌^◌, take, drop, List, [], ◌∷◌, ◌++◌, Bool, true, false, cond, length, refl, sym, ◌∙◌, ap, subst, arith, Option, Some, None, Vec, inl, inr, Less, Equal}
 use Rattle.std.proofs.Math.Seq.{split_at}
 use Rattle.std.specs.Prelude.{slice_index, is_some, IfSome, IsTrue, ◌==◌, ◌&&◌, ◌≢◌, ◌↔◌}
 use Rattle.std.specs.Option.{option_map}
 use Rattle.std.specs.FinMap.{entries}
-use Rattle.std.specs.Ordering.{nat_cmp, is_le, is_lt}
+use Rattle.std.specs.Ordering.{nat_cmp, is_le}
 use Rattle.std.specs.Cmp.{nat_cmp_is}
 use Rattle.std.specs.Cmp.Lexicographic.{slice_cmp}
-use Rattle.std.specs.Range.Bound.{bounds_contain, is_up_to_end}
+use Rattle.std.specs.Range.Bound.{bound_map, bounds_contain, is_up_to_end}
 use Rattle.std.specs.declared.ops.Bound.{Bound}
-use Rattle.std.specs.declared.ops.Bound.TheVariants.{Included, Excluded, Unbounded}
-use Rattle.std.specs.Borrow.{Bor}
+use Rattle.std.specs.declared.ops.Bound.TheVariants.{Included, Excluded}
 use Rattle.std.proofs.lemmas.Bool.{cases_eq, ne_eqb, eq-eqb}
 use Rattle.zerotrie_base.proofs.CanonicalLemmas.Bounds.{entries_count}
-use Rattle.zerotrie_core.specs.Kind.{Kind, fold_byte, same_byte}
+use Rattle.zerotrie_core.specs.Kind.{Kind, same_byte}
 use Rattle.zerotrie_core.specs.Kinds.{kind_of}
 use Rattle.zerotrie_core.specs.Maps.{Pairs, Map, map_of, after_run, begins_with}
 use Rattle.zerotrie_core.specs.Listings.{Left, to_come}
@@ -21,24 +20,15 @@ use Rattle.zerotrie_core.specs.Texts.{Lists, Means}
 use Rattle.zerotrie_core.specs.WellFormed.{IsWellFormed}
 use Rattle.zerotrie_core.specs.declared.TrieKind.{TrieKind}
 use Rattle.zerotrie_core.specs.declared.TrieKind.TheVariants.{Simple, Ignore, Hash, Ext}
-use Rattle.zerotrie_search.specs.Searches.{accepted, accepted_left}
+use Rattle.zerotrie_search.specs.Searches.{accepted}
 use Rattle.zerotrie_search.specs.Sets.{by_bytes}
 use Rattle.zerotrie_search.specs.Sorted.{within}
 use Rattle.zerotrie_search.proofs.PathLemmas.{lists_few}
-use Rattle.zerotrie_queries.specs.Chosen.{chosen}
-use Rattle.zerotrie_queries.specs.Sorted.{is_chosen, picked, below_some, AreWithin}
+use Rattle.zerotrie_queries.specs.Chosen.{chosen, is_chosen, is_in, is_matched}
+use Rattle.zerotrie_queries.specs.Sorted.{picked, below_some, AreWithin}
 use Rattle.zerotrie_queries.specs.declared.question.Order.TheVariants.{ByBytes}
 use Rattle.zerotrie_queries.specs.declared.question.Choice.{Choice}
-use Rattle.zerotrie_queries.specs.declared.question.Choice.TheVariants as choice
-use Rattle.zerotrie_queries.proofs.ChoiceLemmas.{few_accepted}
-
--- the pairs that are chosen are those whose keys are
-pub chosen_is : (kind : TrieKind) (c : Choice) (pairs : Pairs) → accepted (is_chosen kind c) pairs ≡ chosen kind c pairs
-chosen_is kind (choice.Prefix prefix) pairs = refl
-chosen_is kind (choice.Glob g) pairs = refl
-chosen_is kind (choice.Fuzzy word) pairs = refl
-chosen_is kind (choice.Subsequence s) pairs = refl
-chosen_is kind (choice.Range r) pairs = refl
+use Rattle.zerotrie_queries.proofs.ChoiceLemmas.{accepted_alike, few_accepted}
 
 -- of the pairs within bounds those are accepted that are accepted of all, if each accepted key is within
 pub accepted_within : (p q : List ℕ → Bool) (pairs : Pairs) → ((key : List ℕ) → p key ≡ true → q key ≡ true) → accepted p (accepted q pairs) ≡ accepted p pairs
@@ -53,16 +43,7 @@ accepted_within p q (e ∷ pairs) h = go (p e.0) (q e.0) refl refl (accepted_wit
 
 -- the pairs that are chosen between bounds are all that are chosen, if each key that is chosen is between them
 pub chosen_within : (kind : TrieKind) (c : Choice) (from to : Bound (List ℕ)) (m : Map) → AreWithin kind c from to → accepted (is_chosen kind c) (within from to m) ≡ chosen kind c (entries m)
-chosen_within kind c from to m h = accepted_within (is_chosen kind c) (bounds_contain by_bytes from to) (entries m) h ∙ chosen_is kind c (entries m)
-
--- a pair whose key is not accepted is passed over
-pub passed_out : (accepts : List ℕ → Bool) (key : List ℕ) (value : ℕ) (before after : Left) → before ≡ to_come ((key, value) ∷ after.pairs) → after ≡ to_come after.pairs → accepts key ≡ false
-    → accepted_left accepts after ≡ accepted_left accepts before
-passed_out accepts key value before after is going out =
-    ap (accepted_left accepts) going ∙ sym (ap (accepted_left accepts) is ∙ without accepts key value after.pairs out)
-  where
-    without : (accepts : List ℕ → Bool) (key : List ℕ) (value : ℕ) (pairs : Pairs) → accepts key ≡ false → accepted_left accepts (to_come ((key, value) ∷ pairs)) ≡ accepted_left accepts (to_come pairs)
-    without accepts key value pairs out = rw out refl
+chosen_within kind c from to m h = accepted_within (is_chosen kind c) (bounds_contain by_bytes from to) (entries m) h
 
 -- they are fewer than bytes can be
 pub few_within : (kind : Kind) (bytes : List ℕ) (accepts : List ℕ → Bool) (from to : Bound (List ℕ)) (m : Map) → Means kind bytes m → length (accepted accepts (within from to m)) < 2 ^ 64
@@ -108,14 +89,6 @@ run_below (x ∷ front) b rest (c ∷ key) h =
     let is = begun x c (after_run (front ++ b ∷ rest) key) h in
     rw (is.0, tied x) (run_below front b rest key is.1)
 
--- a key begins with a prefix if it has the first byte and what follows begins with the rest
-pub begins_more : (kind : Kind) (c b : ℕ) (front more left rest : List ℕ) → front ≡ c ∷ more → left ≡ b ∷ rest → fold_byte kind b ≡ fold_byte kind c → begins_with kind more rest ≡ begins_with kind front left
-begins_more kind c b front more left rest f l same = rw (f, l) (sym (ap (λ t. t && begins_with kind more rest) (eq-eqb (fold_byte kind b) (fold_byte kind c) same)))
-
--- and not if it has another one, or none
-pub begins_not : (kind : Kind) (c b : ℕ) (front more left rest : List ℕ) → front ≡ c ∷ more → left ≡ b ∷ rest → (fold_byte kind b ≡ fold_byte kind c → ⊥) → begins_with kind front left ≡ false
-begins_not kind c b front more left rest f l other = rw (f, l) (ap (λ t. t && begins_with kind more rest) (ne_eqb (fold_byte kind b) (fold_byte kind c) other))
-
 -- so all keys that begin with some bytes are below these bytes up to a place, with the next byte there
 pub prefix_below : (prefix : List ℕ) (place : ℕ) (bound : List ℕ) → place < length prefix → bound ≡ take place prefix ++ (slice_index prefix place + 1) ∷ []
     → (key : List ℕ) → is_some (after_run prefix key) ≡ true → slice_cmp nat_cmp key bound ≡ Less
@@ -155,20 +128,32 @@ both true true p q = refl
 both true false p q = q
 both false b p q = p
 
--- the keys that begin with a prefix are between it and the bytes above them
-pub prefix_within : (kind : TrieKind) (prefix : Bor (List ℕ)) (above : Option (List ℕ)) → kind ≢ Ignore
-    → IfSome above (λ bound. (key : List ℕ) → is_some (after_run prefix.now key) ≡ true → slice_cmp nat_cmp key bound ≡ Less)
-    → AreWithin kind (choice.Prefix prefix) (Included prefix.now) (below_some above)
-prefix_within kind prefix above exact h key begins =
-    let run = as_run kind exact prefix.now key begins in
-    both (is_le (slice_cmp nat_cmp prefix.now key)) (is_up_to_end by_bytes (below_some above) key) (run_from prefix.now key run) (ends prefix.now key above h run)
+-- the parts of what is chosen
+both_parts : (a b c : Bool) → ((a && b) && c) ≡ true → (a ≡ true) × (b ≡ true)
+both_parts true true c h = (refl, refl)
+both_parts true false c h = absurd (cc)
+both_parts false b c h = absurd (cc)
+
+-- the keys that are chosen are between a prefix and the bytes above all keys that begin with it
+pub prefix_within : (kind : TrieKind) (c : Choice) (above : Option (List ℕ)) → kind ≢ Ignore
+    → IfSome above (λ bound. (key : List ℕ) → is_some (after_run c.prefix.now key) ≡ true → slice_cmp nat_cmp key bound ≡ Less)
+    → AreWithin kind c (Included c.prefix.now) (below_some above)
+prefix_within kind c above exact h key is =
+    let begins = (both_parts (begins_with (kind_of kind) c.prefix.now key) (is_in c.range key) (is_matched c.automaton key) is).0 in
+    let run = as_run kind exact c.prefix.now key begins in
+    both (is_le (slice_cmp nat_cmp c.prefix.now key)) (is_up_to_end by_bytes (below_some above) key) (run_from c.prefix.now key run) (ends c.prefix.now key above h run)
+
+-- they are in the range
+pub range_within : (kind : TrieKind) (c : Choice) → AreWithin kind c (bound_map (λ b. b.now) c.range.from) (bound_map (λ b. b.now) c.range.to)
+range_within kind c key is = (both_parts (begins_with (kind_of kind) c.prefix.now key) (is_in c.range key) (is_matched c.automaton key) is).1
 
 -- what a sorted listing lists is what is picked of the pairs that the bytes list
-pub picked_sorted : (kind : TrieKind) (c : Choice) (from to : Bound (List ℕ)) (bytes : List ℕ) (left : Left) → length bytes < 2 ^ 64 → AreWithin kind c from to
-    → ((m : Map) → Means (kind_of kind) bytes m → left ≡ to_come (accepted (is_chosen kind c) (within from to m)))
+pub picked_sorted : (kind : TrieKind) (c : Choice) (accepts : List ℕ → Bool) → ((key : List ℕ) → accepts key ≡ is_chosen kind c key) → (from to : Bound (List ℕ)) (bytes : List ℕ) (left : Left) → length bytes < 2 ^ 64 → AreWithin kind c from to
+    → ((m : Map) → Means (kind_of kind) bytes m → left ≡ to_come (accepted accepts (within from to m)))
     → (pairs : Pairs) → Lists (kind_of kind) bytes pairs → left.pairs ≡ picked ByBytes kind c pairs
-picked_sorted kind c from to bytes left short inside listed pairs lists =
+picked_sorted kind c accepts same from to bytes left short inside listed pairs lists =
     ap (λ l. l.pairs) (listed (map_of pairs) (record { short = short; pairs = pairs; lists = lists; is = refl }))
+    ∙ accepted_alike accepts (is_chosen kind c) same (within from to (map_of pairs))
     ∙ chosen_within kind c from to (map_of pairs) inside
 
 -- malformed bytes list no pairs

@@ -33,6 +33,11 @@ abbrev pub key_line : List ℕ → Option ℕ → List ℕ
 key_line key None = escaped key ++ codes "\tnone\n"
 key_line key (Some value) = tsv_line (key, value)
 
+-- the line of the first key of a value
+abbrev pub first_key_line : Option (List ℕ) → List ℕ
+first_key_line None = codes "none\n"
+first_key_line (Some key) = escaped key ++ 10 ∷ []
+
 -- the line of a key that a text begins with, by its length, and of its value
 abbrev pub front_line : List ℕ → ℕ × ℕ → List ℕ
 front_line text r = tsv_line (take r.0 text, r.1)

@@ -1,29 +1,16 @@
 -- The pairs of a trie in an order.
-use Rattle.std.specs.Prelude.{◌≡◌, ℕ, List, Bool, true, Option, Some, None}
+use Rattle.std.specs.Prelude.{◌≡◌, ℕ, List, true, Option, Some, None}
 use Rattle.std.specs.FinMap.{entries}
-use Rattle.std.specs.Range.Bound.{bound_map, bounds_contain}
+use Rattle.std.specs.Range.Bound.{bounds_contain}
 use Rattle.std.specs.declared.ops.Bound.{Bound}
 use Rattle.std.specs.declared.ops.Bound.TheVariants.{Excluded, Unbounded}
-use Rattle.zerotrie_core.specs.Maps.{Pairs, map_of, begins_with}
-use Rattle.zerotrie_core.specs.Kinds.{kind_of}
+use Rattle.zerotrie_core.specs.Maps.{Pairs, map_of}
 use Rattle.zerotrie_core.specs.declared.TrieKind.{TrieKind}
-use Rattle.zerotrie_search.specs.Globs as globs
-use Rattle.zerotrie_search.specs.Pending.{is_near_text}
-use Rattle.zerotrie_search.specs.Sets.{by_bytes, has_within}
-use Rattle.zerotrie_search.specs.Words.{letters_of}
-use Rattle.zerotrie_queries.specs.Chosen.{chosen}
+use Rattle.zerotrie_search.specs.Sets.{by_bytes}
+use Rattle.zerotrie_queries.specs.Chosen.{chosen, is_chosen}
 use Rattle.zerotrie_queries.specs.declared.question.Choice.{Choice}
-use Rattle.zerotrie_queries.specs.declared.question.Choice.TheVariants as choice
 use Rattle.zerotrie_queries.specs.declared.question.Order.{Order}
 use Rattle.zerotrie_queries.specs.declared.question.Order.TheVariants.{Stored, ByBytes}
-
--- whether a key is chosen
-abbrev pub is_chosen : TrieKind → Choice → List ℕ → Bool
-is_chosen kind (choice.Prefix prefix) key = begins_with (kind_of kind) prefix.now key
-is_chosen kind (choice.Glob g) key = globs.matches (globs.items g.pattern.now) key
-is_chosen kind (choice.Fuzzy word) key = is_near_text word.edits (letters_of word.word) key
-is_chosen kind (choice.Subsequence s) key = has_within s.0.now key
-is_chosen kind (choice.Range r) key = bounds_contain by_bytes (bound_map (λ b. b.now) r.from) (bound_map (λ b. b.now) r.to) key
 
 -- pairs that a trie lists, in an order: as it lists them, or as their keys ascend by their bytes
 abbrev pub in_order : Order → Pairs → Pairs

@@ -13,6 +13,7 @@ mod first_pairs;
 mod json_text;
 mod listing;
 mod lookups;
+mod prefix;
 mod print;
 mod question;
 mod reports;

@@ -1,14 +1,13 @@
 //! The pairs of a trie, printed as they come.
 
-ghost use Rattle.std.specs.Prelude.{◌≡◌, ◌≢◌, IfOk, IfErr, IfSome, IfNone, OnOk, OnErr};
+ghost use Rattle.std.specs.Prelude.{◌≡◌, ◌≢◌, ℕ, List, [], None, true, IfOk, IfErr, IfSome, IfNone, OnOk, OnErr};
 ghost use Rattle.zerotrie_core.specs.Maps.{beginning};
 ghost use Rattle.zerotrie_core.specs.Kinds.{kind_of};
 ghost use Rattle.zerotrie_search.specs.Searches.{accepted};
 ghost use Rattle.std.specs.Range.Bound.{bound_map};
 ghost use Rattle.zerotrie_core.specs.declared.TrieKind.TheVariants.{Ignore};
-ghost use Rattle.zerotrie_queries.specs.Chosen.{chosen};
+ghost use Rattle.zerotrie_queries.specs.Chosen.{chosen, is_chosen, is_in, is_matched};
 ghost use Rattle.zerotrie_queries.specs.Sorted.{AreWithin, picked};
-ghost use Rattle.zerotrie_queries.specs.declared.question.Choice.TheVariants.{Prefix};
 ghost use Rattle.zerotrie_queries.specs.declared.question.Order.TheVariants.{ByBytes};
 ghost use Rattle.zerotrie_queries.specs.Listed.{AreListed, AreListedInPart, AreNoText, AreUnlisted, IsListingNoted};
 ghost use Rattle.zerotrie_files.specs.Faults.{IsNoted};
@@ -18,6 +17,7 @@ mod forms;
 mod json_object;
 
 use crate::listing::forms::write_first;
+use crate::prefix::KindPrefix;
 use crate::print::Form;
 use crate::question::{Choice, Order};
 use crate::sorted::{above_prefix, stream_chosen, upper_bound};
@@ -27,7 +27,7 @@ use std::io::Write;
 use std::ops::Bound;
 use zerotrie_core::{Trie, TrieKind, TrieRef};
 use zerotrie_files::Noted;
-use zerotrie_search::{Automaton, KeyRange, Search};
+use zerotrie_search::{Automaton, Both, KeyRange, Search, StartsWith, by_automaton};
 
 /// Why pairs are not listed, or not all of them.
 #[derive(Debug, Drop)]
@@ -96,6 +96,116 @@ fn write_accepted<T: Automaton + Copy + Drop, W: Write>(
     write_first(alloc, form, seen, pairs, limit, output)
 }
 
+/// Returns whether a range has no bounds.
+fn is_unbounded(range: KeyRange<'_>) -> bool
+    ensures { result ≡ true → (key : List ℕ) → is_in range.entry key ≡ true }
+{
+    match (range.from, range.to) {
+        (Bound::Unbounded, Bound::Unbounded) => true,
+        (Bound::Unbounded, Bound::Included(_) | Bound::Excluded(_))
+        | (Bound::Included(_) | Bound::Excluded(_), _) => false,
+    }
+}
+
+/// Returns whether a choice has no condition but that of its automaton.
+fn is_free(choice: Choice<'_>) -> bool
+    ensures prefix { result ≡ true → choice.entry.prefix.now ≡ [] }
+    ensures range { result ≡ true → (key : List ℕ) → is_in choice.entry.range key ≡ true }
+{
+    choice.prefix.is_empty() && is_unbounded(choice.range)
+}
+
+/// Writes the first pairs that hold all conditions of a choice, in the order of the trie. The automaton
+/// accepts what that of the choice does.
+fn write_with_all<T: Automaton + Copy + Drop, W: Write>(
+    alloc: Global,
+    trie: &TrieRef<'_>,
+    form: Form,
+    choice: Choice<'_>,
+    automaton: T,
+    limit: Option<usize>,
+    output: &mut Noted<W>,
+) -> io::Result<Option<Vec<u8>>>
+    requires { (key : List ℕ) → T.accepts automaton key ≡ is_matched choice.automaton key }
+    ensures all { IfOk result (λ key. IfNone key (AreListed form (chosen trie.now.kind choice.entry)
+        limit trie.now.kind trie.now.bytes.now (W.contents output.old.inner)
+        (W.contents output.new.inner))) }
+    ensures none { IfOk result (λ key. IfSome key (λ k. AreNoText form
+        (chosen trie.now.kind choice.entry) limit trie.now.kind trie.now.bytes.now k.items
+        × (output.new ≡ output.old))) }
+    ensures part { OnErr result (AreListedInPart form (chosen trie.now.kind choice.entry) limit
+        trie.now.kind trie.now.bytes.now (W.contents output.old.inner)
+        (W.contents output.new.inner)) }
+    ensures noted { IsNoted result output.old.failed output.new.failed }
+{
+    let prefix = KindPrefix {
+        kind: trie.kind,
+        prefix: choice.prefix,
+    };
+    let all = Both(Both(prefix, choice.range), automaton);
+    write_accepted(alloc, trie, form, all, limit, output)
+}
+
+/// Writes the first pairs whose keys are chosen, in the order of the trie. The automaton accepts what
+/// that of the choice does. Without other conditions it runs alone.
+fn write_matched<T: Automaton + Copy + Drop, W: Write>(
+    alloc: Global,
+    trie: &TrieRef<'_>,
+    form: Form,
+    choice: Choice<'_>,
+    automaton: T,
+    limit: Option<usize>,
+    output: &mut Noted<W>,
+) -> io::Result<Option<Vec<u8>>>
+    requires { (key : List ℕ) → T.accepts automaton key ≡ is_matched choice.automaton key }
+    ensures all { IfOk result (λ key. IfNone key (AreListed form (chosen trie.now.kind choice.entry)
+        limit trie.now.kind trie.now.bytes.now (W.contents output.old.inner)
+        (W.contents output.new.inner))) }
+    ensures none { IfOk result (λ key. IfSome key (λ k. AreNoText form
+        (chosen trie.now.kind choice.entry) limit trie.now.kind trie.now.bytes.now k.items
+        × (output.new ≡ output.old))) }
+    ensures part { OnErr result (AreListedInPart form (chosen trie.now.kind choice.entry) limit
+        trie.now.kind trie.now.bytes.now (W.contents output.old.inner)
+        (W.contents output.new.inner)) }
+    ensures noted { IsNoted result output.old.failed output.new.failed }
+{
+    if is_free(choice) {
+        write_accepted(alloc, trie, form, automaton, limit, output)
+    } else {
+        write_with_all(alloc, trie, form, choice, automaton, limit, output)
+    }
+}
+
+/// Writes the first pairs whose keys are chosen, in the order of the trie. The choice has no
+/// automaton.
+fn write_unmatched<W: Write>(
+    alloc: Global,
+    trie: &TrieRef<'_>,
+    form: Form,
+    choice: Choice<'_>,
+    limit: Option<usize>,
+    output: &mut Noted<W>,
+) -> io::Result<Option<Vec<u8>>>
+    requires { choice.automaton ≡ None }
+    ensures all { IfOk result (λ key. IfNone key (AreListed form (chosen trie.now.kind choice.entry)
+        limit trie.now.kind trie.now.bytes.now (W.contents output.old.inner)
+        (W.contents output.new.inner))) }
+    ensures none { IfOk result (λ key. IfSome key (λ k. AreNoText form
+        (chosen trie.now.kind choice.entry) limit trie.now.kind trie.now.bytes.now k.items
+        × (output.new ≡ output.old))) }
+    ensures part { OnErr result (AreListedInPart form (chosen trie.now.kind choice.entry) limit
+        trie.now.kind trie.now.bytes.now (W.contents output.old.inner)
+        (W.contents output.new.inner)) }
+    ensures noted { IsNoted result output.old.failed output.new.failed }
+{
+    if is_unbounded(choice.range) {
+        write_prefix(alloc, trie, form, choice.prefix, limit, output)
+    } else {
+        let any_key = StartsWith(b"");
+        write_matched(alloc, trie, form, choice, any_key, limit, output)
+    }
+}
+
 /// Writes the first pairs whose keys are chosen, in the order of the trie.
 fn write_stored<W: Write>(
     alloc: Global,
@@ -116,18 +226,92 @@ fn write_stored<W: Write>(
         (W.contents output.new.inner)) }
     ensures noted { IsNoted result output.old.failed output.new.failed }
 {
-    match choice {
-        Choice::Prefix(prefix) => write_prefix(alloc, trie, form, prefix, limit, output),
-        Choice::Glob(pattern) => write_accepted(alloc, trie, form, pattern, limit, output),
-        Choice::Fuzzy(word) => write_accepted(alloc, trie, form, word, limit, output),
-        Choice::Subsequence(bytes) => write_accepted(alloc, trie, form, bytes, limit, output),
-        Choice::Range(range) => write_accepted(alloc, trie, form, range, limit, output),
+    match choice.automaton {
+        None => write_unmatched(alloc, trie, form, choice, limit, output),
+        Some(any) => by_automaton!(any, automaton => {
+            write_matched(alloc, trie, form, choice, automaton, limit, output)
+        }),
     }
 }
 
+/// Writes the first pairs that an automaton accepts, in the order of their bytes. It accepts just the
+/// keys that are chosen, and all of these are between the bounds. It reads no part of the trie outside
+/// them, but for a test of all bytes, and writes nothing if they are malformed.
+fn write_accepted_between<T: Automaton + Copy + Drop, W: Write>(
+    alloc: Global,
+    trie: &TrieRef<'_>,
+    form: Form,
+    choice: Choice<'_>,
+    automaton: T,
+    limit: Option<usize>,
+    from: Bound<&[u8]>,
+    to: Bound<&[u8]>,
+    output: &mut Noted<W>,
+) -> io::Result<Option<Vec<u8>>>
+    requires within { AreWithin trie.now.kind choice (bound_map (λ b. b.now) from)
+        (bound_map (λ b. b.now) to) }
+    requires accepts { (key : List ℕ) → T.accepts automaton key ≡ is_chosen trie.now.kind choice key }
+    ensures all { IfOk result (λ key. IfNone key (AreListed form
+        (picked ByBytes trie.now.kind choice.entry) limit trie.now.kind trie.now.bytes.now
+        (W.contents output.old.inner) (W.contents output.new.inner))) }
+    ensures none { IfOk result (λ key. IfSome key (λ k. AreNoText form
+        (picked ByBytes trie.now.kind choice.entry) limit trie.now.kind trie.now.bytes.now k.items
+        × (output.new ≡ output.old))) }
+    ensures part { OnErr result (AreListedInPart form (picked ByBytes trie.now.kind choice.entry)
+        limit trie.now.kind trie.now.bytes.now (W.contents output.old.inner)
+        (W.contents output.new.inner)) }
+    ensures noted { IsNoted result output.old.failed output.new.failed }
+{
+    if !trie.is_well_formed() {
+        return Ok(None);
+    }
+    let seen = stream_chosen(alloc, trie, automaton, from, to)?;
+    let pairs = stream_chosen(alloc, trie, automaton, from, to)?;
+    write_first(alloc, form, seen, pairs, limit, output)
+}
+
+/// Writes the first pairs whose keys are chosen, in the order of their bytes. The automaton accepts what
+/// that of the choice does. Without other conditions it runs alone.
+fn write_matched_between<T: Automaton + Copy + Drop, W: Write>(
+    alloc: Global,
+    trie: &TrieRef<'_>,
+    form: Form,
+    choice: Choice<'_>,
+    automaton: T,
+    limit: Option<usize>,
+    from: Bound<&[u8]>,
+    to: Bound<&[u8]>,
+    output: &mut Noted<W>,
+) -> io::Result<Option<Vec<u8>>>
+    requires within { AreWithin trie.now.kind choice (bound_map (λ b. b.now) from)
+        (bound_map (λ b. b.now) to) }
+    requires matched { (key : List ℕ) → T.accepts automaton key ≡ is_matched choice.automaton key }
+    ensures all { IfOk result (λ key. IfNone key (AreListed form
+        (picked ByBytes trie.now.kind choice.entry) limit trie.now.kind trie.now.bytes.now
+        (W.contents output.old.inner) (W.contents output.new.inner))) }
+    ensures none { IfOk result (λ key. IfSome key (λ k. AreNoText form
+        (picked ByBytes trie.now.kind choice.entry) limit trie.now.kind trie.now.bytes.now k.items
+        × (output.new ≡ output.old))) }
+    ensures part { OnErr result (AreListedInPart form (picked ByBytes trie.now.kind choice.entry)
+        limit trie.now.kind trie.now.bytes.now (W.contents output.old.inner)
+        (W.contents output.new.inner)) }
+    ensures noted { IsNoted result output.old.failed output.new.failed }
+{
+    if is_free(choice) {
+        return write_accepted_between(
+            alloc, trie, form, choice, automaton, limit, from, to, output,
+        );
+    }
+    let prefix = KindPrefix {
+        kind: trie.kind,
+        prefix: choice.prefix,
+    };
+    let chosen = Both(Both(prefix, choice.range), automaton);
+    write_accepted_between(alloc, trie, form, choice, chosen, limit, from, to, output)
+}
+
 /// Writes the first pairs whose keys are chosen, in the order of their bytes. All of these keys are
-/// between the bounds. It reads no part of the trie outside them, but for a test of all bytes, and
-/// writes nothing if they are malformed.
+/// between the bounds.
 fn write_between<W: Write>(
     alloc: Global,
     trie: &TrieRef<'_>,
@@ -151,44 +335,47 @@ fn write_between<W: Write>(
         (W.contents output.new.inner)) }
     ensures noted { IsNoted result output.old.failed output.new.failed }
 {
-    if !trie.is_well_formed() {
-        return Ok(None);
+    match choice.automaton {
+        None => {
+            let any_key = StartsWith(b"");
+            write_matched_between(alloc, trie, form, choice, any_key, limit, from, to, output)
+        }
+        Some(any) => by_automaton!(any, automaton => {
+            write_matched_between(alloc, trie, form, choice, automaton, limit, from, to, output)
+        }),
     }
-    let seen = stream_chosen(alloc, trie, choice, from, to)?;
-    let pairs = stream_chosen(alloc, trie, choice, from, to)?;
-    write_first(alloc, form, seen, pairs, limit, output)
 }
 
-/// Writes the first pairs whose keys begin with a prefix, in the order of their bytes. The kind
-/// does not ignore case.
+/// Writes the first pairs whose keys are chosen, in the order of their bytes. It reads the part of the
+/// trie with the prefix. The kind does not ignore case.
 fn write_sorted_prefix<W: Write>(
     alloc: Global,
     trie: &TrieRef<'_>,
     form: Form,
-    prefix: &[u8],
+    choice: Choice<'_>,
     limit: Option<usize>,
     output: &mut Noted<W>,
 ) -> io::Result<Option<Vec<u8>>>
     requires { trie.now.kind ≢ Ignore }
     ensures all { IfOk result (λ key. IfNone key (AreListed form
-        (picked ByBytes trie.now.kind (Prefix prefix.entry)) limit trie.now.kind trie.now.bytes.now
+        (picked ByBytes trie.now.kind choice.entry) limit trie.now.kind trie.now.bytes.now
         (W.contents output.old.inner) (W.contents output.new.inner))) }
     ensures none { IfOk result (λ key. IfSome key (λ k. AreNoText form
-        (picked ByBytes trie.now.kind (Prefix prefix.entry)) limit trie.now.kind trie.now.bytes.now
+        (picked ByBytes trie.now.kind choice.entry) limit trie.now.kind trie.now.bytes.now
         k.items × (output.new ≡ output.old))) }
-    ensures part { OnErr result (AreListedInPart form (picked ByBytes trie.now.kind
-        (Prefix prefix.entry)) limit trie.now.kind trie.now.bytes.now (W.contents output.old.inner)
+    ensures part { OnErr result (AreListedInPart form (picked ByBytes trie.now.kind choice.entry)
+        limit trie.now.kind trie.now.bytes.now (W.contents output.old.inner)
         (W.contents output.new.inner)) }
     ensures noted { IsNoted result output.old.failed output.new.failed }
 {
-    let above = above_prefix(alloc, prefix)?;
-    let from = Bound::Included(prefix);
+    let above = above_prefix(alloc, choice.prefix)?;
+    let from = Bound::Included(choice.prefix);
     let to = upper_bound(&above);
-    let choice = Choice::Prefix(prefix);
     write_between(alloc, trie, form, choice, limit, from, to, output)
 }
 
 /// Writes the first pairs whose keys are chosen, in the order of their bytes.
+#[tactic(auto, using(crate::proofs::SortedLemmas::range_within))]
 fn write_sorted<W: Write>(
     alloc: Global,
     trie: &TrieRef<'_>,
@@ -208,19 +395,14 @@ fn write_sorted<W: Write>(
         (W.contents output.new.inner)) }
     ensures noted { IsNoted result output.old.failed output.new.failed }
 {
-    let all = Bound::Unbounded;
-    match choice {
-        Choice::Prefix(prefix) => match trie.kind {
-            TrieKind::Ignore => write_between(alloc, trie, form, choice, limit, all, all, output),
-            TrieKind::Simple | TrieKind::Hash | TrieKind::Ext => {
-                write_sorted_prefix(alloc, trie, form, prefix, limit, output)
-            }
-        },
-        Choice::Range(KeyRange { from, to }) => {
-            write_between(alloc, trie, form, choice, limit, from, to, output)
+    let from = choice.range.from;
+    let to = choice.range.to;
+    match (trie.kind, is_unbounded(choice.range)) {
+        (TrieKind::Simple | TrieKind::Hash | TrieKind::Ext, true) => {
+            write_sorted_prefix(alloc, trie, form, choice, limit, output)
         }
-        Choice::Glob(_) | Choice::Fuzzy(_) | Choice::Subsequence(_) => {
-            write_between(alloc, trie, form, choice, limit, all, all, output)
+        (TrieKind::Ignore, _) | (TrieKind::Simple | TrieKind::Hash | TrieKind::Ext, false) => {
+            write_between(alloc, trie, form, choice, limit, from, to, output)
         }
     }
 }
@@ -229,8 +411,9 @@ fn write_sorted<W: Write>(
 /// all. It allocates nothing for a pair alone.
 ///
 /// In the order of the trie it reads no part of it in which no such key can be. In the order of
-/// bytes it tests all bytes first. Then it reads the part between the bounds of a range or, if the
-/// kind does not ignore case, of a prefix, and else all of it.
+/// bytes it tests all bytes first. Then it reads the part between the bounds of the range or, if
+/// there are none and the kind does not ignore case, the part with the prefix, and skips the keys that
+/// begin as none of these keys does.
 ///
 /// The error is `NotText` exactly if the form is one JSON object and one of these keys is not
 /// UTF-8, and then nothing was written. After another error a beginning of the answer was.

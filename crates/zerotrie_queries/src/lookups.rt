@@ -1,18 +1,20 @@
-//! Look-ups of keys and of the keys that texts begin with.
+//! Look-ups of keys, of the keys that texts begin with, and of values.
 
 ghost use Rattle.std.specs.Prelude.{◌≡◌, ◌++◌, map, length, IfOk, OnErr};
 ghost use Rattle.zerotrie_core.specs.Maps.{Map, Pairs, look};
 ghost use Rattle.zerotrie_core.specs.Prefixes.{Leaves, fronts_left};
-ghost use Rattle.zerotrie_core.specs.Texts.{Means};
+ghost use Rattle.zerotrie_core.specs.Texts.{Lists, Means};
 ghost use Rattle.zerotrie_core.specs.Kinds.{kind_of};
 ghost use Rattle.zerotrie_files.specs.Faults.{IsNoted};
 ghost use Rattle.zerotrie_queries.specs.Printed.{front_lines};
-ghost use Rattle.zerotrie_queries.specs.Finders.{Finds, IndexFinds};
+ghost use Rattle.zerotrie_queries.specs.Finders.{Finds, IndexFinds, dictionary_of};
 ghost use Rattle.zerotrie_queries.specs.Answers.{as_is, with_escapes, AddsAnswer, IsAdded, AreAnswered, AreAnsweredInPart};
 ghost use Rattle.zerotrie_queries.specs.declared.question.Asked.TheVariants.{Prefixes};
 
+mod first_keys;
 mod values;
 
+use crate::lookups::first_keys::{add_key_by_scan, add_key_by_table};
 use crate::lookups::values::write_values;
 use crate::print::{add_found, add_front, add_key_value, add_value};
 use crate::question::{Asked, Finder, Query, Spelling};
@@ -51,9 +53,11 @@ fn add_prefixes(
     trie: &TrieRef<'_>,
     asked: &[u8],
 ) -> Result<bool, AllocError>
-    ensures { IfOk result (λ found. (m : Map) → Means (kind_of trie.now.kind) trie.now.bytes.now m
-        → AddsAnswer (as_is Prefixes) (look (kind_of trie.now.kind) m) asked.now text.old.items
-        text.new.items found) }
+    ensures { IfOk result (λ found. (m : Map) (pairs : Pairs)
+        → Means (kind_of trie.now.kind) trie.now.bytes.now m
+        → Lists (kind_of trie.now.kind) trie.now.bytes.now pairs
+        → AddsAnswer (as_is Prefixes) (dictionary_of (look (kind_of trie.now.kind) m) pairs)
+        asked.now text.old.items text.new.items found) }
 {
     let mut lines = Vec::new(alloc);
     let mut fronts = trie.common_prefixes(asked);
@@ -76,9 +80,11 @@ fn add_trie_answer(
     asked: Asked,
     text: &[u8],
 ) -> Result<bool, AllocError>
-    ensures { IfOk result (λ found. (m : Map) → Means (kind_of trie.now.kind) trie.now.bytes.now m
-        → AddsAnswer (as_is asked) (look (kind_of trie.now.kind) m) text.now line.old.items
-        line.new.items found) }
+    ensures { IfOk result (λ found. (m : Map) (pairs : Pairs)
+        → Means (kind_of trie.now.kind) trie.now.bytes.now m
+        → Lists (kind_of trie.now.kind) trie.now.bytes.now pairs
+        → AddsAnswer (as_is asked) (dictionary_of (look (kind_of trie.now.kind) m) pairs)
+        text.now line.old.items line.new.items found) }
 {
     match asked {
         Asked::Value => {
@@ -102,6 +108,7 @@ fn add_trie_answer(
             Ok(found.is_some())
         }
         Asked::Prefixes => add_prefixes(alloc, line, trie, text),
+        Asked::KeyOf => add_key_by_scan(alloc, line, trie, text),
     }
 }
 
@@ -121,7 +128,7 @@ fn add_index_answer(
             add_key_value(line, key, value)?;
             Ok(value.is_some())
         }
-        Asked::Value | Asked::Longest | Asked::LongestAt(_) | Asked::Prefixes => {
+        Asked::Value | Asked::Longest | Asked::LongestAt(_) | Asked::Prefixes | Asked::KeyOf => {
             add_value(line, value)?;
             Ok(value.is_some())
         }
@@ -142,6 +149,7 @@ fn add_answer(
     match finder {
         Finder::Trie(trie) => add_trie_answer(alloc, line, trie, asked, text),
         Finder::Index(index) => add_index_answer(line, index, asked, text),
+        Finder::Table(table) => add_key_by_table(alloc, line, table, text),
     }
 }
 
@@ -216,11 +224,13 @@ fn write_each<W: Write>(
 /// of keys, as `2 found`, and a line of each. A key is written with escapes, a tab and its value;
 /// after the tab is `none` if `Asked::Pair` looked for an absent key. With `Spelling::Escaped` the
 /// answer is that to the bytes that the text spells, and a line `none` if an escape is malformed.
+/// `Asked::KeyOf` looks for a key in the order of the trie: a table finds each by a search, and a trie
+/// is read up to it. A text that is no decimal number below 2^64 has none.
 ///
 /// The answers are those of the trie's map, or of the pairs of the index. If the bytes are
 /// malformed, it still returns, and the answers are unspecified; so are those of an index to
-/// anything but `Asked::Value` and `Asked::Pair`. If it fails, a beginning of the answers was
-/// written.
+/// anything but `Asked::Value` and `Asked::Pair`, and of a table to anything but `Asked::KeyOf`. If
+/// it fails, a beginning of the answers was written.
 pub fn write_answers<W: Write>(
     alloc: Global,
     finder: &Finder<'_>,
@@ -241,9 +251,11 @@ pub fn write_answers<W: Write>(
         (Finder::Trie(_), Asked::Value, Spelling::Escaped)
         | (
             Finder::Trie(_),
-            Asked::Pair | Asked::Longest | Asked::LongestAt(_) | Asked::Prefixes,
+            Asked::Pair | Asked::Longest | Asked::LongestAt(_) | Asked::Prefixes | Asked::KeyOf,
             Spelling::Plain | Spelling::Escaped,
         )
-        | (Finder::Index(_), _, _) => write_each(alloc, finder, query, texts, output),
+        | (Finder::Index(_) | Finder::Table(_), _, _) => write_each(
+            alloc, finder, query, texts, output,
+        ),
     }
 }

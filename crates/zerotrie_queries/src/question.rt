@@ -4,15 +4,18 @@ ghost use Rattle.std.specs.Prelude.{◌≡◌};
 ghost use Rattle.zerotrie_queries.specs.Finders.{asks_keys};
 
 use zerotrie_core::TrieRef;
-use zerotrie_search::{Glob, KeyRange, LevenshteinChars, Subsequence};
+use zerotrie_reverse::KeysByValue;
+use zerotrie_search::{AnyAutomaton, KeyRange};
 
-/// What keys are looked up in: a trie, or the bytes of an index.
+/// What keys and values are looked up in: a trie, the bytes of an index, or a table of a trie.
 #[derive(Clone, Copy, Debug)]
 pub enum Finder<'a> {
     /// A trie.
     Trie(TrieRef<'a>),
     /// The bytes of an index.
     Index(&'a [u8]),
+    /// A table of the keys of a trie by their values.
+    Table(&'a KeysByValue<'a>),
 }
 
 /// What is looked up for each text.
@@ -30,6 +33,8 @@ pub enum Asked {
     LongestAt(u8),
     /// All keys that the text begins with, the shortest first, each with its value.
     Prefixes,
+    /// The text is a value, in decimal: the first key in the order of the trie that has it.
+    KeyOf,
 }
 
 impl Asked {
@@ -59,19 +64,15 @@ pub struct Query {
     pub spelling: Spelling,
 }
 
-/// Which keys a listing has.
+/// Which keys a listing has: those that hold all of this.
 #[derive(Clone, Copy, Debug)]
-pub enum Choice<'a> {
-    /// Those that begin with these bytes, as the kind compares bytes.
-    Prefix(&'a [u8]),
-    /// Those that a pattern of a shell matches.
-    Glob(Glob<'a>),
-    /// Those that few edits of characters make of a word.
-    Fuzzy(LevenshteinChars),
-    /// Those that have these bytes in this order.
-    Subsequence(Subsequence<'a>),
-    /// Those between two bounds, by their bytes.
-    Range(KeyRange<'a>),
+pub struct Choice<'a> {
+    /// They begin with these bytes, as the kind compares bytes.
+    pub prefix: &'a [u8],
+    /// They are between these bounds, by their bytes.
+    pub range: KeyRange<'a>,
+    /// This automaton accepts them, if there is one.
+    pub automaton: Option<AnyAutomaton<'a>>,
 }
 
 /// The order of a listing.

@@ -1,8 +1,12 @@
 -- A question that was answered, and the flush after it.
-use Rattle.std.proofs.Common.{◌≡◌, ◌⊎◌, ℕ, List, Option, Bool, true, false, IsTrue, refl, subst, inl, inr}
+use Rattle.std.proofs.Common.{◌≡◌, ◌⊎◌, ℕ, List, Option, Bool, true, false, IsTrue, refl, sym, subst, inl, inr}
 use Rattle.std.specs.Io.KnownBytes.{Keeps}
 use Rattle.std.proofs.KnownBytes.{Appends-kept, Keeps-trans}
+use Rattle.zerotrie_core.specs.Kinds.{kind_of}
 use Rattle.zerotrie_core.specs.declared.TrieKind.{TrieKind}
+use Rattle.zerotrie_reverse.specs.Tables.{Reversed}
+use Rattle.zerotrie_queries.specs.declared.question.Asked.{Asked}
+use Rattle.zerotrie_queries.specs.declared.question.Asked.TheVariants.{KeyOf}
 use Rattle.zerotrie_queries.specs.code.Code.{whole_code}
 use Rattle.zerotrie_queries.specs.views.Views.{shown}
 use Rattle.zerotrie_queries.specs.reports.Reports.{report_of}
@@ -17,7 +21,7 @@ use Rattle.zerotrie_queries.proofs.AnswerLemmas.{begun_all}
 use Rattle.zerotrie_files.specs.Disks.{Story}
 use Rattle.zerotrie_files.specs.Faults.{Watched}
 use Rattle.zerotrie_queries.specs.declared.file.OpenError.TheVariants.{BadTag, Damaged, NotWellFormed, OutOfMemory}
-use Rattle.zerotrie_queries.specs.Finders.{TrieFinds, IndexFinds}
+use Rattle.zerotrie_queries.specs.Finders.{Dictionary, KindFinds, TrieFinds, IndexFinds}
 use Rattle.zerotrie_run.specs.Runs.Content.{of_trie, of_index}
 use Rattle.zerotrie_run.specs.Runs.{Answers, AnswersInPart, Content, ContentAnswers, ContentAnswersInPart, IndexAnswers, IndexAnswersInPart, AreKeys, KeysAnswered, KeysAnsweredInPart, IsNoAnswer, IsRead, IsUnanswered, Opens, EndsAsk, ask_refusal, are_lines, of_lines}
 use Rattle.zerotrie_run.specs.Told.{HasReason}
@@ -32,7 +36,7 @@ use Rattle.zerotrie_run.specs.declared.command.Question.{Question}
 use Rattle.zerotrie_run.specs.declared.command.Question.TheVariants.{LookUp, List as Listing, Code, Report, Verify, View}
 
 -- a flush leaves what was answered
-pub kept_texts : (of : Query) (Has : (List ℕ → Option ℕ) → Type 0) (texts : List (List ℕ)) (a b c : Option (List ℕ)) (all : Bool) → AreAnswered of Has texts a b all → Keeps b c
+pub kept_texts : (of : Query) (Has : Dictionary → Type 0) (texts : List (List ℕ)) (a b c : Option (List ℕ)) (all : Bool) → AreAnswered of Has texts a b all → Keeps b c
     → AreAnswered of Has texts a c all
 kept_texts of Has texts a b c all h k at has = let x = h at has in (x.0, x.1, Appends-kept a b c x.0 x.2 k)
 
@@ -92,9 +96,22 @@ same_answer place remaining old new x q a b all apart (inl is) h = other_input_c
 same_answer place remaining old new x q a b all apart (inr is) h = subst (λ r. ContentAnswers x q (remaining r.inner) a b all) is h
 
 -- an answer to keys is a beginning of itself
-keys_in_part : (of : Query) (keys : Keys) (input : Option (List ℕ)) (Has : (List ℕ → Option ℕ) → Type 0) (a b : Option (List ℕ)) (all : Bool) → KeysAnswered of keys input Has a b all
+keys_in_part : (of : Query) (keys : Keys) (input : Option (List ℕ)) (Has : Dictionary → Type 0) (a b : Option (List ℕ)) (all : Bool) → KeysAnswered of keys input Has a b all
     → KeysAnsweredInPart of keys input Has a b
 keys_in_part of keys input Has a b all h = (h.0, h.1, begun_all of Has h.0 a b all h.2)
+
+-- what is answered of more dictionaries is answered of these
+pub keys_of_more : (of : Query) (keys : Keys) (input : Option (List ℕ)) (Has Some : Dictionary → Type 0) (a b : Option (List ℕ)) (all : Bool) → ((d : Dictionary) → Some d → Has d)
+    → KeysAnswered of keys input Has a b all → KeysAnswered of keys input Some a b all
+keys_of_more of keys input Has Some a b all is h = (h.0, h.1, λ d some. h.2 d (is d some))
+
+pub part_of_more : (of : Query) (keys : Keys) (input : Option (List ℕ)) (Has Some : Dictionary → Type 0) (a b : Option (List ℕ)) → ((d : Dictionary) → Some d → Has d)
+    → KeysAnsweredInPart of keys input Has a b → KeysAnsweredInPart of keys input Some a b
+part_of_more of keys input Has Some a b is h = (h.0, h.1, λ d some. h.2 d (is d some))
+
+-- a table of a trie finds what the trie does
+pub by_table : (kind : TrieKind) (bytes : List ℕ) (asked : Asked) (t : Reversed) → t.kind ≡ kind_of kind → t.bytes ≡ bytes → asked ≡ KeyOf → (d : Dictionary) → TrieFinds kind bytes d → (asked ≡ KeyOf) × KindFinds t.kind t.bytes d
+by_table kind bytes asked t k b is d h = (is, subst (λ x. KindFinds x t.bytes d) (sym k) (subst (λ x. KindFinds (kind_of kind) x d) (sym b) h))
 
 -- an answer is a beginning of itself
 trie_in_part : (q : Question) (input : Option (List ℕ)) (kind : TrieKind) (bytes : List ℕ) (a b : Option (List ℕ)) (all : Bool) → Answers q input kind bytes a b all → AnswersInPart q input kind bytes a b

@@ -24,6 +24,7 @@ data Ends : Option Status → Type 0 where
   input : Ends (Some BadInput)
 
 made_ends : (e : MakeError) → Ends (made_refusal e)
+made_ends (made.NotText other) = input
 made_ends (made.Line number bad) = input
 made_ends (made.NotJson line column) = input
 made_ends made.NotPairs = input

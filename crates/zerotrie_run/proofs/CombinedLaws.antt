@@ -1,8 +1,10 @@
 -- What is opened of a file that was made of two others, and when none is made.
 use Rattle.std.proofs.Common.{◌≡◌, ◌⊎◌, ◌≤◌, ℕ, List, Some, false, refl, subst, arith, inl, inr}
 use Rattle.zerotrie_core.specs.Maps.{Map}
+use Rattle.zerotrie_core.specs.declared.TrieKind.{TrieKind}
 use Rattle.zerotrie_sealed.specs.Laws.{OneTrie}
 use Rattle.zerotrie_files.specs.Disks.{Story}
+use Rattle.zerotrie_making.specs.Combinations.{kind_kept}
 use Rattle.zerotrie_making.specs.Plans.{kind_for}
 use Rattle.zerotrie_run.specs.Combined.{ExplainsMaps, IsOfMaps, OfFiles, RunsCombine, file_of}
 use Rattle.zerotrie_run.specs.CombinedLaws.{CombinedOpens, CombineRefusedExactly, HaveTries}
@@ -20,8 +22,9 @@ use Rattle.zerotrie_run.proofs.RefusedLemmas.{read_once}
 pub combined_opens : OneTrie → CombinedOpens
 combined_opens one c input before after held files known same made file stdin away at =
     let both = made.made.3 in
-    let pairs = both.4.0 in
-    let f = both.4.2 in
+    let pairs = both.6.0 in
+    let f = both.6.2 in
+    let kind = kind_for (kind_kept c.kind both.0 both.1) pairs in
     let back : (got : List ℕ) → IsRead file.place stdin after.files got → got ≡ made.file =
     λ got read. read_back c.to stdin made.file got before after held files known same away made.written (subst (λ p. IsRead p stdin after.files got) at read) in (
       made.made.0,
@@ -32,22 +35,24 @@ combined_opens one c input before after held files known same made file stdin aw
         both.1,
         both.2,
         both.3,
+        both.4,
+        both.5,
         (
           pairs,
-          both.4.1,
-          λ as_made. opens_made one c.form (kind_for c.kind pairs) pairs f.bytes made.file file stdin after.files back f.is
-              (built_means c.form (kind_for c.kind pairs) false pairs f.bytes file.bare f.build as_made) as_made,
+          both.6.1,
+          λ as_made. opens_made one c.form kind pairs f.bytes made.file file stdin after.files back f.is
+              (built_means c.form kind false pairs f.bytes file.bare f.build as_made) as_made,
         ),
       ),
     )
 
 -- what two files hold are tries
-have_tries : (c : Combine) (input : List ℕ) (files : Story) (Fact : Map → Map → Type 0) → OfFiles c (Some input) (Some files) Fact → HaveTries c input files
+have_tries : (c : Combine) (input : List ℕ) (files : Story) (Fact : TrieKind → TrieKind → Map → Map → Type 0) → OfFiles c (Some input) (Some files) Fact → HaveTries c input files
 have_tries c input files Fact h =
     let both = h.3 in
-    let one = both.2 in
-    let two = both.3 in
-    ((h.0, h.2.0, one.0, one.1, (one.2, (both.0, one.3))), (h.1, h.2.1, two.0, two.1, (two.2, (both.1, two.3))))
+    let one = both.4 in
+    let two = both.5 in
+    ((h.0, h.2.0, both.0, one.0, (one.1, (both.2, one.2))), (h.1, h.2.1, both.1, two.0, (two.1, (both.3, two.2))))
 
 -- one that has none has no trie
 not_both : OneTrie → (c : Combine) (input : List ℕ) (files : Story) (side : Side) → HasNoTrie (file_of c side) (Some input) (Some files) → HaveTries c input files → ⊥

@@ -29,10 +29,10 @@ read_after first (File path) remaining old new files bytes apart same h = h
 read_after first Stream remaining old new files bytes apart (inl is) h = absurd (apart (is, refl))
 read_after first Stream remaining old new files bytes apart (inr is) h = subst (λ r. IsRead Stream (remaining r.inner) files bytes) is h
 
--- tries that were opened, and what holds of the maps that they mean
-pub of_held : (held other : List ℕ) (k j : TrieKind) (b d : List ℕ) (Fact : Map → Map → Type 0) → OpensBy Full None held k b → OpensBy Full None other j d
-    → OfMeant (kind_of k) b (kind_of j) d Fact → OfHeld held other Fact
-of_held held other k j b d Fact h i fact = (h.1.0, i.1.0, (k, b, h.0, h.1.1), (j, d, i.0, i.1.1), fact h.1.0 i.1.0 h.1.1 i.1.1)
+-- tries that were opened, and what holds of their kinds and of the maps that they mean
+pub of_held : (held other : List ℕ) (k j : TrieKind) (b d : List ℕ) (Fact : TrieKind → TrieKind → Map → Map → Type 0) → OpensBy Full None held k b → OpensBy Full None other j d
+    → OfMeant (kind_of k) b (kind_of j) d (Fact k j) → OfHeld held other Fact
+of_held held other k j b d Fact h i fact = (k, j, h.1.0, i.1.0, (b, h.0, h.1.1), (d, i.0, i.1.1), fact h.1.0 i.1.0 h.1.1 i.1.1)
 
 -- the first has no trie
 pub first_unopened : (c : Combine) (held other : List ℕ) (e : CombineError) → IsUnopenedSide First held e → IsUncombined c held other e
@@ -65,22 +65,26 @@ unread_fails (Unopened side e) h is = absurd (cc)
 unread_fails (NoTrie side why t) h is = absurd h
 unread_fails (NotBuilt e) h is = absurd h
 
--- no file is made of two maps because what was read is no pairs
-none_line : (c : Combine) (number : ℕ) (bad : _) (m n : Map) → ExplainsMaps c (made.Line number bad) m n → ⊥
-none_line c number bad m n (inl is) = cc
-none_line c number bad m n (inr h) = h.2
+-- no file is made of two tries because what was read is another file, or no pairs
+none_text : (c : Combine) (other : _) (k j : TrieKind) (m n : Map) → ExplainsMaps c (made.NotText other) k j m n → ⊥
+none_text c other k j m n (inl is) = cc
+none_text c other k j m n (inr h) = h.2
 
-none_json : (c : Combine) (line column : ℕ) (m n : Map) → ExplainsMaps c (made.NotJson line column) m n → ⊥
-none_json c line column m n (inl is) = cc
-none_json c line column m n (inr h) = h.2
+none_line : (c : Combine) (number : ℕ) (bad : _) (k j : TrieKind) (m n : Map) → ExplainsMaps c (made.Line number bad) k j m n → ⊥
+none_line c number bad k j m n (inl is) = cc
+none_line c number bad k j m n (inr h) = h.2
 
-none_pairs : (c : Combine) (m n : Map) → ExplainsMaps c made.NotPairs m n → ⊥
-none_pairs c m n (inl is) = cc
-none_pairs c m n (inr h) = h.2
+none_json : (c : Combine) (line column : ℕ) (k j : TrieKind) (m n : Map) → ExplainsMaps c (made.NotJson line column) k j m n → ⊥
+none_json c line column k j m n (inl is) = cc
+none_json c line column k j m n (inr h) = h.2
 
-none_pair : (c : Combine) (bad : _) (m n : Map) → ExplainsMaps c (made.NotPair bad) m n → ⊥
-none_pair c bad m n (inl is) = cc
-none_pair c bad m n (inr h) = h.2
+none_pairs : (c : Combine) (k j : TrieKind) (m n : Map) → ExplainsMaps c made.NotPairs k j m n → ⊥
+none_pairs c k j m n (inl is) = cc
+none_pairs c k j m n (inr h) = h.2
+
+none_pair : (c : Combine) (bad : _) (k j : TrieKind) (m n : Map) → ExplainsMaps c (made.NotPair bad) k j m n → ⊥
+none_pair c bad k j m n (inl is) = cc
+none_pair c bad k j m n (inr h) = h.2
 
 -- an error says that what was read is no pairs, which is so of no two maps
 pub data IsOfPairs : MakeError → Type 0 where
@@ -89,15 +93,16 @@ pub data IsOfPairs : MakeError → Type 0 where
   index_refused : (why : _) → IsOfPairs (made.IndexRefused why)
   memory : IsOfPairs made.OutOfMemory
 
-pub of_pairs : (c : Combine) (e : MakeError) (m n : Map) → ExplainsMaps c e m n → IsOfPairs e
-of_pairs c (made.Line number bad) m n h = absurd (none_line c number bad m n h)
-of_pairs c (made.NotJson line column) m n h = absurd (none_json c line column m n h)
-of_pairs c made.NotPairs m n h = absurd (none_pairs c m n h)
-of_pairs c (made.NotPair bad) m n h = absurd (none_pair c bad m n h)
-of_pairs c (made.Keys s) m n h = keys s
-of_pairs c (made.Refused why) m n h = refused why
-of_pairs c (made.IndexRefused why) m n h = index_refused why
-of_pairs c made.OutOfMemory m n h = memory
+pub of_pairs : (c : Combine) (e : MakeError) (k j : TrieKind) (m n : Map) → ExplainsMaps c e k j m n → IsOfPairs e
+of_pairs c (made.NotText other) k j m n h = absurd (none_text c other k j m n h)
+of_pairs c (made.Line number bad) k j m n h = absurd (none_line c number bad k j m n h)
+of_pairs c (made.NotJson line column) k j m n h = absurd (none_json c line column k j m n h)
+of_pairs c made.NotPairs k j m n h = absurd (none_pairs c k j m n h)
+of_pairs c (made.NotPair bad) k j m n h = absurd (none_pair c bad k j m n h)
+of_pairs c (made.Keys s) k j m n h = keys s
+of_pairs c (made.Refused why) k j m n h = refused why
+of_pairs c (made.IndexRefused why) k j m n h = index_refused why
+of_pairs c made.OutOfMemory k j m n h = memory
 
 made_ends : (c : Combine) (i : Option (List ℕ)) (files left : Option Story) (printed : Option (List ℕ)) (held other : List ℕ) (e : MakeError) → AreRead c i files held other → left ≡ files
     → OfHeld held other (ExplainsMaps c e) → IsOfPairs e → EndsCombine c i (world files printed) (world left printed) (combine_refusal (NotBuilt (build.NotMade e)))
@@ -118,11 +123,11 @@ uncombined_ends c i files left printed held other (NoTrie Second (unopened.BadTa
 uncombined_ends c i files left printed held other (NoTrie Second (unopened.Damaged why) t) read same h = (Second, (other, read.1, unopened.Damaged why, h.0), (refl, same))
 uncombined_ends c i files left printed held other (NoTrie Second (unopened.NotWellFormed k f) t) read same h = (Second, (other, read.1, unopened.NotWellFormed k f, h.0), (refl, same))
 uncombined_ends c i files left printed held other (NoTrie Second unopened.OutOfMemory t) read same h = inl (refl, same)
-uncombined_ends c i files left printed held other (NotBuilt (build.Unread e)) read same h = absurd h.4
-uncombined_ends c i files left printed held other (NotBuilt (build.NotMade e)) read same h = made_ends c i files left printed held other e read same h (of_pairs c e h.0 h.1 h.4)
-uncombined_ends c i files left printed held other (NotBuilt (build.Unwritten e)) read same h = absurd h.4
-uncombined_ends c i files left printed held other (NotBuilt build.Taken) read same h = absurd h.4
-uncombined_ends c i files left printed held other (NotBuilt (build.Unfound e)) read same h = absurd h.4
+uncombined_ends c i files left printed held other (NotBuilt (build.Unread e)) read same h = absurd h.6
+uncombined_ends c i files left printed held other (NotBuilt (build.NotMade e)) read same h = made_ends c i files left printed held other e read same h (of_pairs c e h.0 h.1 h.2 h.3 h.6)
+uncombined_ends c i files left printed held other (NotBuilt (build.Unwritten e)) read same h = absurd h.6
+uncombined_ends c i files left printed held other (NotBuilt build.Taken) read same h = absurd h.6
+uncombined_ends c i files left printed held other (NotBuilt (build.Unfound e)) read same h = absurd h.6
 
 -- why is so of the files
 pub uncombined_cause : (c : Combine) (i : Option (List ℕ)) (files : Option Story) (held other : List ℕ) (e : CombineError) → AreRead c i files held other → IsUncombined c held other e → HasCombineCause c i files e
@@ -132,7 +137,7 @@ uncombined_cause c i files held other (NoTrie Second why t) read h = (other, rea
 uncombined_cause c i files held other (NotBuilt (build.Unread e)) read h = tt
 uncombined_cause c i files held other (NotBuilt (build.NotMade e)) read h = (held, other, read, h)
 uncombined_cause c i files held other (NotBuilt (build.Unwritten e)) read h = tt
-uncombined_cause c i files held other (NotBuilt build.Taken) read h = absurd h.4
+uncombined_cause c i files held other (NotBuilt build.Taken) read h = absurd h.6
 uncombined_cause c i files held other (NotBuilt (build.Unfound e)) read h = tt
 
 -- it is not begun

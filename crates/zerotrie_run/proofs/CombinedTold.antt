@@ -52,7 +52,7 @@ text_told o input files a b c text read write closed (NoTrie side unopened.OutOf
 text_told o input files a b c text read write closed (NotBuilt (build.Unread e)) cause tells more h = failure_told (commands.Combine o) input files a b c text (target_name o.to) read write closed (inr (inr refl)) tells more h
 text_told o input files a b c text read write closed (NotBuilt (build.NotMade e)) cause tells more h =
     let held = cause.3 in
-    made_told o input files a b c text read write closed e cause tells more h (of_pairs o e held.0 held.1 held.4)
+    made_told o input files a b c text read write closed e cause tells more h (of_pairs o e held.0 held.1 held.2 held.3 held.6)
 text_told o input files a b c text read write closed (NotBuilt (build.Unwritten e)) cause tells more h = failure_told (commands.Combine o) input files a b c text (target_name o.to) read write closed (inr (inr refl)) tells more h
 text_told o input files a b c text read write closed (NotBuilt build.Taken) cause tells more h = (text, tells, told_last a b c text more h)
 text_told o input files a b c text read write closed (NotBuilt (build.Unfound e)) cause tells more h = failure_told (commands.Combine o) input files a b c text (target_name o.to) read write closed (inr (inr refl)) tells more h

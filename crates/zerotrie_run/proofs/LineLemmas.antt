@@ -8,6 +8,7 @@ use Rattle.zerotrie_lines.specs.Lines.{lines_of}
 use Rattle.zerotrie_lines.specs.Blocks.{AreWhole, HasFeed}
 use Rattle.zerotrie_files.specs.Reads.{Gives}
 use Rattle.zerotrie_queries.specs.declared.question.Query.{Query}
+use Rattle.zerotrie_queries.specs.Finders.{Dictionary}
 use Rattle.zerotrie_queries.specs.Answers.{AreAnswered, AreAnsweredInPart}
 use Rattle.zerotrie_queries.proofs.AnswerLemmas.{none_answered, more_answered, begun_all, begun_front, more_begun}
 use Rattle.zerotrie_run.specs.Streams.{WholeAnswered}
@@ -15,13 +16,13 @@ use Rattle.zerotrie_run.specs.Runs.{KeysAnswered, KeysAnsweredInPart, AreKeys}
 use Rattle.zerotrie_run.specs.declared.command.Keys.TheVariants.{Lines}
 
 -- What was read of an input and answered, and what was read and is held. What was answered is whole lines.
-pub record LinesAnswered (of : Query) (Has : (List ℕ → Option ℕ) → Type 0) (input left : Option (List ℕ)) (held : List ℕ) (old new : Option (List ℕ)) (all : Bool) : Type 0 where
+pub record LinesAnswered (of : Query) (Has : Dictionary → Type 0) (input left : Option (List ℕ)) (held : List ℕ) (old new : Option (List ℕ)) (all : Bool) : Type 0 where
   pub done : List ℕ
   pub whole : AreWhole done
   pub consumes : Consumes input left (done ++ held)
   pub answered : AreAnswered of Has (lines_of done) old new all
 
-pub lines_first : (of : Query) (Has : (List ℕ → Option ℕ) → Type 0) (input old : Option (List ℕ)) → LinesAnswered of Has input input [] old old true
+pub lines_first : (of : Query) (Has : Dictionary → Type 0) (input old : Option (List ℕ)) → LinesAnswered of Has input input [] old old true
 lines_first of Has input old = record {
   done = [];
   whole = λ rest. refl;
@@ -30,7 +31,7 @@ lines_first of Has input old = record {
 }
 
 -- more was read
-pub lines_read : (of : Query) (Has : (List ℕ → Option ℕ) → Type 0) (input left after : Option (List ℕ)) (held more : List ℕ) (old new : Option (List ℕ)) (all ended : Bool)
+pub lines_read : (of : Query) (Has : Dictionary → Type 0) (input left after : Option (List ℕ)) (held more : List ℕ) (old new : Option (List ℕ)) (all ended : Bool)
     → LinesAnswered of Has input left held old new all → Gives left after held more ended → LinesAnswered of Has input after more old new all
 lines_read of Has input left after held more old new all ended t g = record {
   done = t.done;
@@ -40,7 +41,7 @@ lines_read of Has input left after held more old new all ended t g = record {
 }
 
 -- a part of what is held was answered
-answered_part : (of : Query) (Has : (List ℕ → Option ℕ) → Type 0) (input left : Option (List ℕ)) (held part : List ℕ) (old mid new : Option (List ℕ)) (all found : Bool)
+answered_part : (of : Query) (Has : Dictionary → Type 0) (input left : Option (List ℕ)) (held part : List ℕ) (old mid new : Option (List ℕ)) (all found : Bool)
     → (t : LinesAnswered of Has input left held old mid all) → AreAnswered of Has (lines_of part) mid new found → AreAnswered of Has (lines_of (t.done ++ part)) old new (all && found)
 answered_part of Has input left held part old mid new all found t h =
     subst (λ lines. AreAnswered of Has lines old new (all && found)) (sym (t.whole part)) (more_answered of Has (lines_of t.done) (lines_of part) old mid new all found t.answered h)
@@ -54,7 +55,7 @@ whole-append a b h k rest =
     ∙ ap (λ l. l ++ lines_of rest) (sym (h b))
 
 -- whole lines were answered, and the rest is held
-pub lines_part : (of : Query) (Has : (List ℕ → Option ℕ) → Type 0) (input left : Option (List ℕ)) (held part rest : List ℕ) (old mid new : Option (List ℕ)) (all found next : Bool)
+pub lines_part : (of : Query) (Has : Dictionary → Type 0) (input left : Option (List ℕ)) (held part rest : List ℕ) (old mid new : Option (List ℕ)) (all found next : Bool)
     → LinesAnswered of Has input left held old mid all → held ≡ part ++ rest → AreWhole part → AreAnswered of Has (lines_of part) mid new found → next ≡ (all && found)
     → LinesAnswered of Has input left rest old new next
 lines_part of Has input left held part rest old mid new all found next t cut whole h is = rw is (record {
@@ -65,7 +66,7 @@ lines_part of Has input left held part rest old mid new all found next t cut who
 })
 
 -- all that is held was answered, and the input has ended
-pub lines_ends : (of : Query) (Has : (List ℕ → Option ℕ) → Type 0) (input left : Option (List ℕ)) (held part : List ℕ) (old mid new : Option (List ℕ)) (all found next : Bool)
+pub lines_ends : (of : Query) (Has : Dictionary → Type 0) (input left : Option (List ℕ)) (held part : List ℕ) (old mid new : Option (List ℕ)) (all found next : Bool)
     → LinesAnswered of Has input left held old mid all → part ≡ held → IsAtEnd left → AreAnswered of Has (lines_of part) mid new found → next ≡ (all && found)
     → KeysAnswered of Lines input Has old new next
 lines_ends of Has input left held part old mid new all found next t same end h is = rw is (
@@ -81,7 +82,7 @@ first_lines (Some known) None done held whole c = absurd c
 first_lines (Some known) (Some l) done held whole c = (lines_of (held ++ l), sym (ap lines_of (c ∙ append_assoc done held l) ∙ whole (held ++ l)))
 
 -- no more is answered
-pub lines_stops : (of : Query) (Has : (List ℕ → Option ℕ) → Type 0) (input left : Option (List ℕ)) (held : List ℕ) (old new : Option (List ℕ)) (all : Bool) → LinesAnswered of Has input left held old new all
+pub lines_stops : (of : Query) (Has : Dictionary → Type 0) (input left : Option (List ℕ)) (held : List ℕ) (old new : Option (List ℕ)) (all : Bool) → LinesAnswered of Has input left held old new all
     → KeysAnsweredInPart of Lines input Has old new
 lines_stops of Has input left held old new all t =
     let k = first_lines input left t.done held t.whole t.consumes in
@@ -113,7 +114,7 @@ next_lines false (Some known) (Some l) done held part rest whole c n =
     (lines_of (rest ++ l), sym lines)
 
 -- a beginning of the answers to what is next was printed
-pub lines_fails : (of : Query) (Has : (List ℕ → Option ℕ) → Type 0) (input left : Option (List ℕ)) (held part rest : List ℕ) (old mid new : Option (List ℕ)) (all ended : Bool)
+pub lines_fails : (of : Query) (Has : Dictionary → Type 0) (input left : Option (List ℕ)) (held part rest : List ℕ) (old mid new : Option (List ℕ)) (all ended : Bool)
     → LinesAnswered of Has input left held old mid all → IsNext ended left held part rest → AreAnsweredInPart of Has (lines_of part) mid new → KeysAnsweredInPart of Lines input Has old new
 lines_fails of Has input left held part rest old mid new all ended t n h =
     let k = next_lines ended input left t.done held part rest t.whole t.consumes n in
@@ -146,7 +147,7 @@ consumes_kept (Some known) (Some l) None bytes c k = absurd k
 consumes_kept (Some known) (Some l) (Some a) bytes c k = rw k c
 
 -- no more can be read, and all whole lines so far were answered
-pub lines_break : {IsHanded : Type 0} (of : Query) (Has : (List ℕ → Option ℕ) → Type 0) (input left after : Option (List ℕ)) (held : List ℕ) (old new : Option (List ℕ)) (all : Bool)
+pub lines_break : {IsHanded : Type 0} (of : Query) (Has : Dictionary → Type 0) (input left after : Option (List ℕ)) (held : List ℕ) (old new : Option (List ℕ)) (all : Bool)
     → LinesAnswered of Has input left held old new all → Keeps left after → ((k : ℕ) → HasFeed held k → ⊥) → IsHanded → WholeAnswered of Has input after old new IsHanded
 lines_break of Has input left after held old new all t keeps none handed = record {
   whole = t.done;

@@ -82,13 +82,14 @@ opens_made one of kind pairs bytes made file stdin files back is means as_made =
 
 pub made_opens : OneTrie → MadeOpens
 made_opens one build input before after held files known same made file stdin away at =
-    let f = made.made.2 in
-    let pairs = kept build.plan.read.duplicates (lowered build.plan.read.lower_case made.made.0) in
+    let f = made.made.3 in
+    let pairs = kept build.plan.read.duplicates (lowered build.plan.read.lower_case made.made.1) in
     let kind = kind_for build.plan.file.kind pairs in
     let back : (got : List ℕ) → IsRead file.place stdin after.files got → got ≡ made.file =
     λ got read. read_back build.to stdin made.file got before after held files known same away made.written (subst (λ p. IsRead p stdin after.files got) at read) in (
       made.made.0,
       made.made.1,
+      made.made.2,
       λ as_made. opens_made one build.plan.file.form kind pairs f.bytes made.file file stdin after.files back f.is
           (built_means build.plan.file.form kind build.plan.file.sorted pairs f.bytes file.bare f.build as_made) as_made,
     )
@@ -120,13 +121,14 @@ index_opens one pairs bytes made file stdin files back plain is index = record {
 
 pub made_index_opens : OneContent → MadeIndexOpens
 made_index_opens one build input before after held files known same made file stdin away at as_index plain =
-    let f = made.made.2 in
-    let pairs = kept build.plan.read.duplicates (lowered build.plan.read.lower_case made.made.0) in
+    let f = made.made.3 in
+    let pairs = kept build.plan.read.duplicates (lowered build.plan.read.lower_case made.made.1) in
     let kind = kind_for build.plan.file.kind pairs in
     let back : (got : List ℕ) → IsRead file.place stdin after.files got → got ≡ made.file =
     λ got read. read_back build.to stdin made.file got before after held files known same away made.written (subst (λ p. IsRead p stdin after.files got) at read) in (
       made.made.0,
       made.made.1,
+      made.made.2,
       index_opens one pairs f.bytes made.file file stdin after.files back plain (subst (λ of. IsFormOf of kind f.bytes made.file) as_index f.is)
           (index_built build.plan.file.sorted pairs f.bytes (subst (λ of. IsBuiltAs (content_of of kind) build.plan.file.sorted pairs f.bytes) as_index f.build)),
     )

@@ -6,9 +6,9 @@ use Rattle.std.specs.Io.KnownBytes.{Appends}
 use Rattle.std.proofs.KnownBytes.{Appends-trans}
 use Rattle.zerotrie_making.specs.declared.error.Shown.{Shown}
 use Rattle.zerotrie_making.specs.declared.error.NoPair.{NoPair}
-use Rattle.zerotrie_making.specs.declared.error.NoPair.TheVariants.{Member, Item}
+use Rattle.zerotrie_making.specs.declared.error.NoPair.TheVariants as bad_pair
 use Rattle.zerotrie_making.specs.declared.error.MakeError.{MakeError}
-use Rattle.zerotrie_making.specs.declared.error.MakeError.TheVariants.{Line, NotJson, NotPairs, NotPair, Keys, Refused, IndexRefused, OutOfMemory}
+use Rattle.zerotrie_making.specs.declared.error.MakeError.TheVariants.{NotText, Line, NotJson, NotPairs, NotPair, Keys, Refused, IndexRefused, OutOfMemory}
 use Rattle.zerotrie_run.specs.Told.{told_step}
 use Rattle.zerotrie_run.specs.declared.messages.pairs.PairUnit.{PairUnit}
 use Rattle.zerotrie_run.specs.declared.command.Place.{Place}
@@ -16,7 +16,7 @@ use Rattle.zerotrie_run.specs.declared.ask.AskError.{AskError}
 use Rattle.zerotrie_run.specs.declared.ask.AskError.TheVariants as ask
 use Rattle.zerotrie_lines.specs.declared.fault.BadLine.{BadLine}
 use Rattle.zerotrie_lines.specs.declared.fault.BadLine.TheVariants as fault
-use Rattle.zerotrie_run.specs.Messages.{BeginsWithNoDigit, Extends, IsLine, IsLineOn, Names, NamesBoth, NamesPairs, Says, SaysKeys, TellsMade, TellsAsk, TellsNoPair, told_key, SaysField, line_front, source_name, unit_word}
+use Rattle.zerotrie_run.specs.Messages.{BeginsWithNoDigit, Extends, IsLine, IsLineOn, Names, NamesBoth, NamesPairs, Says, SaysKeys, TellsMade, TellsAsk, TellsNoPair, other_words, told_key, SaysField, line_front, source_name, unit_word}
 
 pub extends_both : (a b c : List ℕ) → Extends a b → Extends b c → Extends a c
 extends_both a b c p q = (p.0 ++ q.0, q.1 ∙ ap (λ t. t ++ q.0) p.1 ∙ append_assoc a p.0 q.0)
@@ -87,8 +87,9 @@ pub keys_on : (s : Shown) (a b : List ℕ) → SaysKeys s a → Extends a b → 
 keys_on s a b h e = (λ one. says_on a b (told_key s.first.key.items) (h.0 one) e, λ one two. says_on a b (told_key s.second.key.items) (h.1 one two) e)
 
 no_pair_on : (bad : NoPair) (a b : List ℕ) → TellsNoPair bad a → Extends a b → TellsNoPair bad b
-no_pair_on (Member key) a b h e = says_on a b (told_key key.items) h e
-no_pair_on (Item number) a b h e = names_on (codes "pair") a b number h e
+no_pair_on (bad_pair.Member key) a b h e = says_on a b (told_key key.items) h e
+no_pair_on (bad_pair.Item number) a b h e = names_on (codes "pair") a b number h e
+no_pair_on (bad_pair.Line number) a b h e = names_on (codes "line") a b number h e
 
 -- a field stays told
 pub field_on : (bad : BadLine) (a b : List ℕ) → SaysField bad a → Extends a b → SaysField bad b
@@ -100,6 +101,7 @@ field_on fault.Fields a b h e = tt
 
 -- why no file is made stays told
 pub made_on : (unit : PairUnit) (why : MakeError) (a b : List ℕ) → TellsMade unit why a → Extends a b → TellsMade unit why b
+made_on unit (NotText other) a b h e = says_on a b (other_words other) h e
 made_on unit (Line number bad) a b h e = (names_on (unit_word unit) a b number h.0 e, field_on bad a b h.1 e)
 made_on unit (NotJson line column) a b h e = (names_on (codes "line") a b line h.0 e, names_on (codes "column") a b column h.1 e)
 made_on unit NotPairs a b h e = tt

@@ -49,6 +49,7 @@ failure_told command input files a b c text name false true false place line mor
 build_text_told : (build : Build) (input : Option (List ℕ)) (files : Option Story) (a b c : Option (List ℕ)) (text : List ℕ) (read write closed : Bool) (e : BuildError) → HasCause build input files e → TellsBuild (source_name build.from) (target_name build.to) (unit_of build.plan.read.source) e text
     → TellsMore a b → Appends b c text → IsTold (commands.Build build) input files a c (unwrap_or (build_refusal e) (failure read write closed))
 build_text_told build input files a b c text read write closed (unmade.Unread e) cause tells more h = failure_told (commands.Build build) input files a b c text (source_name build.from) read write closed (inl refl) tells more h
+build_text_told build input files a b c text read write closed (unmade.NotMade (made.NotText other)) cause tells more h = (cause.0, cause.1, made.NotText other, cause.2, refl, text, tells.0, tells.1, told_last a b c text more h)
 build_text_told build input files a b c text read write closed (unmade.NotMade (made.Line n bad)) cause tells more h = (cause.0, cause.1, made.Line n bad, cause.2, refl, text, tells.0, tells.1, told_last a b c text more h)
 build_text_told build input files a b c text read write closed (unmade.NotMade (made.NotJson l k)) cause tells more h = (cause.0, cause.1, made.NotJson l k, cause.2, refl, text, tells.0, tells.1, told_last a b c text more h)
 build_text_told build input files a b c text read write closed (unmade.NotMade made.NotPairs) cause tells more h = (cause.0, cause.1, made.NotPairs, cause.2, refl, text, tells.0, tells.1, told_last a b c text more h)

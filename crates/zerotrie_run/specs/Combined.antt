@@ -9,7 +9,7 @@ use Rattle.zerotrie_queries.specs.Files.{Holds}
 use Rattle.zerotrie_queries.specs.Texts.{looks_like_text}
 use Rattle.zerotrie_queries.specs.declared.file.OpenError.{OpenError}
 use Rattle.zerotrie_queries.specs.declared.file.OpenError.TheVariants as unopened
-use Rattle.zerotrie_making.specs.Combinations.{IsFileOfBoth, ExplainsBoth}
+use Rattle.zerotrie_making.specs.Combinations.{IsFileOfBoth, ExplainsBoth, kind_kept}
 use Rattle.zerotrie_making.specs.declared.error.MakeError.{MakeError}
 use Rattle.zerotrie_run.specs.Runs.{World, AreOneStream, IsFreshAt, IsKept, IsRead, IsSparedAt, IsThere, IsUnopened, IsUnopenedBy, IsWritten, HasNoTrie, Untouched, build_refusal}
 use Rattle.zerotrie_run.specs.Statuses.{made_refusal}
@@ -35,25 +35,25 @@ place_of c Second = c.second
 abbrev pub file_of : Combine → Side → TrieFile
 file_of c side = record { place = place_of c side; bare = None; check = Full }
 
--- what a file holds is a trie that means the map
-abbrev pub HasMap : List ℕ → Map → Type 0
-HasMap held m = (kind : TrieKind) × (bytes : List ℕ) × Holds None held kind bytes × Means (kind_of kind) bytes m
+-- what a file holds is a trie of this kind that means the map
+abbrev pub HasMap : List ℕ → TrieKind → Map → Type 0
+HasMap held kind m = (bytes : List ℕ) × Holds None held kind bytes × Means (kind_of kind) bytes m
 
--- what two files hold are tries, and the fact holds of their maps
-abbrev pub OfHeld : List ℕ → List ℕ → (Map → Map → Type 0) → Type 0
-OfHeld held other Fact = (m : Map) × (n : Map) × HasMap held m × HasMap other n × Fact m n
+-- what two files hold are tries, and the fact holds of their kinds and maps
+abbrev pub OfHeld : List ℕ → List ℕ → (TrieKind → TrieKind → Map → Map → Type 0) → Type 0
+OfHeld held other Fact = (k : TrieKind) × (j : TrieKind) × (m : Map) × (n : Map) × HasMap held k m × HasMap other j n × Fact k j m n
 
 -- this is what the two files hold
 abbrev pub AreRead : Combine → Option (List ℕ) → Option Story → List ℕ → List ℕ → Type 0
 AreRead c input files held other = IsRead c.first input files held × IsRead c.second input files other
 
--- the two files have tries, and the fact holds of their maps
-abbrev pub OfFiles : Combine → Option (List ℕ) → Option Story → (Map → Map → Type 0) → Type 0
+-- the two files have tries, and the fact holds of their kinds and maps
+abbrev pub OfFiles : Combine → Option (List ℕ) → Option Story → (TrieKind → TrieKind → Map → Map → Type 0) → Type 0
 OfFiles c input files Fact = (held : List ℕ) × (other : List ℕ) × AreRead c input files held other × OfHeld held other Fact
 
--- the new file is that of the combination
-abbrev pub IsOfMaps : Combine → List ℕ → Map → Map → Type 0
-IsOfMaps c file m n = IsFileOfBoth c.operation c.kind c.form m n file
+-- the new file is that of the combination: of the kind that is named, or else of the one that both tries have
+abbrev pub IsOfMaps : Combine → List ℕ → TrieKind → TrieKind → Map → Map → Type 0
+IsOfMaps c file k j m n = IsFileOfBoth c.operation (kind_kept c.kind k j) c.form m n file
 
 -- The file was made of the two files' maps, and written.
 pub record IsCombination (c : Combine) (input : Option (List ℕ)) (before after : World) : Type 0 where
@@ -67,9 +67,9 @@ pub record IsUnwrittenCombination (c : Combine) (input : Option (List ℕ)) (bef
   pub made : OfFiles c input before.files (IsOfMaps c file)
   pub kept : IsKept c.to file before after
 
--- why no file is made of two maps
-abbrev pub ExplainsMaps : Combine → MakeError → Map → Map → Type 0
-ExplainsMaps c e m n = ExplainsBoth c.operation c.kind c.form m n e
+-- why no file is made of two tries
+abbrev pub ExplainsMaps : Combine → MakeError → TrieKind → TrieKind → Map → Map → Type 0
+ExplainsMaps c e k j m n = ExplainsBoth c.operation (kind_kept c.kind k j) c.form m n e
 
 -- no file is made of the maps of the two files, for a reason with this status, and nothing was touched
 abbrev pub IsRefusedCombination : Combine → Option (List ℕ) → World → World → Status → Type 0
@@ -129,13 +129,13 @@ IsUnopenedSide side held (Unopened other e) = ⊥
 IsUnopenedSide side held (NoTrie other why is_text) = (other ≡ side) × IsUnopenedBy Full None held why × (is_text ≡ looks_like_text held)
 IsUnopenedSide side held (NotBuilt e) = ⊥
 
--- why no file is made or written of two maps
-abbrev pub ExplainsUnbuilt : Combine → BuildError → Map → Map → Type 0
-ExplainsUnbuilt c (build.Unread e) m n = ⊥
-ExplainsUnbuilt c (build.NotMade e) m n = ExplainsMaps c e m n
-ExplainsUnbuilt c (build.Unwritten e) m n = ⊥
-ExplainsUnbuilt c build.Taken m n = ⊥
-ExplainsUnbuilt c (build.Unfound e) m n = ⊥
+-- why no file is made or written of two tries
+abbrev pub ExplainsUnbuilt : Combine → BuildError → TrieKind → TrieKind → Map → Map → Type 0
+ExplainsUnbuilt c (build.Unread e) k j m n = ⊥
+ExplainsUnbuilt c (build.NotMade e) k j m n = ExplainsMaps c e k j m n
+ExplainsUnbuilt c (build.Unwritten e) k j m n = ⊥
+ExplainsUnbuilt c build.Taken k j m n = ⊥
+ExplainsUnbuilt c (build.Unfound e) k j m n = ⊥
 
 -- why nothing is made of what two files hold: one of them has no trie, or no file is made of their maps
 abbrev pub IsUncombined : Combine → List ℕ → List ℕ → CombineError → Type 0

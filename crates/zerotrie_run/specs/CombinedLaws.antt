@@ -1,7 +1,7 @@
 -- A file is made of two others, and then opened; and when no file is.
 use Rattle.std.specs.Prelude.{◌≡◌, ◌⊎◌, ◌≤◌, ℕ, List, Option, Some}
 use Rattle.zerotrie_files.specs.Disks.{Story}
-use Rattle.zerotrie_making.specs.Combinations.{OfBoth}
+use Rattle.zerotrie_making.specs.Combinations.{OfBoth, kind_kept}
 use Rattle.zerotrie_making.specs.Plans.{kind_for}
 use Rattle.zerotrie_run.specs.Combined.{IsCombination, OfFiles, RunsCombine, file_of}
 use Rattle.zerotrie_run.specs.Laws.{HasTrie, IsNamedAsMade, OpensAsMade}
@@ -14,12 +14,13 @@ use Rattle.zerotrie_run.specs.declared.command.TrieFile.{TrieFile}
 use Rattle.zerotrie_run.specs.declared.status.Status.{Status}
 use Rattle.zerotrie_run.specs.declared.status.Status.TheVariants.{Taken, BadUsage, BadInput}
 
--- what is opened of a file that was made of two others is the trie of the combination of their maps, if the file is named as it was made
+-- what is opened of a file that was made of two others is the trie of the combination of their maps, of the kind that is named or that both
+-- have, if the file is named as it was made
 abbrev pub CombinedOpens : Type 0
 CombinedOpens = (c : Combine) (input : Option (List ℕ)) (before after : World) (held files : Story) → before.files ≡ Some held → after.files ≡ Some files
     → (made : IsCombination c input before after) (file : TrieFile) (stdin : Option (List ℕ)) → (c.to ≡ Stream → ⊥) → file.place ≡ c.to
-    → OfFiles c input before.files (λ m n. OfBoth c.operation m n (λ pairs. IsNamedAsMade c.form (kind_for c.kind pairs) file.bare
-    → OpensAsMade file stdin after.files c.form (kind_for c.kind pairs) pairs made.file))
+    → OfFiles c input before.files (λ k j m n. OfBoth c.operation m n (λ pairs. IsNamedAsMade c.form (kind_for (kind_kept c.kind k j) pairs) file.bare
+    → OpensAsMade file stdin after.files c.form (kind_for (kind_kept c.kind k j) pairs) pairs made.file))
 
 -- both files have tries
 abbrev pub HaveTries : Combine → List ℕ → Story → Type 0

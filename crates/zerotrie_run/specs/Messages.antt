@@ -11,9 +11,11 @@ use Rattle.zerotrie_lines.specs.declared.fault.BadLine.TheVariants as bad
 use Rattle.zerotrie_queries.specs.declared.file.OpenError.{OpenError}
 use Rattle.zerotrie_queries.specs.declared.file.OpenError.TheVariants as unopened
 use Rattle.zerotrie_making.specs.declared.plan.Source.{Source}
-use Rattle.zerotrie_making.specs.declared.plan.Source.TheVariants.{Text, Json}
+use Rattle.zerotrie_making.specs.declared.plan.Source.TheVariants.{Text, Json, JsonLines}
+use Rattle.zerotrie_making.specs.declared.others.OtherFile.{OtherFile}
+use Rattle.zerotrie_making.specs.declared.others.OtherFile.TheVariants.{Utf16, Gzip, Sealed}
 use Rattle.zerotrie_making.specs.declared.error.NoPair.{NoPair}
-use Rattle.zerotrie_making.specs.declared.error.NoPair.TheVariants.{Member, Item}
+use Rattle.zerotrie_making.specs.declared.error.NoPair.TheVariants.{Member, Item, Line}
 use Rattle.zerotrie_making.specs.declared.error.Shown.{Shown}
 use Rattle.zerotrie_making.specs.declared.error.MakeError.{MakeError}
 use Rattle.zerotrie_making.specs.declared.error.MakeError.TheVariants as made
@@ -83,6 +85,7 @@ unit_of (Text Tsv ended) = unit.Line
 unit_of (Text TsvRaw ended) = unit.Line
 unit_of (Text Csv ended) = unit.Record
 unit_of Json = unit.Pair
+unit_of JsonLines = unit.Line
 
 -- the word before its number
 abbrev pub unit_word : PairUnit → List ℕ
@@ -104,10 +107,11 @@ abbrev pub SaysKeys : Shown → List ℕ → Type 0
 SaysKeys s text = (s.error ≢ cause.Unsorted → Says text (told_key s.first.key.items))
     × (s.error ≢ cause.NonAsciiError → s.error ≢ cause.DuplicateKey → Says text (told_key s.second.key.items))
 
--- a message tells which member or item of a JSON value is no pair
+-- a message tells which member or item of a JSON value, or which line, is no pair
 abbrev pub TellsNoPair : NoPair → List ℕ → Type 0
 TellsNoPair (Member key) text = Says text (told_key key.items)
 TellsNoPair (Item number) text = Names (codes "pair") text number
+TellsNoPair (Line number) text = Names (codes "line") text number
 
 -- a field that is no value is in a text: what it begins with
 abbrev pub SaysField : BadLine → List ℕ → Type 0
@@ -117,9 +121,16 @@ SaysField bad.Escape text = Unit {0}
 SaysField (bad.Value v) text = Says text (told_key v.front.items)
 SaysField bad.Fields text = Unit {0}
 
--- a message tells why no file is made of pairs, with the number of the line, record or pair, the place in the text, or the numbers
+-- what is said of an input that is another file, and what to do
+abbrev pub other_words : OtherFile → List ℕ
+other_words Utf16 = codes "it looks like UTF-16: make it UTF-8 by iconv -f UTF-16 -t UTF-8"
+other_words Gzip = codes "it looks like a file of gzip: gunzip it first"
+other_words Sealed = codes "it is a trie or an index that zerotrie made: list prints the pairs of a trie"
+
+-- a message tells why no file is made of pairs: which other file the input is, or the cause, with the number of the line, record or pair, the place in the text, or the numbers
 -- and keys of the pairs
 abbrev pub TellsMade : PairUnit → MakeError → List ℕ → Type 0
+TellsMade unit (made.NotText other) text = Says text (other_words other)
 TellsMade unit (made.Line number bad) text = Names (unit_word unit) text number × SaysField bad text
 TellsMade unit (made.NotJson line column) text = Names (codes "line") text line × Names (codes "column") text column
 TellsMade unit made.NotPairs text = Unit {0}

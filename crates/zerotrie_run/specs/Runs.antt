@@ -16,7 +16,7 @@ use Rattle.zerotrie_queries.specs.declared.file.OpenError.{OpenError}
 use Rattle.zerotrie_queries.specs.declared.file.OpenError.TheVariants as unopened
 use Rattle.zerotrie_files.specs.Parts.{AppendsPart}
 use Rattle.zerotrie_queries.specs.Answers.{AreAnswered, AreAnsweredInPart}
-use Rattle.zerotrie_queries.specs.Finders.{TrieFinds, IndexFinds, asks_keys}
+use Rattle.zerotrie_queries.specs.Finders.{Dictionary, TrieFinds, IndexFinds, asks_keys}
 use Rattle.zerotrie_index.specs.Layout.{IsIndex}
 use Rattle.zerotrie_sealed.specs.Sealed.{IsSealedIndex}
 use Rattle.zerotrie_queries.specs.Sorted.{picked}
@@ -168,8 +168,8 @@ IsUnopened file all why = IsUnopenedBy file.check file.bare all why
 abbrev pub IsUnopenedFor : TrieFile → Question → List ℕ → OpenError → Type 0
 IsUnopenedFor file question all why = IsUnopened file all why × ((bytes : List ℕ) → OpensFor file question all (of_index bytes) → ⊥)
 
--- what was printed, and whether all was found, belong to the keys, whichever values keys may have
-abbrev pub KeysAnswered : Query → Keys → (input : Option (List ℕ)) → ((List ℕ → Option ℕ) → Type 0) → (old new : Option (List ℕ)) → Bool → Type 0
+-- what was printed, and whether all was found, belong to the keys, whichever dictionary it may be
+abbrev pub KeysAnswered : Query → Keys → (input : Option (List ℕ)) → (Dictionary → Type 0) → (old new : Option (List ℕ)) → Bool → Type 0
 KeysAnswered query keys input MayHave old new all = (ks : List (List ℕ)) × AreKeys keys input ks × AreAnswered query MayHave ks old new all
 
 -- what was printed, and whether all was found, belong to the question and to bytes of this kind
@@ -195,8 +195,8 @@ abbrev pub ContentAnswers : Content → Question → (input : Option (List ℕ))
 ContentAnswers (of_trie kind bytes) question input old new all = Answers question input kind bytes old new all
 ContentAnswers (of_index bytes) question input old new all = IndexAnswers question input bytes old new all
 
--- a beginning of what belongs to the keys was printed, whichever values keys may have
-abbrev pub KeysAnsweredInPart : Query → Keys → (input : Option (List ℕ)) → ((List ℕ → Option ℕ) → Type 0) → (old new : Option (List ℕ)) → Type 0
+-- a beginning of what belongs to the keys was printed, whichever dictionary it may be
+abbrev pub KeysAnsweredInPart : Query → Keys → (input : Option (List ℕ)) → (Dictionary → Type 0) → (old new : Option (List ℕ)) → Type 0
 KeysAnsweredInPart query keys input MayHave old new = (ks : List (List ℕ)) × AreKeys keys input ks × AreAnsweredInPart query MayHave ks old new
 
 -- a beginning of what belongs to the question and to bytes of this kind was printed

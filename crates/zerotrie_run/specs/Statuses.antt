@@ -22,6 +22,7 @@ number_of Closed = 4
 
 -- how a run ends if its input makes no file; none if it is out of memory
 abbrev pub made_refusal : MakeError → Option Status
+made_refusal (error.NotText other) = Some BadInput
 made_refusal (error.Line number bad) = Some BadInput
 made_refusal (error.NotJson line column) = Some BadInput
 made_refusal error.NotPairs = Some BadInput

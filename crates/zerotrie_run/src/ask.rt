@@ -4,11 +4,13 @@ ghost use Rattle.std.specs.Prelude.{◌≡◌, true, false, Err, IfOk, IfErr, On
 ghost use Rattle.std.specs.Io.Buffered.{writer_contents};
 ghost use Rattle.zerotrie_files.specs.Notes.{NothingFailed, SameNotes};
 ghost use Rattle.zerotrie_run.specs.Commands.{ReadsTwice};
-ghost use Rattle.zerotrie_queries.specs.Finders.{Finds};
+ghost use Rattle.zerotrie_queries.specs.Finders.{Finds, TrieFinds};
+ghost use Rattle.zerotrie_queries.specs.declared.question.Asked.TheVariants.{KeyOf};
 ghost use Rattle.zerotrie_run.specs.Failures.{AnswerFailed, AskFailed, ReadFailed, WriteFailed};
 ghost use Rattle.zerotrie_run.specs.Runs.{OpensFor, Content, ContentAnswers, IndexAnswers, IndexAnswersInPart, KeysAnswered, KeysAnsweredInPart, Answers, IsNoAnswer, IsAsked, EndsAsk, IsUnanswered, IsDoubtful, LeavesKeys, LeavesInputOf, HandsOn, ask_fails, ask_refusal, asked_refusal, are_lines, of_lines};
 ghost use Rattle.zerotrie_run.specs.Told.{HasReason, NotesNumber, TellsMore};
 ghost use Rattle.zerotrie_run.specs.declared.command.Command.TheVariants.{Ask};
+ghost use Rattle.zerotrie_run.specs.declared.command.Keys.TheVariants.{Lines};
 ghost use Rattle.zerotrie_run.specs.declared.ask.AskError.TheVariants.{TwoInputs, Unanswered};
 ghost use Rattle.zerotrie_run.specs.declared.stdin_lines.AnswerError.TheVariants.{Output};
 
@@ -24,9 +26,10 @@ use std::io::{BufWriter, Read, Write};
 use zerotrie_core::TrieRef;
 use zerotrie_files::{Disk, Noted, Store};
 use zerotrie_queries::{
-    Finder, ListError, OpenError, Query, looks_like_text, write_answers, write_list,
+    Asked, Finder, ListError, OpenError, Query, looks_like_text, write_answers, write_list,
     write_trie_code, write_trie_report, write_trie_view,
 };
+use zerotrie_reverse::Reverse;
 
 /// Why a question has no answer.
 #[derive(Debug, Drop)]
@@ -105,6 +108,67 @@ fn answer_keys<R: Read, W: Write + Drop>(
     }
 }
 
+/// Answers the values that are lines of standard input, by a table of the keys of a trie.
+fn answer_by_table<R: Read, W: Write + Drop>(
+    alloc: Global,
+    trie: &TrieRef<'_>,
+    query: Query,
+    input: &mut Noted<R>,
+    output: &mut Noted<BufWriter<W>>,
+) -> Result<bool, AnswerError>
+    requires { query.asked ≡ KeyOf }
+    ensures answered { IfOk result (KeysAnswered query Lines (R.remaining input.old.inner)
+        (TrieFinds trie.now.kind trie.now.bytes.now) (writer_contents W.contents output.old.inner)
+        (writer_contents W.contents output.new.inner)) }
+    ensures part { OnErr result (KeysAnsweredInPart query Lines (R.remaining input.old.inner)
+        (TrieFinds trie.now.kind trie.now.bytes.now) (writer_contents W.contents output.old.inner)
+        (writer_contents W.contents output.new.inner)) }
+    ensures noted { OnOk result (SameNotes input.old input.new output.old output.new) }
+    ensures failed { IfErr result (AnswerFailed (input.new.failed ≡ true)
+        (output.new.failed ≡ true)) }
+{
+    let table = match trie.keys_by_value(alloc) {
+        Ok(table) => table,
+        Err(error) => return Err(AnswerError::Output(io::Error::from(error))),
+    };
+    let finder = Finder::Table(&table);
+    answer_lines(alloc, &finder, query, input, output)
+}
+
+/// Answers keys, texts or values by a trie. Values that are lines are looked up in a table, others
+/// by a scan each.
+fn answer_by_trie<R: Read, W: Write + Drop>(
+    alloc: Global,
+    trie: &TrieRef<'_>,
+    query: Query,
+    keys: Keys<'_>,
+    input: &mut Noted<R>,
+    output: &mut Noted<BufWriter<W>>,
+) -> Result<bool, AnswerError>
+    ensures answered { IfOk result (KeysAnswered query keys.entry (R.remaining input.old.inner)
+        (TrieFinds trie.now.kind trie.now.bytes.now) (writer_contents W.contents output.old.inner)
+        (writer_contents W.contents output.new.inner)) }
+    ensures part { OnErr result (KeysAnsweredInPart query keys.entry (R.remaining input.old.inner)
+        (TrieFinds trie.now.kind trie.now.bytes.now) (writer_contents W.contents output.old.inner)
+        (writer_contents W.contents output.new.inner)) }
+    ensures noted { OnOk result (SameNotes input.old input.new output.old output.new) }
+    ensures failed { IfErr result (AnswerFailed (input.new.failed ≡ true)
+        (output.new.failed ≡ true)) }
+    ensures unread { are_lines keys.entry ≡ false → input.new ≡ input.old }
+{
+    match (query.asked, keys) {
+        (Asked::KeyOf, Keys::Lines) => answer_by_table(alloc, trie, query, input, output),
+        (Asked::KeyOf, Keys::Words(_))
+        | (
+            Asked::Value | Asked::Pair | Asked::Longest | Asked::LongestAt(_) | Asked::Prefixes,
+            Keys::Words(_) | Keys::Lines,
+        ) => {
+            let finder = Finder::Trie(*trie);
+            answer_keys(alloc, &finder, query, keys, input, output)
+        }
+    }
+}
+
 /// Answers a question to a trie, whose keys may be the lines of standard input, and returns whether
 /// all was found.
 fn answer<R: Read, W: Write + Drop>(
@@ -126,8 +190,7 @@ fn answer<R: Read, W: Write + Drop>(
 {
     match question {
         Question::LookUp(query, keys) => {
-            let finder = Finder::Trie(*trie);
-            Ok(answer_keys(alloc, &finder, query, keys, input, output)?)
+            Ok(answer_by_trie(alloc, trie, query, keys, input, output)?)
         }
         Question::List(form, choice, order, limit) => {
             match write_list(alloc, trie, form, choice, order, limit, output) {

@@ -52,7 +52,7 @@ pub fn are_one_stream(first: Place<'_>, second: Place<'_>) -> bool
     }
 }
 
-/// Keys or texts that are asked for.
+/// Keys, texts or values that are asked for.
 #[derive(Clone, Copy, Debug)]
 pub enum Keys<'a> {
     /// These.
@@ -64,7 +64,7 @@ pub enum Keys<'a> {
 /// What a trie is asked.
 #[derive(Clone, Copy, Debug)]
 pub enum Question<'a> {
-    /// These keys or texts.
+    /// These keys, texts or values.
     LookUp(Query, Keys<'a>),
     /// The first pairs whose keys are chosen, in an order: at most this many, or all.
     List(Form, Choice<'a>, Order, Option<usize>),
@@ -135,7 +135,8 @@ pub struct Combine<'a> {
     pub first: Place<'a>,
     pub second: Place<'a>,
     pub to: Place<'a>,
-    /// The kind of the new trie. If `None`, it is the one that a build of its pairs takes.
+    /// The kind of the new trie. If `None`, it is that of both tries, or if theirs differ the one that a
+    /// build of its pairs takes.
     pub kind: Option<TrieKind>,
     /// What the new file has.
     pub form: FileForm,

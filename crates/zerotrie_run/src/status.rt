@@ -49,7 +49,8 @@ impl Status {
         ensures { result ≡ made_refusal error.now }
     {
         match error {
-            MakeError::Line(_, _)
+            MakeError::NotText(_)
+            | MakeError::Line(_, _)
             | MakeError::NotJson(_, _)
             | MakeError::NotPairs
             | MakeError::NotPair(_) => Some(Status::BadInput),

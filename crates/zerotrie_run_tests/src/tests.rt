@@ -7,6 +7,7 @@ use planted::{are_planted, plant};
 use std::alloc::Global;
 use std::io;
 use std::io::{BufWriter, Cursor, ErrorKind, Read, Write};
+use std::ops::Bound;
 use std::process::Abort;
 use std::test::Fail;
 use zerotrie_core::TrieKind;
@@ -21,6 +22,7 @@ use zerotrie_run::{
     Build, Check, Combine, Command, Diff, Keys, Place, Question, Status, TrieFile, run,
 };
 use zerotrie_sealed::seal_index;
+use zerotrie_search::KeyRange;
 use zerotrie_sets::{Keep, Operation};
 
 /// A run of the program: the files that are there, the words that are typed in, and what is to come of it.
@@ -82,6 +84,30 @@ const INDEXING: Build<'static> = Build {
         file: FilePlan {
             form: FileForm::Index,
             ..TAGGED
+        },
+        ..PLAN
+    },
+    ..BUILD
+};
+
+/// How a trie of the lines of a file is made.
+const OF_LINES: Build<'static> = Build {
+    plan: Plan {
+        read: ReadPlan {
+            source: Source::Text(Format::Lines, LineEnd::CrLf),
+            ..READ
+        },
+        ..PLAN
+    },
+    ..BUILD
+};
+
+/// How a trie of its lines of JSON is made.
+const OF_JSON_LINES: Build<'static> = Build {
+    plan: Plan {
+        read: ReadPlan {
+            source: Source::JsonLines,
+            ..READ
         },
         ..PLAN
     },
@@ -168,6 +194,11 @@ const LONGEST: Query = Query {
     ..VALUES
 };
 
+const KEYS: Query = Query {
+    asked: Asked::KeyOf,
+    ..VALUES
+};
+
 /// Sealed files: made and asked, spared, and damaged.
 const SEALS: [Row; 7] = [
     Row {
@@ -235,7 +266,31 @@ const SEALS: [Row; 7] = [
 ];
 
 /// Builds that are refused, and leave the file that was there.
-const REFUSED: [Row; 7] = [
+const REFUSED: [Row; 10] = [
+    Row {
+        files: &[("names.tsv", b"[\"a\",1]\n[\"b\"]\n"), ("names.trie", TRIE)],
+        command: Command::Build(OF_JSON_LINES),
+        status: Status::BadInput,
+        printed: b"",
+        told: b"zerotrie: names.tsv: line 2: no JSON list [key, value], and no object {\"key\": key, \"value\": value}, whose value is written as a whole number below 2^64\n",
+        left: ("names.trie", TRIE),
+    },
+    Row {
+        files: &[("names.tsv", b"\xFF\xFEa\0\r\0\n\0"), ("names.trie", TRIE)],
+        command: Command::Build(OF_LINES),
+        status: Status::BadInput,
+        printed: b"",
+        told: b"zerotrie: names.tsv: it looks like UTF-16: make it UTF-8 by iconv -f UTF-16 -t UTF-8\n",
+        left: ("names.trie", TRIE),
+    },
+    Row {
+        files: &[("names.tsv", INDEXED), ("names.trie", TRIE)],
+        command: Command::Build(OF_LINES),
+        status: Status::BadInput,
+        printed: b"",
+        told: b"zerotrie: names.tsv: it is a trie or an index that zerotrie made: list prints the pairs of a trie\n",
+        left: ("names.trie", TRIE),
+    },
     Row {
         files: &[("names.tsv", b"a\t1\nb\t2\na\t3\n"), ("names.trie", TRIE)],
         command: Command::Build(INDEXING),
@@ -313,6 +368,16 @@ const FILE: TrieFile<'static> = TrieFile {
     check: Check::Usual,
 };
 
+/// All keys.
+const ALL: Choice<'static> = Choice {
+    prefix: b"",
+    range: KeyRange {
+        from: Bound::Unbounded,
+        to: Bound::Unbounded,
+    },
+    automaton: None,
+};
+
 const THERE: &[&[u8]] = &[b"bar"];
 
 const ABSENT: &[&[u8]] = &[b"bar", b"unknown"];
@@ -320,8 +385,27 @@ const ABSENT: &[&[u8]] = &[b"bar", b"unknown"];
 /// A key with an escape, and two with malformed ones.
 const WRITTEN: &[&[u8]] = &[b"b\\x61r", b"bar\\", b"b\\ar"];
 
+/// The value of a key, one that no key has, and what is no value.
+const NUMBERS: &[&[u8]] = &[b"2", b"4", b"-3", b"003"];
+
 /// Questions to that file.
-const QUESTIONS: [Row; 4] = [
+const QUESTIONS: [Row; 6] = [
+    Row {
+        files: &[("names.trie", TRIE)],
+        command: Command::Ask(FILE, Question::LookUp(KEYS, Keys::Words(NUMBERS))),
+        status: Status::Absent,
+        printed: b"bar\nnone\nnone\nbazzoo\n",
+        told: b"",
+        left: ("names.trie", TRIE),
+    },
+    Row {
+        files: &[("names.trie", TRIE)],
+        command: Command::Ask(FILE, Question::LookUp(KEYS, Keys::Lines)),
+        status: Status::Absent,
+        printed: b"none\nnone\n",
+        told: b"",
+        left: ("names.trie", TRIE),
+    },
     Row {
         files: &[("names.trie", TRIE)],
         command: Command::Ask(
@@ -373,7 +457,10 @@ const SHOWN: [Row; 6] = [
             FILE,
             Question::List(
                 Form::Lines(Style::Tsv),
-                Choice::Prefix(b"a"),
+                Choice {
+                    prefix: b"a",
+                    ..ALL
+                },
                 Order::Stored,
                 None,
             ),
@@ -389,7 +476,10 @@ const SHOWN: [Row; 6] = [
             FILE,
             Question::List(
                 Form::Lines(Style::Tsv),
-                Choice::Prefix(b"b"),
+                Choice {
+                    prefix: b"b",
+                    ..ALL
+                },
                 Order::Stored,
                 None,
             ),
@@ -453,18 +543,14 @@ const READ: ReadPlan = ReadPlan {
     duplicates: Duplicates::Refuse,
 };
 
-/// Pairs that are listed as `csv` and as JSON, and the trie that is made of what was printed.
-const MADE_AGAIN: [Row; 4] = [
+/// Pairs that are listed as `csv`, as JSON and as JSON lines, and the trie that is made of what was
+/// printed.
+const MADE_AGAIN: [Row; 6] = [
     Row {
         files: &[("names.trie", QUOTED)],
         command: Command::Ask(
             FILE,
-            Question::List(
-                Form::Lines(Style::Csv),
-                Choice::Prefix(b""),
-                Order::Stored,
-                None,
-            ),
+            Question::List(Form::Lines(Style::Csv), ALL, Order::Stored, None),
         ),
         status: Status::Done,
         printed: QUOTED_CSV,
@@ -490,10 +576,7 @@ const MADE_AGAIN: [Row; 4] = [
     },
     Row {
         files: &[("names.trie", QUOTED)],
-        command: Command::Ask(
-            FILE,
-            Question::List(Form::Json, Choice::Prefix(b""), Order::Stored, None),
-        ),
+        command: Command::Ask(FILE, Question::List(Form::Json, ALL, Order::Stored, None)),
         status: Status::Done,
         printed: QUOTED_JSON,
         told: b"",
@@ -513,7 +596,31 @@ const MADE_AGAIN: [Row; 4] = [
         told: b"",
         left: ("names.trie", QUOTED),
     },
+    Row {
+        files: &[("names.trie", OF_BYTES)],
+        command: Command::Ask(
+            FILE,
+            Question::List(Form::Lines(Style::JsonLines), ALL, Order::Stored, None),
+        ),
+        status: Status::Done,
+        printed: OF_BYTES_JSON,
+        told: b"",
+        left: ("names.trie", OF_BYTES),
+    },
+    Row {
+        files: &[("names.tsv", OF_BYTES_JSON)],
+        command: Command::Build(OF_JSON_LINES),
+        status: Status::Done,
+        printed: b"",
+        told: b"",
+        left: ("names.trie", OF_BYTES),
+    },
 ];
+
+/// The trie of a key that is not UTF-8.
+const OF_BYTES: &[u8] = b"\x03\xA2\xFF\xFE\x83";
+
+const OF_BYTES_JSON: &[u8] = b"[[255,254],3]\n";
 
 /// Questions without an answer: the file has no trie, is the keys too, or is not there.
 const UNANSWERED: [Row; 5] = [
@@ -631,7 +738,7 @@ const EITHER: Combine<'static> = Combine {
 const BOTH: &[u8] = b"\x00\xC2ab\x01\x85\x87";
 
 /// Files that are made of two others, and one that is not.
-const COMBINED: [Row; 6] = [
+const COMBINED: [Row; 9] = [
     Row {
         files: &[("one", b"\x00a\x85"), ("two", b"\x00\xC2ab\x01\x86\x87")],
         command: Command::Combine(EITHER),
@@ -661,6 +768,33 @@ const COMBINED: [Row; 6] = [
         printed: b"",
         told: b"",
         left: ("names.trie", b"\x00a\x85"),
+    },
+    Row {
+        files: &[("one", b"\x08ETag\x85"), ("two", b"\x08ETag\x86")],
+        command: Command::Combine(EITHER),
+        status: Status::Done,
+        printed: b"",
+        told: b"",
+        left: ("names.trie", b"\x08ETag\x85"),
+    },
+    Row {
+        files: &[("one", b"\x08ETag\x85"), ("two", b"\x07ETag\x86")],
+        command: Command::Combine(EITHER),
+        status: Status::Done,
+        printed: b"",
+        told: b"",
+        left: ("names.trie", b"\x00ETag\x85"),
+    },
+    Row {
+        files: &[("one", b"\x07a\x85"), ("two", b"\x07a\x86")],
+        command: Command::Combine(Combine {
+            kind: Some(TrieKind::Hash),
+            ..EITHER
+        }),
+        status: Status::Done,
+        printed: b"",
+        told: b"",
+        left: ("names.trie", b"\x03a\x85"),
     },
     Row {
         files: &[("one", BOTH), ("two", b"")],
@@ -705,7 +839,10 @@ const NOTED: [Row; 1] = [Row {
         BARE,
         Question::List(
             Form::Lines(Style::Values),
-            Choice::Prefix(b"\0c"),
+            Choice {
+                prefix: b"\0c",
+                ..ALL
+            },
             Order::Stored,
             None,
         ),
@@ -1092,12 +1229,7 @@ fn a_beginning_is_printed_as_far_as_there_is_room(rt: HostRuntime) -> Result<(),
         alloc,
         Command::Ask(
             FILE,
-            Question::List(
-                Form::Lines(Style::Tsv),
-                Choice::Prefix(b""),
-                Order::Stored,
-                None,
-            ),
+            Question::List(Form::Lines(Style::Tsv), ALL, Order::Stored, None),
         ),
         &mut files,
         &mut Noted::new(b"".as_slice()),

@@ -1,5 +1,5 @@
 -- Why the words of a command are refused.
-use Rattle.std.specs.Prelude.{◌≡◌, ◌≢◌, ◌⊎◌, ◌<◌, ◌^◌, ◌+◌, ℕ, List, [], ◌∷◌, Option, Some, None, Bool, true, false, codes, eqb, length, unwrap_or}
+use Rattle.std.specs.Prelude.{◌≡◌, ◌≢◌, ◌⊎◌, ◌<◌, ◌≤◌, ◌^◌, ◌+◌, ℕ, List, [], ◌∷◌, Option, Some, None, Bool, true, false, codes, eqb, length, unwrap_or}
 use Rattle.std.specs.List.{starts_with}
 use Rattle.std.specs.Str.{chars}
 use Rattle.clap.specs.declared.parser.matches.ArgMatches.{ArgMatches}
@@ -12,7 +12,7 @@ use Rattle.zerotrie_queries.specs.declared.code.Language.{Language}
 use Rattle.zerotrie_queries.specs.declared.code.Language.TheVariants as lang
 use Rattle.zerotrie_queries.specs.declared.print.Form.{Form}
 use Rattle.zerotrie_search.specs.Globs as glob
-use Rattle.zerotrie_words.specs.Words.{HasNoHyphen, IsEdits, IsFlag, IsForm, IsFormat, IsNumberOf, duplicates_word, end_word, flag_of, form_by, form_word, format_word, is_alone, language_word, word_of}
+use Rattle.zerotrie_words.specs.Words.{HasNoHyphen, IsEdits, IsFlag, IsForm, IsFormat, IsNumberOf, duplicates_word, end_word, flag_of, form_by, form_word, format_word, is_alone, language_word, word_of, SeeksNothing}
 use Rattle.zerotrie_words.specs.declared.input.Input.{Input}
 use Rattle.zerotrie_words.specs.declared.input.Input.TheVariants as input
 use Rattle.zerotrie_words.specs.declared.task.Topic.{Topic}
@@ -35,6 +35,7 @@ IsNoKind word = NamesNone kind_name word × (word ≢ Some (codes "auto"))
 -- a word is no end of lines, or the format has no lines
 abbrev pub IsNoEnd : Input → Option (List ℕ) → Type 0
 IsNoEnd input.Json word = word ≢ None
+IsNoEnd input.JsonLines word = word ≢ None
 IsNoEnd input.Tsv word = NamesNone end_word word
 IsNoEnd input.Csv word = NamesNone end_word word
 IsNoEnd input.Lines word = NamesNone end_word word
@@ -45,6 +46,7 @@ IsNeverRaw input.Tsv = ⊥
 IsNeverRaw input.Csv = Unit {0}
 IsNeverRaw input.Lines = Unit {0}
 IsNeverRaw input.Json = Unit {0}
+IsNeverRaw input.JsonLines = Unit {0}
 
 -- the words of a build are no input: no format, no end of its lines, or `--raw` for another than `tsv`
 abbrev pub IsNoInputOf : ArgMatches → Input → Type 0
@@ -115,27 +117,24 @@ IsNoGlob word = (glob.no_item word ≢ []) ⊎ (63 < length (glob.items word))
 abbrev pub IsTooFar : List ℕ → ℕ → Type 0
 IsTooFar word edits = (63 < length (chars word)) ⊎ (edits ≡ 255)
 
--- how many of the words are there, of which a search has one
+-- how many of the words are there, of which a search has one at most
 abbrev pub given : Option (List ℕ) → ℕ
 given None = 0
 given (Some word) = 1
 
--- a range has either end
-abbrev pub given_range : Option (List ℕ) → Option (List ℕ) → ℕ
-given_range None None = 0
-given_range (Some word) below = 1
-given_range None (Some word) = 1
-
 abbrev pub sought_count : ArgMatches → ℕ
 sought_count matches = given (word_of matches (codes "glob")) + given (word_of matches (codes "fuzzy")) + given (word_of matches (codes "subsequence"))
-    + given_range (word_of matches (codes "from")) (word_of matches (codes "below"))
 
--- the words are no search: nothing or more than one thing is looked for, edits are named for another search, or a word is wrong
-abbrev pub IsNoSearch : ArgMatches → Type 0
-IsNoSearch matches = (sought_count matches ≢ 1) ⊎ (((word_of matches (codes "fuzzy") ≡ None) × (word_of matches (codes "edits") ≢ None))
+-- the words are no automaton: they ask for more than one, edits are named for another one, or a word is wrong
+abbrev pub IsNoAutomaton : ArgMatches → Type 0
+IsNoAutomaton matches = (2 ≤ sought_count matches) ⊎ (((word_of matches (codes "fuzzy") ≡ None) × (word_of matches (codes "edits") ≢ None))
     ⊎ (((pattern : List ℕ) × (word_of matches (codes "glob") ≡ Some pattern) × IsNoGlob pattern)
     ⊎ (HasNoNumber 8 (word_of matches (codes "edits"))
     ⊎ ((word : List ℕ) × (edits : ℕ) × (word_of matches (codes "fuzzy") ≡ Some word) × IsEdits (word_of matches (codes "edits")) edits × IsTooFar word edits))))
+
+-- the words are no search: they ask for nothing, or are no automaton
+abbrev pub IsNoSearch : ArgMatches → Type 0
+IsNoSearch matches = SeeksNothing matches ⊎ IsNoAutomaton matches
 
 -- the words are no code: no language, or a name that is none or is taken
 abbrev pub IsTaken : Language → List ℕ → Type 0
@@ -153,6 +152,7 @@ IsNoCode matches = IsNoLanguage matches ⊎ ((language : Language) × (word_of m
 abbrev pub IsNoQuestion : ArgMatches → Topic → Option (List (List ℕ)) → Type 0
 IsNoQuestion matches topic.Get texts = AreNoKeys texts
 IsNoQuestion matches topic.Longest texts = IsNoLongest matches ⊎ AreNoKeys texts
+IsNoQuestion matches topic.Keys texts = AreNoKeys texts
 IsNoQuestion matches topic.List texts = IsNoForm (flag_of matches (codes "count")) (word_of matches (codes "format")) ⊎ HasNoNumber 64 (word_of matches (codes "limit"))
 IsNoQuestion matches topic.Search texts = IsNoForm (flag_of matches (codes "count")) (word_of matches (codes "format")) ⊎ (IsNoSearch matches ⊎ HasNoNumber 64 (word_of matches (codes "limit")))
 IsNoQuestion matches topic.Verify texts = ⊥

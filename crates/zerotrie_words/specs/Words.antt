@@ -32,10 +32,11 @@ use Rattle.zerotrie_queries.specs.declared.question.Query.{Query}
 use Rattle.zerotrie_queries.specs.declared.reports.ReportForm.{ReportForm}
 use Rattle.zerotrie_queries.specs.declared.reports.ReportForm.TheVariants as report
 use Rattle.zerotrie_queries.specs.declared.question.Choice.{Choice}
-use Rattle.zerotrie_queries.specs.declared.question.Choice.TheVariants as choice
 use Rattle.zerotrie_queries.specs.declared.question.Order.{Order}
 use Rattle.zerotrie_queries.specs.declared.question.Order.TheVariants as order
 use Rattle.zerotrie_search.specs.Words.{letters_of}
+use Rattle.zerotrie_search.specs.declared.any.AnyAutomaton.{AnyAutomaton}
+use Rattle.zerotrie_search.specs.declared.any.AnyAutomaton.TheVariants as any
 use Rattle.zerotrie_search.specs.declared.range.KeyRange.{KeyRange}
 use Rattle.zerotrie_queries.specs.declared.views.View.{View}
 use Rattle.zerotrie_queries.specs.declared.print.Form.{Form}
@@ -48,7 +49,7 @@ use Rattle.zerotrie_making.specs.declared.duplicates.Duplicates.TheVariants as a
 use Rattle.zerotrie_making.specs.declared.plan.FileForm.{FileForm}
 use Rattle.zerotrie_making.specs.declared.plan.FileForm.TheVariants as made
 use Rattle.zerotrie_making.specs.declared.plan.Source.{Source}
-use Rattle.zerotrie_making.specs.declared.plan.Source.TheVariants.{Text, Json}
+use Rattle.zerotrie_making.specs.declared.plan.Source.TheVariants.{Text, Json, JsonLines}
 use Rattle.zerotrie_run.specs.declared.command.Check.{Check}
 use Rattle.zerotrie_run.specs.declared.command.Check.TheVariants as check
 use Rattle.zerotrie_run.specs.declared.command.Keys.{Keys}
@@ -79,6 +80,7 @@ format_word input.Tsv = codes "tsv"
 format_word input.Csv = codes "csv"
 format_word input.Lines = codes "lines"
 format_word input.Json = codes "json"
+format_word input.JsonLines = codes "jsonl"
 
 -- a path ends so, in either case of ASCII letters: its last bytes, as many as the ending has
 abbrev pub EndsIn : List ℕ → List ℕ → Type 0
@@ -88,8 +90,10 @@ EndsIn path ending = map to_ascii_lowercase (drop (length path - length ending) 
 abbrev pub IsOfPath : List ℕ → Input → Type 0
 IsOfPath path input.Csv = EndsIn path (codes ".csv")
 IsOfPath path input.Json = EndsIn path (codes ".json")
+IsOfPath path input.JsonLines = EndsIn path (codes ".jsonl") ⊎ EndsIn path (codes ".ndjson")
 IsOfPath path input.Lines = EndsIn path (codes ".txt")
-IsOfPath path input.Tsv = (EndsIn path (codes ".csv") → ⊥) × (EndsIn path (codes ".json") → ⊥) × (EndsIn path (codes ".txt") → ⊥)
+IsOfPath path input.Tsv = (EndsIn path (codes ".csv") → ⊥) × (EndsIn path (codes ".json") → ⊥) × (EndsIn path (codes ".jsonl") → ⊥) × (EndsIn path (codes ".ndjson") → ⊥)
+    × (EndsIn path (codes ".txt") → ⊥)
 
 -- the format of an input: the one that is named, or by the ending of its path
 abbrev pub IsFormat : Option (List ℕ) → Option (List ℕ) → Input → Type 0
@@ -106,12 +110,13 @@ abbrev pub IsEnd : Option (List ℕ) → LineEnd → Type 0
 IsEnd None end = end ≡ CrLf
 IsEnd (Some word) end = word ≡ end_word end
 
--- a format may have a word for the end of its lines: JSON has no lines
+-- a format may have a word for the end of its lines: JSON has no lines, and in a line of it a carriage return counts for nothing
 abbrev pub MayNameEnd : Input → Option (List ℕ) → Type 0
 MayNameEnd input.Tsv word = Unit {0}
 MayNameEnd input.Csv word = Unit {0}
 MayNameEnd input.Lines word = Unit {0}
 MayNameEnd input.Json word = word ≡ None
+MayNameEnd input.JsonLines word = word ≡ None
 
 -- an input of a format is such pairs, by whether it is raw: only `tsv` is
 abbrev pub IsSourceOf : Input → Bool → LineEnd → Source → Type 0
@@ -120,6 +125,7 @@ IsSourceOf input.Tsv false end source = source ≡ Text Tsv end
 IsSourceOf input.Csv raw end source = (raw ≡ false) × (source ≡ Text Csv end)
 IsSourceOf input.Lines raw end source = (raw ≡ false) × (source ≡ Text Lines end)
 IsSourceOf input.Json raw end source = (raw ≡ false) × (source ≡ Json)
+IsSourceOf input.JsonLines raw end source = (raw ≡ false) × (source ≡ JsonLines)
 
 -- What the input of a build is, by its words.
 pub record IsInput (matches : ArgMatches) (source : Source) : Type 0 where
@@ -302,10 +308,11 @@ IsProgress false word progress = IsFlag word progress
 abbrev pub words_of : ArgMatches → List ℕ → Option (List (List ℕ))
 words_of matches name = option_map raw_values (matched_of (found_of matches) name)
 
--- the keys or texts that are words of the command line
+-- the keys, texts or values that are words of the command line
 abbrev pub given_words : ArgMatches → Topic → Option (List (List ℕ))
 given_words matches topic.Get = words_of matches (codes "KEY")
 given_words matches topic.Longest = words_of matches (codes "TEXT")
+given_words matches topic.Keys = words_of matches (codes "VALUE")
 given_words matches topic.List = None
 given_words matches topic.Search = None
 given_words matches topic.Verify = None
@@ -340,6 +347,7 @@ IsChecked word by = (flag : Bool) × IsFlag word flag × (by ≡ by_flag flag)
 abbrev pub IsCheck : Topic → Option (List ℕ) → Check → Type 0
 IsCheck topic.Get word by = IsChecked word by
 IsCheck topic.Longest word by = IsChecked word by
+IsCheck topic.Keys word by = IsChecked word by
 IsCheck topic.List word by = IsChecked word by
 IsCheck topic.Search word by = IsChecked word by
 IsCheck topic.Verify word by = by ≡ check.Full
@@ -353,33 +361,10 @@ pub record IsFile (matches : ArgMatches) (about : Topic) (file : TrieFile) : Typ
   pub bare : IsKind (word_of matches (codes "bare")) file.bare
   pub check : IsCheck about (flag_of matches (codes "no-check")) file.check
 
--- The pairs that are listed, by the words of a listing.
-pub record IsListing (matches : ArgMatches) (form : Form) (prefix : List ℕ) (o : Order) (limit : Option ℕ) : Type 0 where
-  pub format : IsListForm (flag_of matches (codes "count")) (word_of matches (codes "format")) form
-  pub front : prefix ≡ unwrap_or (word_of matches (codes "prefix")) []
-  pub ordered : IsOrder (flag_of matches (codes "count")) (flag_of matches (codes "sorted")) o
-  pub most : IsLimit (word_of matches (codes "limit")) limit
-
--- the pattern that is looked for
-abbrev pub IsGlob : List ℕ → Choice → Type 0
-IsGlob word (choice.Glob g) = g.pattern.now ≡ word
-IsGlob word (choice.Prefix p) = ⊥
-IsGlob word (choice.Fuzzy l) = ⊥
-IsGlob word (choice.Subsequence s) = ⊥
-IsGlob word (choice.Range r) = ⊥
-
 -- how many edits are allowed: the number of the word, or one
 abbrev pub IsEdits : Option (List ℕ) → ℕ → Type 0
 IsEdits None edits = edits ≡ 1
 IsEdits (Some word) edits = IsNumberOf word edits
-
--- the word that is looked for, with this number of edits
-abbrev pub IsFuzzy : List ℕ → ℕ → Choice → Type 0
-IsFuzzy word edits (choice.Fuzzy l) = (letters_of l.word ≡ chars word) × (l.edits ≡ edits)
-IsFuzzy word edits (choice.Prefix p) = ⊥
-IsFuzzy word edits (choice.Glob g) = ⊥
-IsFuzzy word edits (choice.Subsequence s) = ⊥
-IsFuzzy word edits (choice.Range r) = ⊥
 
 -- a range from a key on, if its word is there, and below another
 abbrev pub IsFrom : Option (List ℕ) → Bound (Bor (List ℕ)) → Type 0
@@ -403,22 +388,48 @@ HasNoRange matches = (word_of matches (codes "from") ≡ None) × (word_of match
 abbrev pub HasNoEdits : ArgMatches → Type 0
 HasNoEdits matches = word_of matches (codes "edits") ≡ None
 
--- what is looked for, by the word of its option; the others are not there, nor are edits but of a fuzzy search
-abbrev pub IsSought : ArgMatches → Choice → Type 0
-IsSought matches (choice.Prefix p) = ⊥
-IsSought matches (choice.Glob g) = (word_of matches (codes "glob") ≡ Some g.pattern.now) × (word_of matches (codes "fuzzy") ≡ None) × (word_of matches (codes "subsequence") ≡ None)
-    × HasNoRange matches × HasNoEdits matches
-IsSought matches (choice.Fuzzy l) = (word : List ℕ) × (word_of matches (codes "fuzzy") ≡ Some word) × (letters_of l.word ≡ chars word) × IsEdits (word_of matches (codes "edits")) l.edits
-    × (word_of matches (codes "glob") ≡ None) × (word_of matches (codes "subsequence") ≡ None) × HasNoRange matches
-IsSought matches (choice.Subsequence s) = (word_of matches (codes "subsequence") ≡ Some s.0.now) × (word_of matches (codes "glob") ≡ None) × (word_of matches (codes "fuzzy") ≡ None)
-    × HasNoRange matches × HasNoEdits matches
-IsSought matches (choice.Range r) = IsRange matches r × (word_of matches (codes "glob") ≡ None) × (word_of matches (codes "fuzzy") ≡ None) × (word_of matches (codes "subsequence") ≡ None)
-    × HasNoEdits matches
+-- the bytes that keys begin with, by their word
+abbrev pub IsFront : ArgMatches → List ℕ → Type 0
+IsFront matches prefix = prefix ≡ unwrap_or (word_of matches (codes "prefix")) []
 
--- The pairs that are listed, by the words of a search.
-pub record IsSearch (matches : ArgMatches) (form : Form) (c : Choice) (o : Order) (limit : Option ℕ) : Type 0 where
+-- which automaton has to accept keys, by the word of its option; the others are not there, nor are edits but of a fuzzy search
+abbrev pub IsSoughtBy : ArgMatches → Option AnyAutomaton → Type 0
+IsSoughtBy matches None = (word_of matches (codes "glob") ≡ None) × (word_of matches (codes "fuzzy") ≡ None) × (word_of matches (codes "subsequence") ≡ None) × HasNoEdits matches
+IsSoughtBy matches (Some (any.Prefix s)) = ⊥
+IsSoughtBy matches (Some (any.Range r)) = ⊥
+IsSoughtBy matches (Some (any.Glob g)) = (word_of matches (codes "glob") ≡ Some g.pattern.now) × (word_of matches (codes "fuzzy") ≡ None) × (word_of matches (codes "subsequence") ≡ None)
+    × HasNoEdits matches
+IsSoughtBy matches (Some (any.Subsequence s)) = (word_of matches (codes "subsequence") ≡ Some s.0.now) × (word_of matches (codes "glob") ≡ None) × (word_of matches (codes "fuzzy") ≡ None)
+    × HasNoEdits matches
+IsSoughtBy matches (Some (any.Fuzzy l)) = ⊥
+IsSoughtBy matches (Some (any.FuzzyChars l)) = (word : List ℕ) × (word_of matches (codes "fuzzy") ≡ Some word) × (letters_of l.word ≡ chars word) × IsEdits (word_of matches (codes "edits")) l.edits
+    × (word_of matches (codes "glob") ≡ None) × (word_of matches (codes "subsequence") ≡ None)
+
+-- The keys that are listed, by their words.
+pub record IsListed (matches : ArgMatches) (c : Choice) : Type 0 where
+  pub front : IsFront matches c.prefix.now
+  pub range : IsRange matches c.range
+  pub all : c.automaton ≡ None
+
+-- neither a prefix nor a range is there
+abbrev pub HasNoPart : ArgMatches → Type 0
+HasNoPart matches = (word_of matches (codes "prefix") ≡ None) × HasNoRange matches
+
+-- no word says which keys are looked for
+abbrev pub SeeksNothing : ArgMatches → Type 0
+SeeksNothing matches = (word_of matches (codes "glob") ≡ None) × (word_of matches (codes "fuzzy") ≡ None) × (word_of matches (codes "subsequence") ≡ None) × HasNoPart matches
+
+-- The keys that are looked for.
+pub record IsSought (matches : ArgMatches) (c : Choice) : Type 0 where
+  pub front : IsFront matches c.prefix.now
+  pub range : IsRange matches c.range
+  pub by : IsSoughtBy matches c.automaton
+  pub some : SeeksNothing matches → ⊥
+
+-- The pairs that are listed, by the words of a listing or a search: how, and in which order.
+pub record IsListing (matches : ArgMatches) (IsChoice : Choice → Type 0) (form : Form) (c : Choice) (o : Order) (limit : Option ℕ) : Type 0 where
   pub format : IsListForm (flag_of matches (codes "count")) (word_of matches (codes "format")) form
-  pub sought : IsSought matches c
+  pub chosen : IsChoice c
   pub ordered : IsOrder (flag_of matches (codes "count")) (flag_of matches (codes "sorted")) o
   pub most : IsLimit (word_of matches (codes "limit")) limit
 
@@ -444,8 +455,9 @@ IsQuestion matches topic.Get texts q = (query : Query) × (of : Keys) × IsGet (
     × AreKeysOf texts of × (q ≡ question.LookUp query of)
 IsQuestion matches topic.Longest texts q = (query : Query) × (of : Keys) × IsLongest matches query.asked × IsSpelling (flag_of matches (codes "escaped")) query.spelling
     × AreKeysOf texts of × (q ≡ question.LookUp query of)
-IsQuestion matches topic.List texts q = (f : Form) × (prefix : Bor (List ℕ)) × (o : Order) × (limit : Option ℕ) × IsListing matches f prefix.now o limit × (q ≡ question.List f (choice.Prefix prefix) o limit)
-IsQuestion matches topic.Search texts q = (f : Form) × (c : Choice) × (o : Order) × (limit : Option ℕ) × IsSearch matches f c o limit × (q ≡ question.List f c o limit)
+IsQuestion matches topic.Keys texts q = (of : Keys) × AreKeysOf texts of × (q ≡ question.LookUp (record { asked = asked.KeyOf; spelling = spelling.Plain }) of)
+IsQuestion matches topic.List texts q = (f : Form) × (c : Choice) × (o : Order) × (limit : Option ℕ) × IsListing matches (IsListed matches) f c o limit × (q ≡ question.List f c o limit)
+IsQuestion matches topic.Search texts q = (f : Form) × (c : Choice) × (o : Order) × (limit : Option ℕ) × IsListing matches (IsSought matches) f c o limit × (q ≡ question.List f c o limit)
 IsQuestion matches topic.Verify texts q = q ≡ question.Verify
 IsQuestion matches topic.Stats texts q = (f : ReportForm) × IsReportForm (flag_of matches (codes "json")) f × (q ≡ question.Report f)
 IsQuestion matches topic.Inspect texts q = (v : View) × IsView (word_of matches (codes "VIEW")) (word_of matches (codes "limit")) v × (q ≡ question.View v)

@@ -40,7 +40,8 @@ fn end_named(name: &str) -> Option<LineEnd>
     }
 }
 
-/// Returns what ends a line of an input of this format. JSON has no lines.
+/// Returns what ends a line of an input of this format. JSON has no lines, and in a line of it a
+/// carriage return counts for nothing.
 fn end_in(matches: &ArgMatches<'_>, input: Input) -> Result<LineEnd, &'static str>
     ensures end { IfOk result (IsEnd (word_of matches.now (codes "eol"))) }
     ensures lines { IfOk result (λ _. MayNameEnd input (word_of matches.now (codes "eol"))) }
@@ -48,7 +49,9 @@ fn end_in(matches: &ArgMatches<'_>, input: Input) -> Result<LineEnd, &'static st
 {
     match (matches.get_str("eol"), input) {
         (None, _) => Ok(LineEnd::CrLf),
-        (Some(_), Input::Json) => Err("--eol is for lines and records: leave it out for json"),
+        (Some(_), Input::Json | Input::JsonLines) => {
+            Err("--eol is for lines and records: leave it out for json and jsonl")
+        }
         (Some(name), Input::Tsv | Input::Csv | Input::Lines) => {
             end_named(name).ok_or("--eol asks for crlf or lf")
         }
@@ -69,7 +72,10 @@ fn input_in(matches: &ArgMatches<'_>) -> Result<Source, &'static str>
         (Input::Csv, false) => Ok(Source::Text(Format::Csv, end)),
         (Input::Lines, false) => Ok(Source::Text(Format::Lines, end)),
         (Input::Json, false) => Ok(Source::Json),
-        (Input::Csv | Input::Lines | Input::Json, true) => Err("--raw is for tsv"),
+        (Input::JsonLines, false) => Ok(Source::JsonLines),
+        (Input::Csv | Input::Lines | Input::Json | Input::JsonLines, true) => Err(
+            "--raw is for tsv",
+        ),
     }
 }
 

@@ -5,7 +5,7 @@ ghost use Rattle.zerotrie_words.specs.Words.{EndsIn, IsOfPath, format_word};
 ghost use Rattle.zerotrie_words.specs.declared.input.Input.{Input};
 
 /// The names of all formats, in the order of the help.
-pub const INPUTS: &[&str] = &["tsv", "csv", "lines", "json"];
+pub const INPUTS: &[&str] = &["tsv", "csv", "lines", "json", "jsonl"];
 
 /// A format of input, and how keys are written in it.
 #[derive(Clone, Copy, PartialEq, Eq, Debug)]
@@ -14,6 +14,7 @@ pub enum Input {
     Csv,
     Lines,
     Json,
+    JsonLines,
 }
 
 /// Returns whether a path ends so, in either case of ASCII letters.
@@ -36,6 +37,7 @@ impl Input {
             "csv" => Some(Input::Csv),
             "lines" => Some(Input::Lines),
             "json" => Some(Input::Json),
+            "jsonl" => Some(Input::JsonLines),
             _ => None,
         }
     }
@@ -48,6 +50,10 @@ impl Input {
             Input::Csv
         } else if ends_in(path, ".json") {
             Input::Json
+        } else if ends_in(path, ".jsonl") {
+            Input::JsonLines
+        } else if ends_in(path, ".ndjson") {
+            Input::JsonLines
         } else if ends_in(path, ".txt") {
             Input::Lines
         } else {

@@ -1,4 +1,4 @@
-//! The keys and texts that the command line asks for.
+//! The keys, texts and values that the command line asks for.
 
 ghost use Rattle.std.specs.Prelude.{◌≡◌, ◌≢◌, ◌∷◌, [], true, false, IfErr, IfOk, codes, map};
 ghost use Rattle.zerotrie_words.specs.Refusals.{AreNoKeys};
@@ -9,8 +9,8 @@ use clap::ArgMatches;
 use std::alloc::{AllocError, Global};
 use zerotrie_run::Keys;
 
-const HYPHEN_AMONG_WORDS: &str = "- reads standard input only if no other key or text is given; \
-    the key - is \\x2d with --escaped";
+const HYPHEN_AMONG_WORDS: &str = "- reads standard input only if no other key, text or value is \
+    given; the key - is \\x2d with --escaped";
 
 /// Returns words as bytes.
 fn bytes_of<'a>(alloc: Global, words: &[&'a str]) -> Result<Vec<&'a [u8]>, AllocError>
@@ -24,7 +24,7 @@ fn bytes_of<'a>(alloc: Global, words: &[&'a str]) -> Result<Vec<&'a [u8]>, Alloc
     Ok(keys)
 }
 
-/// Returns the keys or texts that are words of the command line, as bytes. It is `None` if there
+/// Returns the keys, texts or values that are words of the command line, as bytes. It is `None` if there
 /// are none.
 pub fn words_in<'a>(
     alloc: Global,
@@ -36,6 +36,7 @@ pub fn words_in<'a>(
     let given = match topic {
         Topic::Get => matches.get_strs("KEY"),
         Topic::Longest => matches.get_strs("TEXT"),
+        Topic::Keys => matches.get_strs("VALUE"),
         Topic::List | Topic::Search | Topic::Verify | Topic::Stats | Topic::Inspect | Topic::Code =>
             None,
     };
@@ -79,6 +80,6 @@ pub fn keys_of<'w, 'a: 'w>(words: &'w Option<Vec<&'a [u8]>>) -> Result<Keys<'w>,
         Some(words) if is_hyphen(words.as_slice()) => Ok(Keys::Lines),
         Some(words) if has_hyphen(words.as_slice()) => Err(HYPHEN_AMONG_WORDS),
         Some(words) => Ok(Keys::Words(words.as_slice())),
-        None => Err("give keys or texts, or - to read them from standard input"),
+        None => Err("give keys, texts or values, or - to read them from standard input"),
     }
 }

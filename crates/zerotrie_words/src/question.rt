@@ -8,10 +8,10 @@ use crate::code::code_in;
 use crate::keys::keys_of;
 use crate::listing::{form_in, limit_in, order_in};
 use crate::names::{kind_in, source_in};
-use crate::search::choice_in;
+use crate::search::{choice_in, listed_in};
 use crate::task::Topic;
 use clap::ArgMatches;
-use zerotrie_queries::{Asked, Choice, Query, ReportForm, Spelling, View};
+use zerotrie_queries::{Asked, Query, ReportForm, Spelling, View};
 use zerotrie_run::{Check, Command, Question, TrieFile};
 
 /// How many nodes are drawn if `--limit` is left out.
@@ -26,6 +26,7 @@ fn check_in(matches: &ArgMatches<'_>, topic: Topic) -> Check
         Topic::Verify => Check::Full,
         Topic::Get
         | Topic::Longest
+        | Topic::Keys
         | Topic::List
         | Topic::Search
         | Topic::Stats
@@ -159,16 +160,19 @@ fn question_in<'w, 'a: 'w>(
             let asked = longest_in(matches)?;
             Ok(Question::LookUp(query_in(matches, asked), keys_of(words)?))
         }
-        Topic::List => {
-            let prefix = matches.get_str("prefix").unwrap_or("").as_bytes();
-            let choice = Choice::Prefix(prefix);
-            Ok(Question::List(
-                form_in(matches)?,
-                choice,
-                order_in(matches),
-                limit_in(matches)?,
-            ))
+        Topic::Keys => {
+            let query = Query {
+                asked: Asked::KeyOf,
+                spelling: Spelling::Plain,
+            };
+            Ok(Question::LookUp(query, keys_of(words)?))
         }
+        Topic::List => Ok(Question::List(
+            form_in(matches)?,
+            listed_in(matches),
+            order_in(matches),
+            limit_in(matches)?,
+        )),
         Topic::Search => Ok(Question::List(
             form_in(matches)?,
             choice_in(matches)?,

@@ -39,6 +39,24 @@ const NO_CHECK: Argument = Argument {
     help: "Skip the test of the bytes of a file that is not sealed",
 };
 
+const PREFIX: Argument = Argument {
+    name: "prefix",
+    form: Form::AnyText("P", Some('p')),
+    help: "Only keys that begin so",
+};
+
+const FROM: Argument = Argument {
+    name: "from",
+    form: Form::AnyText("A", None),
+    help: "Only keys from this one on, by their bytes",
+};
+
+const BELOW: Argument = Argument {
+    name: "below",
+    form: Form::AnyText("B", None),
+    help: "Only keys below this one, by their bytes",
+};
+
 /// How keys and texts are written.
 const ESCAPED: Argument = Argument {
     name: "escaped",
@@ -69,6 +87,13 @@ const KIND: Argument = Argument {
     name: "kind",
     form: Form::OneOf("K", Some('k'), KINDS_OR_AUTO, Otherwise::Is("auto")),
     help: "The kind of the trie: auto is simple for fewer than 512 ASCII keys, else hash",
+};
+
+/// The kind of what is made of two tries.
+const KIND_OF_BOTH: Argument = Argument {
+    name: "kind",
+    form: Form::OneOf("K", Some('k'), KINDS_OR_AUTO, Otherwise::Is("auto")),
+    help: "The kind of OUT: auto is that of A and B, or as build takes it if these differ",
 };
 
 const TAGGED: Argument = Argument {
@@ -103,7 +128,7 @@ const BOTH: &[Argument] = &[
     },
     OUTPUT,
     NO_CLOBBER,
-    KIND,
+    KIND_OF_BOTH,
     TAGGED,
     BARE_OUTPUT,
     INDEX,
@@ -223,6 +248,22 @@ const LOOK_UPS: &[Subcommand] = &[
             NO_CHECK,
         ],
     },
+    Subcommand {
+        name: "keys",
+        about: "Print the first key of each value, in the order of list",
+        help: "Example: zerotrie keys names.trie 38\n\
+            Status: 1 if no key has a value, 2 if FILE is no trie.",
+        arguments: &[
+            FILE,
+            Argument {
+                name: "VALUE",
+                form: Form::Words,
+                help: "Values; - alone reads them from standard input, one a line",
+            },
+            BARE,
+            NO_CHECK,
+        ],
+    },
 ];
 
 /// The commands that list pairs.
@@ -234,11 +275,9 @@ const LISTINGS: &[Subcommand] = &[
             Status: 0 also if no key begins so, 2 if FILE is no trie.",
         arguments: &[
             FILE,
-            Argument {
-                name: "prefix",
-                form: Form::AnyText("P", Some('p')),
-                help: "Only keys that begin so",
-            },
+            PREFIX,
+            FROM,
+            BELOW,
             Argument {
                 name: "format",
                 form: Form::OneOf("F", Some('f'), OUTPUTS, Otherwise::Nothing),
@@ -261,9 +300,10 @@ const LISTINGS: &[Subcommand] = &[
     },
     Subcommand {
         name: "search",
-        about: "Print the pairs whose keys match, are near a word, or are in a range",
+        about: "Print the pairs whose keys match a pattern or are near a word",
         help: "Example: zerotrie search names.trie --fuzzy ampersend\n\
-            Give one of --glob, --fuzzy and --subsequence, or --from and --below.\n\
+            All conditions hold: one of --glob, --fuzzy and --subsequence beside\n\
+            --prefix, --from and --below, or these alone.\n\
             Status: 0 also if no key is found, 2 if FILE is no trie.",
         arguments: &[
             FILE,
@@ -287,16 +327,9 @@ const LISTINGS: &[Subcommand] = &[
                 form: Form::AnyText("S", Some('s')),
                 help: "Keys that have these bytes in this order",
             },
-            Argument {
-                name: "from",
-                form: Form::AnyText("A", None),
-                help: "Keys from this one on, by their bytes",
-            },
-            Argument {
-                name: "below",
-                form: Form::AnyText("B", None),
-                help: "Keys below this one, by their bytes",
-            },
+            PREFIX,
+            FROM,
+            BELOW,
             Argument {
                 name: "format",
                 form: Form::OneOf("F", Some('f'), OUTPUTS, Otherwise::Nothing),

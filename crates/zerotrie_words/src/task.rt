@@ -13,6 +13,7 @@ use zerotrie_sets::{Keep, Operation};
 pub enum Topic {
     Get,
     Longest,
+    Keys,
     List,
     Search,
     Verify,
@@ -44,6 +45,7 @@ impl Task {
             "build" => Some(Task::Build),
             "get" => Some(Task::Ask(Topic::Get)),
             "longest" => Some(Task::Ask(Topic::Longest)),
+            "keys" => Some(Task::Ask(Topic::Keys)),
             "list" => Some(Task::Ask(Topic::List)),
             "search" => Some(Task::Ask(Topic::Search)),
             "diff" => Some(Task::Diff),

@@ -1,20 +1,20 @@
 //! Messages on a file that is made.
 
 ghost use Rattle.std.specs.Prelude.{◌≡◌, IfOk, OnOk};
-ghost use Rattle.zerotrie_run.specs.Messages.{Extends, IsLineOn, TellsBuild, TellsMade, source_name, target_name, unit_of};
+ghost use Rattle.zerotrie_run.specs.Messages.{Extends, IsLineOn, TellsBuild, TellsMade, other_words, source_name, target_name, unit_of};
 ghost use Rattle.zerotrie_run.specs.Told.{told_step};
 
 use crate::build::BuildError;
 use crate::command::Build;
 use crate::messages::line::{
-    add, begin_line, end_line, fault_on, line_on, source_name, target_name, unwritten,
+    add, add_words, begin_line, end_line, fault_on, line_on, source_name, target_name, unwritten,
 };
 use crate::messages::pairs::{PairUnit, add_bad_line, add_no_pair, add_not_json, add_shown};
 use std::alloc::{AllocError, Global};
 use std::io::Write;
 use zerotrie_core::ZeroTrieBuildError;
 use zerotrie_index::ZeroIndexBuildError;
-use zerotrie_making::MakeError;
+use zerotrie_making::{MakeError, OtherFile};
 
 /// Returns why the build of a trie fails though no key is at fault.
 fn refused(error: &ZeroTrieBuildError) -> &'static str {
@@ -42,12 +42,26 @@ fn index_refused(error: &ZeroIndexBuildError) -> &'static str {
     }
 }
 
+/// Returns what is said of an input that is another file, and what to do.
+fn other_words(other: OtherFile) -> &'static str
+    ensures { result.now ≡ other_words other }
+{
+    match other {
+        OtherFile::Utf16 => "it looks like UTF-16: make it UTF-8 by iconv -f UTF-16 -t UTF-8",
+        OtherFile::Gzip => "it looks like a file of gzip: gunzip it first",
+        OtherFile::Sealed => {
+            "it is a trie or an index that zerotrie made: list prints the pairs of a trie"
+        }
+    }
+}
+
 /// Adds why no file is made.
 fn add_refusal(text: &mut Vec<u8>, unit: PairUnit, error: &MakeError) -> Result<(), AllocError>
     ensures tells { OnOk result (TellsMade unit error.now text.new.items) }
     ensures adds { OnOk result (Extends text.old.items text.new.items) }
 {
     match error {
+        MakeError::NotText(other) => add_words(text, other_words(*other)),
         MakeError::Line(number, bad) => add_bad_line(text, unit, *number, bad),
         MakeError::NotJson(line, column) => add_not_json(text, *line, *column),
         MakeError::NotPairs => add(text, "neither an object nor a list"),

@@ -30,6 +30,7 @@ impl PairUnit {
             Source::Text(Format::Csv, _) => PairUnit::Record,
             Source::Text(Format::Tsv | Format::TsvRaw | Format::Lines, _) => PairUnit::Line,
             Source::Json => PairUnit::Pair,
+            Source::JsonLines => PairUnit::Line,
         }
     }
 
@@ -194,7 +195,7 @@ pub fn add_not_json(text: &mut Vec<u8>, line: usize, column: usize) -> Result<()
     ensures adds { OnOk result (Extends text.old.items text.new.items) }
 {
     let hint = if line > 1 && column == 1 {
-        "; if each line is a value, make one of them by jq -s add"
+        "; if each line is a value, name the format by --format jsonl"
     } else {
         ""
     };
@@ -203,7 +204,7 @@ pub fn add_not_json(text: &mut Vec<u8>, line: usize, column: usize) -> Result<()
     add(text, hint)
 }
 
-/// Adds which member or item of a JSON value is no pair.
+/// Adds which member or item of a JSON value, or which line, is no pair.
 #[tactic(auto, using(crate::proofs::MessageLemmas::extends_both, crate::proofs::MessageLemmas::says_on))]
 pub fn add_no_pair(text: &mut Vec<u8>, bad: &NoPair) -> Result<(), AllocError>
     ensures tells { OnOk result (TellsNoPair bad.now text.new.items) }
@@ -222,6 +223,12 @@ pub fn add_no_pair(text: &mut Vec<u8>, bad: &NoPair) -> Result<(), AllocError>
             "pair",
             *number,
             ": no list of a key and of a value that is written as a whole number below 2^64",
+        ),
+        NoPair::Line(number) => add_number(
+            text,
+            "line",
+            *number,
+            ": no JSON list [key, value], and no object {\"key\": key, \"value\": value}, whose value is written as a whole number below 2^64",
         ),
     }
 }

@@ -1,4 +1,4 @@
-use Rattle.std.proofs.Common.{◌≡◌, take}
+use Rattle.std.proofs.Common.{take}
 use Rattle.zerotrie_making.specs.Places.{line_after, column_after}
 use Rattle.zerotrie_making.proofs.PlaceLemmas.{place_at}
 use Rattle.zerotrie_making.proofs.json_places.why_no_json.Goals as goal

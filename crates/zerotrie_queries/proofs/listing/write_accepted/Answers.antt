@@ -1,5 +1,4 @@
 use Rattle.std.proofs.Common.{arith}
-use Rattle.zerotrie_core.specs.Kinds.{kind_of}
 use Rattle.zerotrie_search.specs.Searches.{accepted}
 use Rattle.zerotrie_queries.proofs.ChoiceLemmas.{found_pairs, few_found, if_none_weaker, if_some_weaker, on_err_so, listed_all, listed_part, no_text}
 use Rattle.zerotrie_queries.proofs.listing.write_accepted.Goals as goal

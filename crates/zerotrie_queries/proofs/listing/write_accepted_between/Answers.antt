@@ -3,8 +3,9 @@ use Rattle.std.specs.Range.Bound.{bound_map}
 use Rattle.zerotrie_queries.specs.Sorted.{picked}
 use Rattle.zerotrie_queries.specs.declared.question.Order.TheVariants.{ByBytes}
 use Rattle.zerotrie_queries.proofs.ChoiceLemmas.{if_none_weaker, if_some_weaker, on_err_so, listed_all, listed_part, no_text}
+use Rattle.zerotrie_queries.proofs.PartLemmas.{on_err, part_none}
 use Rattle.zerotrie_queries.proofs.SortedLemmas.{picked_sorted, lists_none}
-use Rattle.zerotrie_queries.proofs.listing.write_between.Goals as goal
+use Rattle.zerotrie_queries.proofs.listing.write_accepted_between.Goals as goal
 
 pub returns-then-not-is_well_formed-clause-all : goal.returns-then-not-is_well_formed-clause-all
 returns-then-not-is_well_formed-clause-all g c =
@@ -18,14 +19,25 @@ stream_chosen-requires g c =
     let yes : c.is_well_formed.result ≡ true = search rules in
     c.is_well_formed.ensures.0 yes
 
+pub stream_chosen-requires-2 : goal.stream_chosen-requires-2
+stream_chosen-requires-2 g c =
+    let yes : c.is_well_formed.result ≡ true = search rules in
+    c.is_well_formed.ensures.0 yes
+
+pub returns-in_err-seen-clause-part : goal.returns-in_err-seen-clause-part
+returns-in_err-seen-clause-part g c = on_err c.from_residual.result (λ pairs lists. part_none (g.W.Write.contents c.args.output.now.inner) _)
+
+pub returns-in_err-pairs-clause-part : goal.returns-in_err-pairs-clause-part
+returns-in_err-pairs-clause-part g c = on_err c.from_residual-in_err-pairs.result (λ pairs lists. part_none (g.W.Write.contents c.args.output.now.inner) _)
+
 pub returns-clause-all : goal.returns-clause-all
 returns-clause-all g c =
     let trie = c.args.trie.now in
     let from = bound_map (λ b. b.now) c.args.from in
     let to = bound_map (λ b. b.now) c.args.to in
     let short : length trie.bytes.now < 2 ^ 64 = search rules in
-    let seen = picked_sorted trie.kind c.args.choice from to trie.bytes.now c.in_ok-seen.seen.left short c.requires c.in_ok-seen.ensures.lists in
-    let source = picked_sorted trie.kind c.args.choice from to trie.bytes.now c.in_ok-pairs.pairs.left short c.requires c.in_ok-pairs.ensures.lists in
+    let seen = picked_sorted trie.kind c.args.choice (g.T.Automaton.accepts c.args.automaton) c.requires.accepts from to trie.bytes.now c.in_ok-seen.seen.left short c.requires.within c.in_ok-seen.ensures.lists in
+    let source = picked_sorted trie.kind c.args.choice (g.T.Automaton.accepts c.args.automaton) c.requires.accepts from to trie.bytes.now c.in_ok-pairs.pairs.left short c.requires.within c.in_ok-pairs.ensures.lists in
     if_none_weaker c.write_first.result
     (λ p. listed_all (picked ByBytes trie.kind c.args.choice) trie.kind trie.bytes.now c.args.form c.args.limit _ _ c.in_ok-seen.seen.left.pairs c.in_ok-pairs.pairs.left.pairs seen source p.0 p.1)
     c.write_first.ensures.all
@@ -34,7 +46,7 @@ pub returns-clause-none : goal.returns-clause-none
 returns-clause-none g c =
     let trie = c.args.trie.now in
     let short : length trie.bytes.now < 2 ^ 64 = search rules in
-    let seen = picked_sorted trie.kind c.args.choice (bound_map (λ b. b.now) c.args.from) (bound_map (λ b. b.now) c.args.to) trie.bytes.now c.in_ok-seen.seen.left short c.requires c.in_ok-seen.ensures.lists in
+    let seen = picked_sorted trie.kind c.args.choice (g.T.Automaton.accepts c.args.automaton) c.requires.accepts (bound_map (λ b. b.now) c.args.from) (bound_map (λ b. b.now) c.args.to) trie.bytes.now c.in_ok-seen.seen.left short c.requires.within c.in_ok-seen.ensures.lists in
     if_some_weaker c.write_first.result
     (λ k p. ((p.0, no_text (picked ByBytes trie.kind c.args.choice) trie.kind trie.bytes.now c.args.limit c.in_ok-seen.seen.left.pairs k.items seen p.1), p.2))
     c.write_first.ensures.none
@@ -43,7 +55,7 @@ pub returns-clause-part : goal.returns-clause-part
 returns-clause-part g c =
     let trie = c.args.trie.now in
     let short : length trie.bytes.now < 2 ^ 64 = search rules in
-    let source = picked_sorted trie.kind c.args.choice (bound_map (λ b. b.now) c.args.from) (bound_map (λ b. b.now) c.args.to) trie.bytes.now c.in_ok-pairs.pairs.left short c.requires c.in_ok-pairs.ensures.lists in
+    let source = picked_sorted trie.kind c.args.choice (g.T.Automaton.accepts c.args.automaton) c.requires.accepts (bound_map (λ b. b.now) c.args.from) (bound_map (λ b. b.now) c.args.to) trie.bytes.now c.in_ok-pairs.pairs.left short c.requires.within c.in_ok-pairs.ensures.lists in
     on_err_so c.write_first.result
     (λ p. listed_part (picked ByBytes trie.kind c.args.choice) trie.kind trie.bytes.now c.args.form c.args.limit _ _ c.in_ok-pairs.pairs.left.pairs source p)
     c.write_first.ensures.part
