@@ -3,6 +3,7 @@
 # a path that begins with one of these: what it begins with instead
 LIBRARIES = {
     "std": "rstd",
+    "str": "rstd::str",  # Rust has its functions in the type from 1.87 on
     "arrayvec": "rstd::arrayvec",
     "serde_json": "rstd::serde_json",
     "linked_list_allocator": "rstd::linked_list_allocator",

@@ -1,6 +1,7 @@
 """Makes a file of tests of the examples of the crate's docs. Arguments: the folder src of the crate's source, and the file to write.
 
-An example is taken as it is, one of a macro for each type. What needs another crate is left out, and printed.
+An example is taken as it is, one of a macro for each type. One that must not compile becomes a doc test, in the package's lib.rs. What
+needs another crate is left out, and printed.
 """
 import json
 import pathlib
@@ -14,6 +15,7 @@ LEFT_OUT = {
     "inner parts of the crate": r"_internal",
 }
 TEST = "/// {where}\n#[test]\n{mark}fn example_{number}() {{\n{body}\n}}\n"
+NOT_COMPILED = "/// {where}\n/// ```{mark}\n{lines}/// ```\npub fn example_{number}() {{}}\n"
 FALLIBLE = "fn run() -> Result<(), Box<dyn std::error::Error>> {{\n{body}\nOk(())\n}}\nrun().unwrap();"
 END = r"Ok::<[^;]*>\(\(\)\)\s*$"
 
@@ -52,19 +54,28 @@ def body_of(lines):
     return FALLIBLE.format(body=re.sub(END, "", text)) if re.search(END, text) else text
 
 
+def tests_of(where, mark, lines, number):
+    """Yields the tests of an example, numbered from a number on."""
+    mark_line = "#[should_panic]\n" if mark == "should_panic" else ""
+    for name in TYPES if any("$name" in line for line in lines) else [""]:
+        body = body_of(lines).replace("$name", name)
+        yield TEST.format(where=where, mark=mark_line, number=number, body=body)
+        number += 1
+
+
 def main():
-    tests, left = [], {}
+    tests, not_compiled, left = [], [], {}
     for where, mark, lines in examples():
-        text = "\n".join(lines)
-        why = [reason for reason, words in LEFT_OUT.items() if re.search(words, text)]
-        if mark not in ("", "rust", "should_panic") or why:
+        why = [reason for reason, words in LEFT_OUT.items() if re.search(words, "\n".join(lines))]
+        if mark.startswith("compile_fail") and not why:
+            doc = "".join(f"/// {line}".rstrip() + "\n" for line in lines)
+            not_compiled.append(NOT_COMPILED.format(where=where, mark=mark, lines=doc, number=len(not_compiled)))
+        elif mark not in ("", "rust", "should_panic") or why:
             left.setdefault(why[0] if why else f"marked {mark}", []).append(where)
-            continue
-        for name in TYPES if "$name" in text else [""]:
-            body = body_of(lines).replace("$name", name)
-            mark_line = "#[should_panic]\n" if mark == "should_panic" else ""
-            tests.append(TEST.format(where=where, mark=mark_line, number=len(tests), body=body))
+        else:
+            tests += tests_of(where, mark, lines, len(tests))
     FILE.write_text("#![allow(unused)]\nuse litemap::{ConstBuilder, ToLiteMap};\n" + "".join(tests))
+    (FILE.parents[1] / "src/lib.rs").write_text("".join(not_compiled))
     for reason, places in left.items():
         print(f"  {len(places)} examples of docs are left out: {reason}: {', '.join(places)}")
 

@@ -25,6 +25,7 @@ fn strings_to_litemap<'a>(strings: &[&'a str]) -> litemap::LiteMap<&'a [u8], usi
 }
 """
 CONVERSIONS = "#[allow(unused_imports)]\nuse litemap::{ConstBuilder, ToLiteMap};\n"
+DATA = "it needs the crate's file of test data, which is not here"
 OTHER_CRATES = r"itertools|rand|zerovec|writeable|postcard|serde|icu_\w+|yoke|databake|bincode|rmp_serde"
 
 
@@ -85,7 +86,7 @@ def test_data(file):
 
 def builder(file):
     test_data(file)
-    file.leave_out_test("test_basic", "it needs the crate's file of test data, which is not here")
+    file.leave_out_test("test_basic", DATA)
     # the file that was handed on ends in the middle of this test
     file.cut(r"^    let zhm: zerovec::ZeroMap.*", "the end of the last test, from `let zhm` on", "zerovec and postcard")
     file.text += "}\n"
@@ -128,7 +129,7 @@ def main():
         if name in taken:
             taken[name](File(name, text))
         elif name.startswith("src/"):
-            said(name, "left out", "it tests private functions of the crate; serde" if "serde" in name else "it tests private functions of the crate")
+            said(name, "left out", DATA if "testdata::" in text else "it tests private functions of the crate")
         else:
             said(name, "left out", "it needs " + ", ".join(sorted(set(re.findall(rf"\b({OTHER_CRATES})::", text)))))
 

@@ -1,6 +1,7 @@
 //! What is asked of a library, in the words that both have.
 
 use std::ops::Bound;
+use zerotrie::sets::{Rule, Selection};
 
 /// The number of a status of `zerotrie.h`.
 pub type Status = u32;
@@ -55,6 +56,10 @@ pub trait Library {
     fn first_fault(&self, kind: u8, bytes: &[u8]) -> Option<(u32, usize)>;
     fn list(&self, kind: u8, bytes: &[u8], prefix: &[u8]) -> Found;
     fn sorted(&self, kind: u8, bytes: &[u8], from: Bound<&[u8]>, to: Bound<&[u8]>) -> Found;
+    fn last_within(&self, kind: u8, bytes: &[u8], from: Bound<&[u8]>, to: Bound<&[u8]>) -> Option<(Vec<u8>, usize)>;
+    fn first_key_of(&self, kind: u8, bytes: &[u8], value: usize) -> Option<Vec<u8>>;
+    /// The trie that a set operation makes of tries, each with its kind.
+    fn combine(&self, selection: Selection, rule: Rule, tries: &[(u8, &[u8])], kind: u8) -> Result<Vec<u8>, Status>;
     fn search(&self, kind: u8, bytes: &[u8], prefix: &[u8], search: Search, beginnings: bool) -> Result<Found, Status>;
     /// The moves of a cursor that is after a prefix.
     fn walk(&self, kind: u8, bytes: &[u8], prefix: &[u8], moves: &[Move]) -> Vec<Moved>;

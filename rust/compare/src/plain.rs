@@ -6,6 +6,7 @@ use std::ops::Bound;
 use zerotrie::dense::{RecordError, ZeroAsciiDenseSparse2dTrieBorrowed, ZeroAsciiDenseSparse2dTrieOwned};
 use zerotrie::index::{ZeroIndex, ZeroIndexBuildError};
 use zerotrie::search::{Automaton, BeginsWith, Glob, GlobError, KeyRange, Levenshtein, LevenshteinChars, Subsequence};
+use zerotrie::sets::{MergeAll, Rule, RuleError, Selection};
 use zerotrie::{
     FaultCause, SealError, TagError, ZeroAsciiIgnoreCaseTrie, ZeroTrie, ZeroTrieBuildError, ZeroTrieExtendedCapacity,
     ZeroTriePerfectHash, ZeroTrieSimpleAscii,
@@ -152,6 +153,40 @@ impl Library for Plain {
 
     fn sorted(&self, kind: u8, bytes: &[u8], from: Bound<&[u8]>, to: Bound<&[u8]>) -> Found {
         ask!(kind, bytes, trie => trie.stream_sorted((from, to)).take(bytes.len() + 1).collect())
+    }
+
+    fn last_within(&self, kind: u8, bytes: &[u8], from: Bound<&[u8]>, to: Bound<&[u8]>) -> Option<(Vec<u8>, usize)> {
+        ask!(kind, bytes, trie => trie.last_within((from, to)))
+    }
+
+    fn first_key_of(&self, kind: u8, bytes: &[u8], value: usize) -> Option<Vec<u8>> {
+        ask!(kind, bytes, trie => {
+            let found = trie.first_key_of(value);
+            // a table has the pairs of a valid trie
+            assert!(!trie.is_well_formed() || trie.keys_by_value().first_key_of(value) == found);
+            found
+        })
+    }
+
+    fn combine(&self, selection: Selection, rule: Rule, tries: &[(u8, &[u8])], kind: u8) -> Result<Vec<u8>, Status> {
+        let is_valid = |(kind, bytes): &(u8, &[u8])| ask!(*kind, *bytes, trie => trie.is_well_formed());
+        if !tries.iter().all(is_valid) {
+            return Err(26);
+        }
+        let mut rows = MergeAll::new(
+            tries
+                .iter()
+                .map(|(kind, bytes)| of_kind!(*kind, Trie => Trie::<[u8]>::from_bytes(bytes).stream_sorted(..))),
+        );
+        let mut taken = Vec::new();
+        while rows.advance() {
+            let value = rows.selected(selection, rule).map_err(|error| match error {
+                RuleError::SeveralValues => 6u32,
+                RuleError::SumTooLarge => 25,
+            })?;
+            taken.extend(value.map(|value| (rows.key().to_vec(), value)));
+        }
+        of_kind!(kind, Trie => Trie::try_from_sorted_slice(&taken).map(|trie| trie.into_store())).map_err(status)
     }
 
     fn search(&self, kind: u8, bytes: &[u8], prefix: &[u8], search: Search, beginnings: bool) -> Result<Found, Status> {

@@ -3,12 +3,16 @@
 use crate::library::{Entry, Found, Library, Move, Moved, Pair, Search, Status};
 use std::ops::Bound;
 use std::ptr::null;
+use zerotrie::sets::{Rule, Selection};
 
 #[repr(C)]
 struct Bytes(*const u8, usize);
 
 #[repr(C)]
 struct KeyAndValue(Bytes, usize);
+
+#[repr(C)]
+struct Trie(u32, Bytes);
 
 #[repr(C)]
 struct Cursor(usize, usize, usize);
@@ -43,6 +47,9 @@ unsafe extern "C" {
     fn zerotrie_list(kind: u32, bytes: *const u8, len: usize, prefix: *const u8, prefix_len: usize, keys: *mut u8, keys_room: usize, ends: *mut usize, ends_room: usize, values: *mut usize, values_room: usize, key_bytes: &mut usize, count: &mut usize) -> u32;
     fn zerotrie_list_some(kind: u32, bytes: *const u8, len: usize, prefix: *const u8, prefix_len: usize, goes_on: bool, last: *const u8, last_len: usize, keys: *mut u8, keys_room: usize, ends: *mut usize, ends_room: usize, values: *mut usize, values_room: usize, count: &mut usize, next_len: &mut usize) -> u32;
     fn zerotrie_sorted_some(kind: u32, bytes: *const u8, len: usize, from_bound: u32, from: *const u8, from_len: usize, to_bound: u32, to: *const u8, to_len: usize, keys: *mut u8, keys_room: usize, ends: *mut usize, ends_room: usize, values: *mut usize, values_room: usize, count: &mut usize, next_len: &mut usize) -> u32;
+    fn zerotrie_last_within(kind: u32, bytes: *const u8, len: usize, from_bound: u32, from: *const u8, from_len: usize, to_bound: u32, to: *const u8, to_len: usize, key: *mut u8, key_room: usize, key_len: &mut usize, value: &mut usize) -> u32;
+    fn zerotrie_first_key_of(kind: u32, bytes: *const u8, len: usize, value: usize, key: *mut u8, key_room: usize, key_len: &mut usize) -> u32;
+    fn zerotrie_combine(selection: u32, rule: u32, tries: *const Trie, count: usize, kind: u32, out: *mut u8, room: usize, len: &mut usize) -> u32;
     fn zerotrie_search_some(kind: u32, bytes: *const u8, len: usize, prefix: *const u8, prefix_len: usize, search: &SearchBy, goes_on: bool, last: *const u8, last_len: usize, keys: *mut u8, keys_room: usize, ends: *mut usize, ends_room: usize, values: *mut usize, values_room: usize, count: &mut usize, next_len: &mut usize) -> u32;
     fn zerotrie_cursor_new(bytes: *const u8, len: usize) -> Cursor;
     fn zerotrie_with_prefix(kind: u32, bytes: *const u8, len: usize, prefix: *const u8, prefix_len: usize) -> Cursor;
@@ -159,6 +166,16 @@ impl Rooms {
             .map(|n| (self.keys[start(n)..self.ends[n]].to_vec(), self.values[n]))
             .collect()
     }
+}
+
+/// The key that a call wrote, if it found one.
+fn found_key(status: Status, mut key: Vec<u8>, len: usize) -> Option<Vec<u8>> {
+    if status == 15 {
+        return None;
+    }
+    assert_eq!(status, 0);
+    key.truncate(len);
+    Some(key)
 }
 
 /// What a build writes into its room.
@@ -377,6 +394,65 @@ impl Library for Proved {
             )
         };
         rooms.found(count)
+    }
+
+    fn last_within(&self, kind: u8, bytes: &[u8], from: Bound<&[u8]>, to: Bound<&[u8]>) -> Option<(Vec<u8>, usize)> {
+        let ((from_bound, from), (to_bound, to)) = (bound(from), bound(to));
+        let (mut key, mut key_len, mut value) = (vec![0; bytes.len()], 0, 0);
+        let status = unsafe {
+            zerotrie_last_within(
+                kind.into(),
+                bytes.as_ptr(),
+                bytes.len(),
+                from_bound,
+                from.as_ptr(),
+                from.len(),
+                to_bound,
+                to.as_ptr(),
+                to.len(),
+                key.as_mut_ptr(),
+                key.len(),
+                &mut key_len,
+                &mut value,
+            )
+        };
+        found_key(status, key, key_len).map(|key| (key, value))
+    }
+
+    fn first_key_of(&self, kind: u8, bytes: &[u8], value: usize) -> Option<Vec<u8>> {
+        let (mut key, mut key_len) = (vec![0; bytes.len()], 0);
+        let status = unsafe {
+            zerotrie_first_key_of(
+                kind.into(),
+                bytes.as_ptr(),
+                bytes.len(),
+                value,
+                key.as_mut_ptr(),
+                key.len(),
+                &mut key_len,
+            )
+        };
+        found_key(status, key, key_len)
+    }
+
+    fn combine(&self, selection: Selection, rule: Rule, tries: &[(u8, &[u8])], kind: u8) -> Result<Vec<u8>, Status> {
+        let lent: Vec<Trie> = tries
+            .iter()
+            .map(|(kind, bytes)| Trie((*kind).into(), all(bytes)))
+            .collect();
+        let room = tries.iter().map(|trie| 64 + 20 * trie.1.len()).sum();
+        written(room, |out, room, len| unsafe {
+            zerotrie_combine(
+                selection as u32,
+                rule as u32,
+                lent.as_ptr(),
+                lent.len(),
+                kind.into(),
+                out,
+                room,
+                len,
+            )
+        })
     }
 
     fn search(&self, kind: u8, bytes: &[u8], prefix: &[u8], search: Search, beginnings: bool) -> Result<Found, Status> {

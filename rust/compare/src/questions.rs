@@ -4,6 +4,7 @@ use crate::library::{DUPLICATE_KEY, Entry, KINDS, Library, Move, Pair, Search, S
 use std::collections::BTreeMap;
 use std::fmt::Debug;
 use std::ops::Bound;
+use zerotrie::sets::{Rule, Selection};
 
 /// Numbers that look random.
 pub struct Random(u64);
@@ -209,6 +210,18 @@ impl Round {
             "sorted",
             library.sorted(self.kind, bytes, Bound::Excluded(one), Bound::Included(two)),
         );
+        answers.add(
+            "last_within",
+            library.last_within(self.kind, bytes, Bound::Included(two), Bound::Excluded(one)),
+        );
+        answers.add(
+            "last_within",
+            library.last_within(self.kind, bytes, Bound::Unbounded, Bound::Included(two)),
+        );
+        for value in [self.seed as usize % 16, self.pairs.first().map_or(0, |pair| pair.1)] {
+            answers.add("first_key_of", library.first_key_of(self.kind, bytes, value));
+        }
+        self.ask_sets(library, bytes, answers);
         let searches = [
             Search::Range(Bound::Included(one), Bound::Excluded(two)),
             Search::Glob(one),
@@ -232,6 +245,28 @@ impl Round {
         file[at] ^= 1 << (self.seed >> 61);
         answers.add("open", library.open(&file));
         answers.add("seal", file);
+    }
+
+    /// Asks for a set operation on some bytes and the tries of the keys that are asked for.
+    fn ask_sets(&self, library: &impl Library, bytes: &[u8], answers: &mut Answers) {
+        let mut keys: Vec<Pair> = self.keys.iter().map(|key| (key.as_slice(), key.len())).collect();
+        keys.sort();
+        keys.dedup();
+        let some = library.build_sorted(3, &keys).expect("any bytes");
+        let one = library.build_sorted(7, &keys[..1]).expect("any bytes");
+        let tries = [(self.kind, bytes), (3, &some), (7, &one)];
+        let selections = [
+            Selection::Union,
+            Selection::Intersection,
+            Selection::Difference,
+            Selection::SymmetricDifference,
+        ];
+        let rules = [Rule::First, Rule::Last, Rule::Sum, Rule::Min, Rule::Max, Rule::Refuse];
+        let selection = selections[self.seed as usize >> 8 & 3];
+        let rule = rules[(self.seed as usize >> 16) % rules.len()];
+        let count = (self.seed as usize >> 32) % 4;
+        let kind = KINDS[self.seed as usize >> 40 & 3];
+        answers.add("combine", library.combine(selection, rule, &tries[..count], kind));
     }
 
     fn ask_table(&self, library: &impl Library, answers: &mut Answers) {

@@ -77,6 +77,22 @@ macro_rules! calls {
                 ZeroTrieIterator::with_prefix(self.kind(), self.as_bytes(), prefix.as_ref())
             }
 
+            /// Lists the pairs that come after a key, of those whose keys begin with a prefix. Lists none if no
+            /// such pair has the key.
+            ///
+            /// ```
+            #[doc = concat!("use zerotrie::", stringify!($name), ";")]
+            ///
+            #[doc = concat!("let trie = ", stringify!($name), "::try_from_iter([(\"in\", 1), (\"into\", 2)])?;")]
+            /// assert_eq!(trie.stream_after("i", "in").values().collect::<Vec<_>>(), [2]);
+            /// # Ok::<(), zerotrie::ZeroTrieBuildError>(())
+            /// ```
+            ///
+            /// So a program can continue a listing from the last key that it read, at the cost of a look-up.
+            pub fn stream_after<P: AsRef<[u8]>, K: AsRef<[u8]>>(&self, prefix: P, key: K) -> ZeroTrieIterator<'_> {
+                ZeroTrieIterator::after(self.kind(), self.as_bytes(), prefix.as_ref(), key.as_ref())
+            }
+
             /// Lists the values, in the order of the keys. Copies no key.
             ///
             /// ```
@@ -164,18 +180,39 @@ macro_rules! calls {
                 Matches::of(self.stream_prefix(prefix), automaton)
             }
 
+            /// Continues a search after a key: lists the pairs that come after it, of those whose keys begin with a
+            /// prefix and which, as a whole, an automaton accepts. Lists none if no such pair has the key.
+            ///
+            /// ```
+            #[doc = concat!("use zerotrie::", stringify!($name), ";")]
+            /// use zerotrie::search::Glob;
+            ///
+            #[doc = concat!("let trie = ", stringify!($name), "::try_from_iter([(\"bat\", 2)])?;")]
+            /// let mut found = trie.search_after("b", "bat", Glob::new(b"?at").unwrap());
+            /// assert!(!found.advance());
+            /// # Ok::<(), zerotrie::ZeroTrieBuildError>(())
+            /// ```
+            pub fn search_after<P: AsRef<[u8]>, K: AsRef<[u8]>, T: Automaton>(
+                &self,
+                prefix: P,
+                key: K,
+                automaton: T,
+            ) -> Matches<'_, T> {
+                Matches::of(self.stream_after(prefix, key), automaton)
+            }
+
             /// Lists the pairs between two bounds, in the order of the trie's bytes.
             ///
             /// ```
             #[doc = concat!("use zerotrie::", stringify!($name), ";")]
             ///
             #[doc = concat!("let trie = ", stringify!($name), "::try_from_iter([(\"in\", 1), (\"on\", 2), (\"to\", 3)])?;")]
-            /// assert_eq!(trie.range("j"..="to").values().sum::<usize>(), 5);
+            /// assert_eq!(trie.search_range("j"..="to").values().sum::<usize>(), 5);
             /// # Ok::<(), zerotrie::ZeroTrieBuildError>(())
             /// ```
             ///
             /// Bounds are ranges of strings or bytes, `..`, or a pair of `Bound`.
-            pub fn range<'p>(&self, bounds: impl Into<KeyRange<'p>>) -> Matches<'_, KeyRange<'p>> {
+            pub fn search_range<'p>(&self, bounds: impl Into<KeyRange<'p>>) -> Matches<'_, KeyRange<'p>> {
                 self.search(bounds.into())
             }
 
@@ -190,6 +227,19 @@ macro_rules! calls {
             /// ```
             pub fn stream_sorted<'p>(&self, bounds: impl Into<KeyRange<'p>>) -> Sorted<'_, 'p> {
                 Sorted::of(self.kind(), self.as_bytes(), bounds.into())
+            }
+
+            /// Lists the pairs between two bounds, in ascending order of bytes, as `stream_sorted` does.
+            ///
+            /// ```
+            #[doc = concat!("use zerotrie::", stringify!($name), ";")]
+            ///
+            #[doc = concat!("let trie = ", stringify!($name), "::try_from_iter([(\"to\", 3), (\"in\", 1), (\"on\", 2)])?;")]
+            /// assert_eq!(trie.range("in".."to").map(|(_key, value)| value).collect::<Vec<_>>(), [1, 2]);
+            /// # Ok::<(), zerotrie::ZeroTrieBuildError>(())
+            /// ```
+            pub fn range<'p>(&self, bounds: impl Into<KeyRange<'p>>) -> Sorted<'_, 'p> {
+                self.stream_sorted(bounds)
             }
 
             /// Returns the least pair, by the bytes of its key, whose key is at least this one.

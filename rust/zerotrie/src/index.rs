@@ -112,6 +112,34 @@ impl<Store: AsRef<[u8]>> ZeroIndex<Store> {
         self.store.as_ref()
     }
 
+    /// Returns the same index over a borrowed slice of bytes.
+    ///
+    /// ```
+    /// use zerotrie::index::ZeroIndex;
+    ///
+    /// let index = ZeroIndex::try_from_iter([("in", 1)])?;
+    /// let borrowed: ZeroIndex<&[u8]> = index.as_borrowed();
+    /// assert_eq!(borrowed.get("in"), Some(1));
+    /// # Ok::<(), zerotrie::index::ZeroIndexBuildError>(())
+    /// ```
+    pub fn as_borrowed(&self) -> ZeroIndex<&[u8]> {
+        ZeroIndex::from_store(self.as_bytes())
+    }
+
+    /// Returns the same index over a copy of its bytes.
+    ///
+    /// ```
+    /// use zerotrie::index::ZeroIndex;
+    ///
+    /// let index = ZeroIndex::try_from_iter([("in", 1)])?;
+    /// let owned: ZeroIndex<Vec<u8>> = index.as_borrowed().to_owned();
+    /// assert_eq!(owned.get("in"), Some(1));
+    /// # Ok::<(), zerotrie::index::ZeroIndexBuildError>(())
+    /// ```
+    pub fn to_owned(&self) -> ZeroIndex<Vec<u8>> {
+        ZeroIndex::from_store(self.as_bytes().to_vec())
+    }
+
     /// Returns a sealed file: a header with the length and a checksum, followed by the bytes.
     ///
     /// ```
@@ -127,6 +155,23 @@ impl<Store: AsRef<[u8]>> ZeroIndex<Store> {
 }
 
 impl<Store> ZeroIndex<Store> {
+    /// Converts the store.
+    ///
+    /// ```
+    /// use std::borrow::Cow;
+    /// use zerotrie::index::ZeroIndex;
+    ///
+    /// let index = ZeroIndex::try_from_iter([("in", 1)])?;
+    /// let cow: ZeroIndex<Cow<[u8]>> = index.convert_store();
+    /// assert_eq!(cow.get("in"), Some(1));
+    /// # Ok::<(), zerotrie::index::ZeroIndexBuildError>(())
+    /// ```
+    pub fn convert_store<X: From<Store>>(self) -> ZeroIndex<X> {
+        ZeroIndex {
+            store: self.store.into(),
+        }
+    }
+
     /// Returns the store.
     ///
     /// ```

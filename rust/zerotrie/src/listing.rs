@@ -199,6 +199,14 @@ impl<'a> ZeroTrieIterator<'a> {
         Pairs::new(allocated(by_kind!(kind, stream_prefix::<_>(bytes, prefix))))
     }
 
+    /// Lists the pairs of a trie after a key, of those whose keys begin with a prefix.
+    pub(crate) fn after(kind: TrieKind, bytes: &'a [u8], prefix: &[u8], key: &[u8]) -> Self {
+        Pairs::new(allocated(by_kind!(
+            kind,
+            stream_after::<_>(bytes, prefix, key)
+        )))
+    }
+
     /// Passes over the pairs to come whose keys begin with the first `depth` bytes of the current
     /// key.
     ///
@@ -226,6 +234,14 @@ fn stream_prefix<'a, K: ZeroTrieWithOptions>(
     prefix: &[u8],
 ) -> Result<zerotrie_core::ZeroTrieStream<'a>, AllocError> {
     zerotrie_core::ZeroTrieStream::with_prefix::<K>(Global, bytes, prefix)
+}
+
+fn stream_after<'a, K: ZeroTrieWithOptions>(
+    bytes: &'a [u8],
+    prefix: &[u8],
+    key: &[u8],
+) -> Result<zerotrie_core::ZeroTrieStream<'a>, AllocError> {
+    zerotrie_core::ZeroTrieStream::after::<K>(Global, bytes, prefix, key)
 }
 
 /// The pairs that a search finds, in the order of the trie's bytes.

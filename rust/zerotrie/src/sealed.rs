@@ -23,8 +23,18 @@ pub struct Sealed<File> {
 }
 
 impl<File: AsRef<[u8]>> Sealed<File> {
-    /// Opens the file of a trie.
-    pub(crate) fn open(file: File) -> Result<(TrieKind, Self), SealError> {
+    /// Opens the file of a trie of any kind, and returns the kind. The types of tries have `open`.
+    ///
+    /// ```
+    /// use zerotrie::{Sealed, TrieKind, ZeroAsciiIgnoreCaseTrie};
+    ///
+    /// let file = ZeroAsciiIgnoreCaseTrie::try_from_iter([("In", 1)])?.seal();
+    /// let (kind, store) = Sealed::open(file).unwrap();
+    /// assert_eq!(kind, TrieKind::Ignore);
+    /// assert_eq!(ZeroAsciiIgnoreCaseTrie::from_store(store).get("IN"), Some(1));
+    /// # Ok::<(), zerotrie::ZeroTrieBuildError>(())
+    /// ```
+    pub fn open(file: File) -> Result<(TrieKind, Self), SealError> {
         let kind = open(file.as_ref())?.kind;
         Ok((kind, Sealed { file }))
     }

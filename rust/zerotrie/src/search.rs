@@ -15,11 +15,81 @@
 //! # Ok::<(), zerotrie::ZeroTrieBuildError>(())
 //! ```
 //!
-//! An automaton of your own is a type with the trait [`Automaton`].
+//! [`Osa`] counts two neighbours that change places as one edit. It says how many edits a key is
+//! away, and so do [`Levenshtein`] and [`LevenshteinChars`]:
+//!
+//! ```
+//! use zerotrie::ZeroTrieSimpleAscii;
+//! use zerotrie::search::Osa;
+//!
+//! let trie = ZeroTrieSimpleAscii::try_from_iter([("tree", 2), ("trie", 3), ("true", 4)])?;
+//! let typed = Osa::new(b"tire", 2).unwrap();
+//! let mut near = trie.search(typed);
+//! let mut found = Vec::new();
+//! while near.advance() {
+//!     found.push((typed.distance(near.state()), near.value()));
+//! }
+//! assert_eq!(found, [(Some(2), 2), (Some(1), 3), (Some(2), 4)]);
+//! # Ok::<(), zerotrie::ZeroTrieBuildError>(())
+//! ```
+//!
+//! An automaton of your own is a type with the trait [`Automaton`]. A search tries no byte that is
+//! outside the set which its `wanted` returns:
+//!
+//! ```
+//! use zerotrie::ZeroTrieSimpleAscii;
+//! use zerotrie::search::{Automaton, ByteSet};
+//!
+//! /// Accepts keys of digits.
+//! struct Digits;
+//!
+//! impl Automaton for Digits {
+//!     type State = bool;
+//!
+//!     fn start(&self) -> bool {
+//!         true
+//!     }
+//!
+//!     fn step(&self, state: bool, byte: u8) -> bool {
+//!         state && byte.is_ascii_digit()
+//!     }
+//!
+//!     fn is_match(&self, state: bool) -> bool {
+//!         state
+//!     }
+//!
+//!     fn can_match(&self, state: bool) -> bool {
+//!         state
+//!     }
+//!
+//!     fn wanted(&self, _state: bool) -> Option<ByteSet> {
+//!         Some(ByteSet::from_bytes(b"0123456789"))
+//!     }
+//! }
+//!
+//! let trie = ZeroTrieSimpleAscii::try_from_iter([("007", 1), ("42", 2), ("4x4", 3), ("x", 4)])?;
+//! assert_eq!(trie.search(Digits).values().collect::<Vec<_>>(), [1, 2]);
+//! # Ok::<(), zerotrie::ZeroTrieBuildError>(())
+//! ```
+//!
+//! [`AnyAutomaton`] is for a program that learns when it runs which search is wanted:
+//!
+//! ```
+//! use zerotrie::ZeroTrieSimpleAscii;
+//! use zerotrie::search::{AnyAutomaton, SearchBy, by_automaton};
+//!
+//! let trie = ZeroTrieSimpleAscii::try_from_iter([("tree", 1), ("trie", 2)])?;
+//! let asked = AnyAutomaton::new(SearchBy::Glob, b"tr?e").unwrap();
+//! assert_eq!(by_automaton!(asked, automaton => trie.search(automaton).count()), 2);
+//! # Ok::<(), zerotrie::ZeroTrieBuildError>(())
+//! ```
 
+pub use crate::by_automaton;
+pub use crate::zerotrie_core::ByteSet;
 pub use crate::zerotrie_search::{
-    AnyCase, Automaton, BeginsWith, Both, CharsState, Either, Glob, GlobError, KeyRange,
-    Levenshtein, LevenshteinChars, LevenshteinState, Not, StartsWith, Subsequence, WORD_LIMIT,
+    AnyAutomaton, AnyCase, Automaton, BeginsWith, Both, CharsState, Either, Glob, GlobError,
+    KeyRange, Levenshtein, LevenshteinChars, LevenshteinState, Not, Osa, OsaState, SearchBy,
+    StartsWith, Subsequence, WORD_LIMIT, WordError,
 };
 
 use crate::Trie;

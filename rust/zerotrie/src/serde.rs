@@ -14,7 +14,7 @@ struct Bytes<'a>(&'a [u8]);
 
 impl Serialize for Bytes<'_> {
     fn serialize<S: Serializer>(&self, serializer: S) -> Result<S::Ok, S::Error> {
-        match str::from_utf8(self.0) {
+        match core::str::from_utf8(self.0) {
             Ok(text) if serializer.is_human_readable() => serializer.serialize_str(text),
             _ => serializer.serialize_bytes(self.0),
         }
@@ -86,7 +86,7 @@ impl<'de> Visitor<'de> for PairsVisitor {
 fn write_pairs<S: Serializer>(trie: &impl Trie, serializer: S) -> Result<S::Ok, S::Error> {
     let pairs: Vec<_> = sorted(trie).collect();
     let written = pairs.iter().map(|(key, value)| (Bytes(key), value));
-    if pairs.iter().all(|(key, _)| str::from_utf8(key).is_ok()) {
+    if pairs.iter().all(|(key, _)| core::str::from_utf8(key).is_ok()) {
         serializer.collect_map(written)
     } else {
         serializer.collect_seq(written)

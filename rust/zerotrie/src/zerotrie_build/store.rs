@@ -147,6 +147,7 @@ impl TrieBuilderStore for VecDeque<u8> {
         Ok(bytes)
     }
 
+    #[inline(always)]
     fn atbs_bitor_assign(&mut self, index: usize, bits: u8) {
         self[index] |= bits;
     }

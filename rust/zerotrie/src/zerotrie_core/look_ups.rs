@@ -66,9 +66,10 @@ impl<'a, K: ZeroTrieWithOptions> LookUps<'a, K> {
     /// Returns the bytes in which the look-up of a key begins, and the rest of the key there.
     #[inline(always)]
     fn start<'k>(&mut self, key: &'k [u8]) -> (&'a [u8], &'k [u8]) {
-        if let Some((byte, left)) = key.split_first()
-            && let Some(target) = self.target(*byte)
-        {
+        let Some((byte, left)) = key.split_first() else {
+            return (self.bytes, key);
+        };
+        if let Some(target) = self.target(*byte) {
             return (target, left);
         }
         (self.bytes, key)

@@ -8,6 +8,7 @@ use crate::rstd::prelude::*;
 
 mod borders;
 mod branch;
+mod byte_set;
 mod cursor;
 mod cursor_place;
 mod edges;
@@ -32,6 +33,7 @@ mod well_formed;
 
 pub use borders::longest_prefix_at;
 pub use branch::Branch;
+pub use byte_set::ByteSet;
 pub use cursor::{AsciiProbeResult, probe, step, take_value};
 pub use cursor_place::CursorPlace;
 pub use faults::{Fault, FaultCause, first_fault};

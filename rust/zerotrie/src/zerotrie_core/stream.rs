@@ -11,6 +11,7 @@ mod open_branches;
 mod opened;
 
 use crate::zerotrie_core::branch::Branch;
+use crate::zerotrie_core::byte_set::ByteSet;
 use crate::zerotrie_core::here::Here;
 use crate::zerotrie_core::node::{Node, first_node};
 use crate::zerotrie_core::span_cursor::SpanCursor;
@@ -26,6 +27,8 @@ pub enum Reached {
     Pair,
     /// Other bytes of the current key after this many, and no pair yet.
     Bytes(usize),
+    /// The targets of a branch, each after the current key and its edge.
+    Branch,
     /// No pair is left.
     End,
 }
@@ -82,14 +85,15 @@ impl<'a, A: Allocator> ZeroTrieStream<'a, A> {
         Ok(true)
     }
 
-    /// Moves by one node: to the value of the current key, or to more bytes of the keys that come
-    /// next. An error ends the stream.
+    /// Moves by one node: to the value of the current key, to more bytes of the keys that come
+    /// next, or to the targets of a branch. An error ends the stream.
     ///
     /// ```
     /// # use zerotrie::{rstd::examples::*, zerotrie_core::*, zerotrie_base::*};
     /// // the keys "ab", "ac" and "b" with values 1, 2 and 3
     /// let bytes = b"\xC2ab\x06\xC2bc\x01\x81\x82\x83";
     /// let mut pairs = ZeroTrieStream::new::<Simple>(Global, bytes);
+    /// assert_eq!(pairs.advance_node()?, Reached::Branch);
     /// assert_eq!(pairs.advance_node()?, Reached::Bytes(0));
     /// assert_eq!(pairs.key(), b"a".as_slice());
     /// pairs.skip(1);
@@ -153,7 +157,41 @@ impl<'a, A: Allocator> ZeroTrieStream<'a, A> {
     /// them reads nothing of the others. It does not allocate. With a depth of 0 nothing more comes.
     pub fn skip(&mut self, depth: usize) {
         self.here = Here::nowhere();
-        self.branches.leave(depth);
+        self.branches.leave(depth.min(self.key.len()));
+    }
+
+    /// Returns after how many bytes of the key the branch is whose target comes next, or `None` if
+    /// the next node is no target's.
+    #[inline]
+    pub fn next_branch(&self) -> Option<usize> {
+        if self.ended || !self.here.rest.is_empty() {
+            return None;
+        }
+        self.branches.next_depth()
+    }
+
+    /// Skips targets of the branch after the first `depth` bytes of the key, up to the next one
+    /// whose edge is in the set. The key and its value stay.
+    ///
+    /// ```
+    /// # use zerotrie::{rstd::examples::*, zerotrie_core::*, zerotrie_base::*};
+    /// // the keys "ab", "ac" and "b" with values 1, 2 and 3
+    /// let bytes = b"\xC2ab\x06\xC2bc\x01\x81\x82\x83";
+    /// let mut pairs = ZeroTrieStream::new::<Simple>(Global, bytes);
+    /// assert_eq!(pairs.advance_node()?, Reached::Branch);
+    /// assert_eq!(pairs.next_branch(), Some(0));
+    /// pairs.pass(0, &ByteSet::from_bytes(b"bcd"));
+    /// assert!(pairs.advance()?);
+    /// assert_eq!(pairs.key(), b"b".as_slice());
+    /// # Ok::<(), Fail>(())
+    /// ```
+    ///
+    /// It reads no node of them, only their edges and offsets. If a target of another branch comes
+    /// next, or none, it does nothing.
+    pub fn pass(&mut self, depth: usize, wanted: &ByteSet) {
+        if !self.ended && self.here.rest.is_empty() {
+            self.branches.pass(depth, wanted);
+        }
     }
 
     /// Lists nothing more.
@@ -557,7 +595,8 @@ fn next_node<'a, K: ZeroTrieWithOptions, A: Allocator>(
         }
         Some(Node::Branch(branch)) => {
             branches.open(OpenBranch::new(*here, branch, kept))?;
-            enter_next(here, key, branches)
+            *here = Here::nowhere();
+            Ok(Reached::Branch)
         }
     }
 }

@@ -2,6 +2,7 @@
 //! What reads a key byte by byte, and accepts it or not.
 
 use crate::rstd::prelude::*;
+use crate::zerotrie_core::ByteSet;
 
 /// A set of keys that is decided byte by byte.
 ///
@@ -40,4 +41,10 @@ pub trait Automaton {
 
     /// Returns `false` only if no accepted key begins with the bytes before the state.
     fn can_match(&self, state: Self::State) -> bool;
+
+    /// Returns a set of bytes, such that no accepted key has another one after the state, or `None`
+    /// if any byte may follow. Of a branch, a search enters no edge outside the set.
+    fn wanted(&self, _state: Self::State) -> Option<ByteSet> {
+        None
+    }
 }

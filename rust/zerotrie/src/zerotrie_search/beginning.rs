@@ -3,6 +3,7 @@
 
 use crate::rstd::prelude::*;
 use crate::zerotrie_search::automaton::Automaton;
+use crate::zerotrie_core::ByteSet;
 
 /// Accepts the keys that begin with a key that the automaton accepts.
 ///
@@ -49,5 +50,13 @@ impl<S: Automaton> Automaton for BeginsWith<S> {
             None => true,
             Some(inner) => self.0.can_match(inner),
         }
+    }
+
+    fn wanted(&self, state: Option<S::State>) -> Option<ByteSet> {
+        let inner = state?;
+        if self.0.is_match(inner) {
+            return None;
+        }
+        self.0.wanted(inner)
     }
 }

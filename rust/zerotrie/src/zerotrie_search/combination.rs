@@ -3,6 +3,7 @@
 
 use crate::rstd::prelude::*;
 use crate::zerotrie_search::automaton::Automaton;
+use crate::zerotrie_core::ByteSet;
 
 /// Accepts the keys that both automata accept.
 ///
@@ -37,6 +38,14 @@ impl<S: Automaton, T: Automaton> Automaton for Both<S, T> {
     fn can_match(&self, state: (S::State, T::State)) -> bool {
         self.0.can_match(state.0) && self.1.can_match(state.1)
     }
+
+    fn wanted(&self, state: (S::State, T::State)) -> Option<ByteSet> {
+        match (self.0.wanted(state.0), self.1.wanted(state.1)) {
+            (Some(one), Some(other)) => Some(one.intersect(&other)),
+            (Some(one), None) => Some(one),
+            (None, other) => other,
+        }
+    }
 }
 
 /// Accepts the keys that one of the automata accepts, or both do.
@@ -67,6 +76,12 @@ impl<S: Automaton, T: Automaton> Automaton for Either<S, T> {
 
     fn can_match(&self, state: (S::State, T::State)) -> bool {
         self.0.can_match(state.0) || self.1.can_match(state.1)
+    }
+
+    fn wanted(&self, state: (S::State, T::State)) -> Option<ByteSet> {
+        let one = self.0.wanted(state.0)?;
+        let other = self.1.wanted(state.1)?;
+        Some(one.unite(&other))
     }
 }
 

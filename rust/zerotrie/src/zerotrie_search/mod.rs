@@ -29,11 +29,11 @@ pub use combination::{AnyCase, Both, Either, Not};
 pub use cursors::SearchBelow;
 pub use glob::{Glob, GlobError};
 pub use keys_of::KeysOf;
-pub use levenshtein::{CharsState, Levenshtein, LevenshteinChars, LevenshteinState};
+pub use levenshtein::{CharsState, Levenshtein, LevenshteinChars, LevenshteinState, Osa, OsaState};
 pub use prefix::StartsWith;
 pub use range::KeyRange;
 pub use search::ZeroTrieSearch;
-pub use sorted::{ZeroTrieSorted, ZeroTrieSortedIterator};
+pub use sorted::{ZeroTrieSorted, ZeroTrieSortedIterator, ZeroTrieSortedSearch};
 pub use subsequence::Subsequence;
 pub use tries::Search;
 

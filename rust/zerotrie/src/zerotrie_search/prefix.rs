@@ -3,6 +3,7 @@
 
 use crate::rstd::prelude::*;
 use crate::zerotrie_search::automaton::Automaton;
+use crate::zerotrie_core::ByteSet;
 
 /// Accepts the keys that begin with these bytes, byte by byte.
 ///
@@ -43,5 +44,10 @@ impl<'p> Automaton for StartsWith<'p> {
 
     fn can_match(&self, state: Option<&'p [u8]>) -> bool {
         state.is_some()
+    }
+
+    fn wanted(&self, state: Option<&'p [u8]>) -> Option<ByteSet> {
+        let (first, _more) = state?.split_first()?;
+        Some(ByteSet::from_bytes(&[*first]))
     }
 }

@@ -3,7 +3,7 @@
 
 use crate::rstd::prelude::*;
 use crate::zerotrie_search::automaton::Automaton;
-use crate::zerotrie_search::trail::{Verdict, read};
+use crate::zerotrie_search::trail::{Verdict, last_state, read};
 use crate::rstd::alloc::{AllocError, Allocator, Global};
 use crate::zerotrie_core::{PairStream, Reached, ZeroTrieStream};
 
@@ -26,7 +26,8 @@ use crate::zerotrie_core::{PairStream, Reached, ZeroTrieStream};
 /// ```
 ///
 /// It goes from node to node. Once no accepted key begins with the bytes so far, it skips the pairs
-/// that begin with them and reads no node of them. It allocates for the longest key alone, and
+/// that begin with them and reads no node of them. Of a branch it enters no target whose edge the
+/// automaton does not want. It allocates for the longest key alone, and
 /// nothing for each pair: the stream's buffer, and one state a byte, which keys that begin alike
 /// share. If an allocation for a state fails, it reads the next key from an earlier byte.
 pub struct ZeroTrieSearch<'a, T: Automaton, A: Allocator = Global> {
@@ -104,6 +105,27 @@ impl<'a, T: Automaton, A: Allocator> PairStream for ZeroTrieSearch<'a, T, A> {
     }
 }
 
+/// Skips the pairs that come next in the open branches, as far as the automaton does not want their
+/// edges.
+fn pass_unwanted<'a, T: Automaton, A: Allocator>(
+    automaton: &T,
+    pairs: &mut ZeroTrieStream<'a, A>,
+    trail: &[(u8, T::State)],
+) {
+    let mut above = usize::MAX;
+    while let Some(depth) = pairs.next_branch() {
+        if above <= depth || trail.len() < depth {
+            return;
+        }
+        above = depth;
+        let state = last_state(automaton, &trail[..depth]);
+        let Some(wanted) = automaton.wanted(state) else {
+            return;
+        };
+        pairs.pass(depth, &wanted);
+    }
+}
+
 /// Moves a stream to the next pair whose key is accepted.
 fn next_accepted<'a, T: Automaton, A: Allocator>(
     automaton: &T,
@@ -112,8 +134,10 @@ fn next_accepted<'a, T: Automaton, A: Allocator>(
     state: &mut T::State,
 ) -> Result<bool, AllocError> {
     loop {
+        pass_unwanted(automaton, pairs, trail.as_slice());
         match pairs.advance_node()? {
             Reached::End => return Ok(false),
+            Reached::Branch => {}
             Reached::Bytes(kept) => match read(automaton, pairs.key(), kept, trail) {
                 Verdict::Alive(_after) => {}
                 Verdict::Dead(depth) => pairs.skip(depth),

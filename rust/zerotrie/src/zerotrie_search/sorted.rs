@@ -5,17 +5,24 @@ use crate::rstd::prelude::*;
 
 mod back;
 mod edges;
+mod fork;
 mod iterator;
 mod path;
+mod search;
+mod seek;
+mod walk;
 
 pub(in crate::zerotrie_search) use back::last_between;
+use fork::Fork;
 pub use iterator::ZeroTrieSortedIterator;
-use path::{follow, move_on};
+pub use search::ZeroTrieSortedSearch;
+use seek::seek_of;
 use crate::rstd::alloc::{AllocError, Allocator, Global};
 use crate::rstd::cmp::Ordering;
 use crate::rstd::ops::Bound;
+use walk::{go_past_of, next_pair_of};
 use crate::zerotrie_core::{
-    CursorPlace, TrieKind, ZeroTrieBuilderOptions, ZeroTrieWithOptions, by_kind, is_well_formed,
+    TrieKind, ZeroTrieBuilderOptions, ZeroTrieWithOptions, by_kind, is_well_formed,
 };
 
 /// Lists the pairs of a trie of any kind in the order of bytes, each key borrowed from one buffer.
@@ -37,19 +44,18 @@ use crate::zerotrie_core::{
 /// ```
 ///
 /// The order is that of the bytes of the stored keys, in every kind. So in a kind that ignores case
-/// upper case comes before lower case. It allocates for the longest key alone: the key, and the
-/// place before each of its bytes. At each byte it compares the edges that are there. Of any n bytes
-/// it lists at most n pairs.
+/// upper case comes before lower case. It allocates for the longest key alone: the key, and the open
+/// branches on the way to it. Each has the set of its edges that are left, so that no edge is read
+/// twice. Of any n bytes it lists at most n pairs.
 pub struct ZeroTrieSorted<'a, 'p, A: Allocator = Global> {
     options: ZeroTrieBuilderOptions,
     bytes: &'a [u8],
     to: Bound<&'p [u8]>,
     key: Vec<u8, A>,
-    places: Vec<CursorPlace, A>,
-    here: CursorPlace,
-    next: Option<usize>,
+    rest: &'a [u8],
+    forks: Vec<Fork<'a>, A>,
     value: usize,
-    // Malformed targets may overlap, so that a path leads to more pairs than there are bytes.
+    // Malformed targets may overlap, so that edges lead to more pairs than there are bytes.
     most: usize,
     ended: bool,
 }
@@ -69,54 +75,27 @@ fn is_valid(kind: TrieKind, bytes: &[u8]) -> bool {
 }
 
 /// Moves to the next pair within an upper bound, and returns whether there is one.
-fn next_within<A: Allocator>(
+fn next_within<'a, A: Allocator>(
     options: ZeroTrieBuilderOptions,
-    bytes: &[u8],
     to: Bound<&[u8]>,
+    rest: &mut &'a [u8],
     key: &mut Vec<u8, A>,
-    places: &mut Vec<CursorPlace, A>,
-    here: &mut CursorPlace,
-    next: Option<usize>,
+    forks: &mut Vec<Fork<'a>, A>,
     value: &mut usize,
 ) -> Result<bool, AllocError> {
-    let Some(found) = move_on(options, bytes, key, places, here, next)? else {
+    let Some(found) = next_pair_of(options, rest, key, forks)? else {
         return Ok(false);
     };
-    if is_up_to(to, key.as_slice()) {
-        *value = found;
-        return Ok(true);
-    }
-    Ok(false)
+    *value = found;
+    let within = is_up_to(to, key.as_slice());
+    Ok(within)
 }
 
-/// Returns the least edge that comes after a value.
-fn edges_from(next: Option<usize>) -> usize {
-    match next {
-        None => 0,
-        Some(byte) => byte,
-    }
-}
-
-/// Goes down along the key of a lower bound as far as the trie has it. Returns the least edge that
-/// may come next, or `None` if the value there may.
-fn seek<A: Allocator>(
-    options: ZeroTrieBuilderOptions,
-    bytes: &[u8],
-    from: Bound<&[u8]>,
-    key: &mut Vec<u8, A>,
-    places: &mut Vec<CursorPlace, A>,
-    here: &mut CursorPlace,
-) -> Result<Option<usize>, AllocError> {
-    match from {
-        Bound::Unbounded => Ok(None),
-        Bound::Included(bound) => {
-            let next = follow(options, bytes, bound, key, places, here)?;
-            Ok(next)
-        }
-        Bound::Excluded(bound) => {
-            let next = follow(options, bytes, bound, key, places, here)?;
-            Ok(Some(edges_from(next)))
-        }
+/// Returns where a listing begins, and how many pairs it may list.
+fn start_at<'a>(found: Option<&'a [u8]>, bytes: &'a [u8]) -> (&'a [u8], usize) {
+    match found {
+        Some(rest) => (rest, bytes.len()),
+        None => (bytes, 0),
     }
 }
 
@@ -140,19 +119,18 @@ impl<'a, 'p, A: Allocator + Copy> ZeroTrieSorted<'a, 'p, A> {
         to: Bound<&'p [u8]>,
     ) -> Result<Self, AllocError> {
         let mut key = Vec::new(alloc);
-        let mut places = Vec::new(alloc);
-        let mut here = CursorPlace::new(bytes);
-        let next = seek(options, bytes, from, &mut key, &mut places, &mut here)?;
+        let mut forks = Vec::new(alloc);
+        let found = seek_of(options, bytes, from, &mut key, &mut forks)?;
+        let (rest, most) = start_at(found, bytes);
         Ok(ZeroTrieSorted {
             options,
             bytes,
             to,
             key,
-            places,
-            here,
-            next,
+            rest,
+            forks,
             value: 0,
-            most: bytes.len(),
+            most,
             ended: false,
         })
     }
@@ -170,22 +148,63 @@ impl<'a, 'p, A: Allocator> ZeroTrieSorted<'a, 'p, A> {
         }
         match next_within(
             self.options,
-            self.bytes,
             self.to,
+            &mut self.rest,
             &mut self.key,
-            &mut self.places,
-            &mut self.here,
-            self.next,
+            &mut self.forks,
             &mut self.value,
         ) {
             Ok(true) => {
-                self.next = Some(0);
                 self.most -= 1;
                 Ok(true)
             }
             Ok(false) => {
                 self.ended = true;
                 Ok(false)
+            }
+            Err(error) => {
+                self.ended = true;
+                Err(error)
+            }
+        }
+    }
+
+    /// Leaves out the pairs still to come whose keys begin with the first `depth` bytes of the current
+    /// key. They are the next ones.
+    ///
+    /// ```
+    /// # use zerotrie::{rstd::examples::*, zerotrie_search::*, zerotrie_base::*, zerotrie_core::*, zerotrie_any::*, zerotrie_ascii::*, zerotrie_hashed::*};
+    /// use zerotrie::rstd::ops::Bound;
+    ///
+    /// // the keys "ab", "ac" and "b" with values 1, 2 and 3
+    /// let bytes = b"\xC2ab\x06\xC2bc\x01\x81\x82\x83";
+    /// let all = Bound::Unbounded;
+    /// let mut sorted = ZeroTrieSorted::new::<Simple>(Global, bytes, all, all)?;
+    /// assert!(sorted.advance()?);
+    /// assert_eq!(sorted.key(), b"ab".as_slice());
+    /// sorted.skip(1)?;
+    /// assert!(sorted.advance()?);
+    /// assert_eq!((sorted.key(), sorted.value()), (b"b".as_slice(), 3));
+    /// # Ok::<(), Fail>(())
+    /// ```
+    ///
+    /// It reads none of them. Until the next call of `advance`, the key is not one of the trie. An
+    /// error means that an allocation failed, and ends the listing.
+    pub fn skip(&mut self, depth: usize) -> Result<(), AllocError> {
+        if self.most == 0 || self.ended {
+            return Ok(());
+        }
+        match go_past_of(
+            self.options,
+            depth,
+            &mut self.rest,
+            &mut self.key,
+            &mut self.forks,
+        ) {
+            Ok(true) => Ok(()),
+            Ok(false) => {
+                self.most = 0;
+                Ok(())
             }
             Err(error) => {
                 self.ended = true;

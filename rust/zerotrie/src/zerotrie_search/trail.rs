@@ -15,7 +15,8 @@ pub(in crate::zerotrie_search) enum Verdict<S> {
 }
 
 /// Returns the state after all bytes of a trail.
-fn last_state<T: Automaton>(automaton: &T, trail: &[(u8, T::State)]) -> T::State {
+#[inline]
+pub(in crate::zerotrie_search) fn last_state<T: Automaton>(automaton: &T, trail: &[(u8, T::State)]) -> T::State {
     match trail.split_last() {
         None => automaton.start(),
         Some((last, _front)) => last.1,

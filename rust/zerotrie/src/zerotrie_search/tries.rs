@@ -5,7 +5,7 @@ use crate::rstd::prelude::*;
 use crate::zerotrie_search::automaton::Automaton;
 use crate::zerotrie_search::range::KeyRange;
 use crate::zerotrie_search::search::ZeroTrieSearch;
-use crate::zerotrie_search::sorted::{ZeroTrieSorted, ZeroTrieSortedIterator, last_between};
+use crate::zerotrie_search::sorted::{ZeroTrieSorted, ZeroTrieSortedIterator, ZeroTrieSortedSearch, last_between};
 use crate::rstd::alloc::{AllocError, Global};
 use crate::rstd::ops::Bound;
 use crate::zerotrie_core::{Trie, TrieKind, ZeroTrieBuilderOptions, ZeroTrieStream, by_kind};
@@ -92,7 +92,8 @@ pub trait Search: Trie {
         Ok(ZeroTrieSearch::new(alloc, pairs, automaton))
     }
 
-    /// Lists the pairs whose keys are between two bounds, in the order of bytes.
+    /// Lists the pairs whose keys are between two bounds, by the order of bytes, in the order of
+    /// `stream`.
     ///
     /// ```
     /// # use zerotrie::{rstd::examples::*, zerotrie_search::*, zerotrie_base::*, zerotrie_core::*, zerotrie_any::*, zerotrie_ascii::*, zerotrie_hashed::*};
@@ -100,15 +101,16 @@ pub trait Search: Trie {
     ///
     /// let words = [("trial", 1), ("trie", 2), ("trio", 3)];
     /// let trie = ZeroTrieSimpleAscii::try_from_iter(Global, words)?;
-    /// let mut range = trie.range(Global, Bound::Excluded(b"trial"), Bound::Included(b"trie"));
+    /// let (from, to) = (Bound::Excluded(b"trial".as_slice()), Bound::Included(b"trie".as_slice()));
+    /// let mut range = trie.search_range(Global, from, to);
     /// assert!(range.advance()?);
     /// assert_eq!(range.value(), 2);
     /// assert!(!range.advance()?);
     /// # Ok::<(), Fail>(())
     /// ```
     ///
-    /// They come in the order of `stream`, which is the order of bytes in a `ZeroTrieSimpleAscii`.
-    fn range<'p>(
+    /// `stream_sorted` lists the same pairs in the order of bytes in every kind.
+    fn search_range<'p>(
         &self,
         alloc: Global,
         from: Bound<&'p [u8]>,
@@ -143,6 +145,39 @@ pub trait Search: Trie {
         let (options, bytes) = (options_of(self.trie_kind()), self.as_bytes());
         let sorted = ZeroTrieSorted::with_options(alloc, options, bytes, from, to)?;
         Ok(sorted)
+    }
+
+    /// Lists the pairs whose keys are between two bounds and that an automaton accepts, in ascending
+    /// order of bytes, in every kind.
+    ///
+    /// ```
+    /// # use zerotrie::{rstd::examples::*, zerotrie_search::*, zerotrie_base::*, zerotrie_core::*, zerotrie_any::*, zerotrie_ascii::*, zerotrie_hashed::*};
+    /// use zerotrie::rstd::ops::Bound;
+    ///
+    /// let words = [("trial", 1), ("trie", 2), ("trio", 3), ("true", 4)];
+    /// let trie = ZeroTriePerfectHash::try_from_iter(Global, words)?;
+    /// let from = Bound::Excluded(b"trial".as_slice());
+    /// let with_i = Subsequence(b"i");
+    /// let mut search = trie.search_sorted(Global, from, Bound::Unbounded, with_i)?;
+    /// assert!(search.advance()?);
+    /// assert_eq!((search.key(), search.value()), (b"trie".as_slice(), 2));
+    /// assert!(search.advance()?);
+    /// assert_eq!((search.key(), search.value()), (b"trio".as_slice(), 3));
+    /// assert!(!search.advance()?);
+    /// # Ok::<(), Fail>(())
+    /// ```
+    ///
+    /// It reads no node of keys that begin as no accepted key does. An error means that an allocation
+    /// failed.
+    fn search_sorted<'p, T: Automaton>(
+        &self,
+        alloc: Global,
+        from: Bound<&[u8]>,
+        to: Bound<&'p [u8]>,
+        automaton: T,
+    ) -> Result<ZeroTrieSortedSearch<'_, 'p, T>, AllocError> {
+        let pairs = self.stream_sorted(alloc, from, to)?;
+        Ok(ZeroTrieSortedSearch::new(alloc, pairs, automaton))
     }
 
     /// Returns an iterator over the pairs whose keys are between two bounds, in ascending order of
@@ -187,8 +222,8 @@ pub trait Search: Trie {
     /// # Ok::<(), Fail>(())
     /// ```
     ///
-    /// It compares the edges at one place for each byte that it goes back or down. On malformed bytes
-    /// the result is unspecified. An error means that an allocation failed.
+    /// It reads the edges of each branch that it passes. On malformed bytes the result is unspecified.
+    /// An error means that an allocation failed.
     fn first_from(&self, alloc: Global, key: &[u8]) -> Result<Option<(Vec<u8>, usize)>, AllocError> {
         let sorted = self.stream_sorted(alloc, Bound::Included(key), Bound::Unbounded)?;
         let first = sorted.first()?;

@@ -13,6 +13,14 @@ pub fn rows_are_of_maps() {}
 /// list, each with what each list has for it.
 pub fn rows_of_all_are_of_maps() {}
 
+/// What is selected of the rows of any number of ascending lists ascends, and has for each key what
+/// is selected of the values of the lists.
+pub fn selections_are_of_maps() {}
+
+/// A row of a merge of any number of ascending lists is an error exactly if the values that the
+/// lists have for its key are one.
+pub fn row_errors_are_of_keys() {}
+
 /// A union, an intersection or a difference of two ascending lists ascends, and has for each key
 /// what is chosen of the values of the lists.
 pub fn combined_are_maps() {}

@@ -3,6 +3,7 @@
 
 use crate::rstd::prelude::*;
 use crate::zerotrie_sets::input::Input;
+use crate::zerotrie_sets::selection::{Rule, RuleError, Selection};
 use crate::rstd::alloc::{AllocError, Allocator, Global};
 use crate::rstd::cmp::Ordering;
 use crate::zerotrie_core::PairStream;
@@ -87,6 +88,52 @@ impl<S: PairStream, A: Allocator> MergeAll<S, A> {
     pub fn last(&self) -> Option<usize> {
         last_listed(&self.inputs)
     }
+
+    /// Returns the value that a selection has for the current key, which is what the rule makes of
+    /// the values of the streams that have the key, or `None` if the selection does not take it.
+    ///
+    /// ```
+    /// # use zerotrie::{rstd::examples::*, zerotrie_sets::*, zerotrie_base::*, zerotrie_core::*, zerotrie_search::*};
+    /// let mut streams = Vec::new(Global);
+    /// streams.push(SortedSlice::new(&[(b"a", 1), (b"c", 2)]).ok_or("not sorted")?)?;
+    /// streams.push(SortedSlice::new(&[(b"a", 3), (b"b", 4)]).ok_or("not sorted")?)?;
+    /// let mut rows = MergeAll::new(Global, streams)?;
+    /// assert!(rows.advance()?);
+    /// assert_eq!(rows.selected(Selection::Union, Rule::Sum)?, Some(4));
+    /// assert_eq!(rows.selected(Selection::Difference, Rule::Sum)?, None);
+    /// let several = rows.selected(Selection::Union, Rule::Refuse);
+    /// assert!(matches!(several, Err(RuleError::SeveralValues)));
+    /// # Ok::<(), Fail>(())
+    /// ```
+    pub fn selected(&self, selection: Selection, rule: Rule) -> Result<Option<usize>, RuleError> {
+        let first = self.value(0).is_some();
+        if selection.takes(first, count_listed(&self.inputs), self.inputs.len()) {
+            one_listed(&self.inputs, rule)
+        } else {
+            Ok(None)
+        }
+    }
+}
+
+/// Returns how many values were listed.
+fn count_listed<S: PairStream>(inputs: &[Input<S>]) -> usize {
+    let mut count = 0;
+    for input in inputs {
+        count += usize::from(input.listed().is_some());
+    }
+    count
+}
+
+/// Returns what a rule makes of the values that were listed.
+fn one_listed<S: PairStream>(inputs: &[Input<S>], rule: Rule) -> Result<Option<usize>, RuleError> {
+    let mut one = None;
+    for input in inputs {
+        match rule.one_more(one, input.listed()) {
+            Ok(more) => one = more,
+            Err(error) => return Err(error),
+        }
+    }
+    Ok(one)
 }
 
 /// Returns the first value that was listed.

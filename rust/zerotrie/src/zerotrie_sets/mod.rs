@@ -12,6 +12,7 @@ mod input;
 pub mod laws;
 mod merge;
 mod merge_all;
+mod selection;
 mod slice;
 mod sorted;
 
@@ -19,6 +20,7 @@ pub use combined::{Combined, Keep, Operation};
 pub use diff::{Change, Diff};
 pub use merge::Merge;
 pub use merge_all::MergeAll;
+pub use selection::{Rule, RuleError, Selection};
 pub use slice::SortedSlice;
 pub use sorted::SortedTrie;
 pub use crate::zerotrie_core::PairStream;

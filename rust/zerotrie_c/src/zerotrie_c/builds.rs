@@ -44,7 +44,7 @@ pub fn hand_out(bytes: &[u8], out: &mut [u8], len: &mut usize) -> u32 {
 }
 
 /// Returns the bytes of the trie of items whose keys ascend.
-fn bytes_of_sorted(
+pub fn bytes_of_sorted(
     alloc: Global,
     kind: TrieKind,
     items: &[(&[u8], usize)],

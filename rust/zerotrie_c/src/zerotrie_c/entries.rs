@@ -17,7 +17,7 @@ pub struct Texts<'a> {
 
 /// Returns bytes as a string.
 fn text_of(bytes: &[u8]) -> Result<&str, ZeroTrieBuildError> {
-    match str::from_utf8(bytes) {
+    match crate::rstd::str::from_utf8(bytes) {
         Ok(text) => Ok(text),
         Err(_) => Err(ZeroTrieBuildError::NonAsciiError),
     }

@@ -16,6 +16,18 @@ fn open_tagged(file: &[u8], kind: &mut u32, at: &mut usize, trie_len: &mut usize
     status
 }
 
+/// Returns the status of an error of a file that begins as a sealed one.
+fn seal_status_of(error: SealError) -> u32 {
+    match error {
+        SealError::UnknownVersion(_) => UNKNOWN_VERSION,
+        SealError::NoMagic => DAMAGED,
+        SealError::UnknownKind(_) => DAMAGED,
+        SealError::CutShort => DAMAGED,
+        SealError::TooLong => DAMAGED,
+        SealError::Checksum => DAMAGED,
+    }
+}
+
 /// Finds the trie in a file that begins as a sealed one.
 fn open_sealed(file: &[u8], kind: &mut u32, at: &mut usize, trie_len: &mut usize) -> u32 {
     match open(file) {
@@ -25,8 +37,7 @@ fn open_sealed(file: &[u8], kind: &mut u32, at: &mut usize, trie_len: &mut usize
             *trie_len = sealed.trie.len();
             DONE
         }
-        Err(SealError::UnknownVersion(_)) => UNKNOWN_VERSION,
-        Err(_) => DAMAGED,
+        Err(error) => seal_status_of(error),
     }
 }
 

@@ -3,27 +3,42 @@
 
 use crate::rstd::prelude::*;
 use crate::zerotrie_c::numbers::{BUFFER_TOO_SMALL, DONE, OUT_OF_MEMORY, UNKNOWN_KIND, trie_of};
-use crate::rstd::alloc::Global;
+use crate::rstd::alloc::{AllocError, Global};
 use crate::zerotrie_core::{ListError, Trie, ZeroTrieStream};
 
 /// Keys one after another, where each ends, and their values.
-struct Flat {
-    keys: Vec<u8>,
-    ends: Vec<usize>,
-    values: Vec<usize>,
+pub struct Flat {
+    pub keys: Vec<u8>,
+    pub ends: Vec<usize>,
+    pub values: Vec<usize>,
+}
+
+impl Flat {
+    /// Returns no keys.
+    pub fn new(alloc: Global) -> Self {
+        Flat {
+            keys: Vec::new(alloc),
+            ends: Vec::new(alloc),
+            values: Vec::new(alloc),
+        }
+    }
+
+    /// Adds a key and its value.
+    pub fn push(&mut self, key: &[u8], value: usize) -> Result<(), AllocError> {
+        self.keys.extend_from_slice(key)?;
+        self.ends.push(self.keys.len())?;
+        self.values.push(value)?;
+        Ok(())
+    }
 }
 
 /// Returns the pairs of a stream.
 fn flat_of(alloc: Global, mut pairs: ZeroTrieStream<'_>) -> Result<Flat, ListError> {
-    let mut keys = Vec::new(alloc);
-    let mut ends = Vec::new(alloc);
-    let mut values = Vec::new(alloc);
+    let mut listed = Flat::new(alloc);
     while pairs.advance()? {
-        keys.extend_from_slice(pairs.key())?;
-        ends.push(keys.len())?;
-        values.push(pairs.value())?;
+        listed.push(pairs.key(), pairs.value())?;
     }
-    Ok(Flat { keys, ends, values })
+    Ok(listed)
 }
 
 /// Copies numbers to the beginning of the room, if there is enough.

@@ -25,6 +25,7 @@ pub mod numbers;
 pub mod parts;
 pub mod refusals;
 pub mod searches;
+pub mod sets;
 pub mod sorted;
 pub mod tags;
 pub mod version;

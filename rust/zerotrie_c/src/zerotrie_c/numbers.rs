@@ -23,6 +23,9 @@ pub fn is_kind(kind: u32) -> bool {
 /// The call succeeded.
 pub const DONE: u32 = 0;
 
+/// A key comes twice, or more than one trie has it.
+pub const DUPLICATE_KEY: u32 = 6;
+
 /// The room is too small; its needed length is set.
 pub const BUFFER_TOO_SMALL: u32 = 8;
 
@@ -65,6 +68,15 @@ pub const SEARCH_TOO_LONG: u32 = 22;
 /// Too many keys of an index share a bucket.
 pub const CROWDED: u32 = 23;
 
+/// No selection, or no rule, has this number.
+pub const UNKNOWN_SELECTION: u32 = 24;
+
+/// The sum of the values of a key is 2^64 or more.
+pub const SUM_TOO_LARGE: u32 = 25;
+
+/// The bytes of a trie are not valid.
+pub const MALFORMED_TRIE: u32 = 26;
+
 /// Returns the status of a build error.
 pub fn status_of(error: ZeroTrieBuildError) -> u32 {
     match error {
@@ -73,7 +85,7 @@ pub fn status_of(error: ZeroTrieBuildError) -> u32 {
         ZeroTrieBuildError::CouldNotSolvePerfectHash => 3,
         ZeroTrieBuildError::MixedCase => 4,
         ZeroTrieBuildError::IllegalDelimiter => 5,
-        ZeroTrieBuildError::DuplicateKey => 6,
+        ZeroTrieBuildError::DuplicateKey => DUPLICATE_KEY,
         ZeroTrieBuildError::Unsorted => 7,
         ZeroTrieBuildError::BufferTooSmall => BUFFER_TOO_SMALL,
         ZeroTrieBuildError::BufferTooLarge(_) => 9,

@@ -3,15 +3,15 @@
 
 use crate::rstd::prelude::*;
 use crate::zerotrie_c::numbers::{
-    MALFORMED_SEARCH, OUT_OF_MEMORY, SEARCH_TOO_LONG, UNKNOWN_KIND, UNKNOWN_SEARCH, trie_of,
+    DONE, MALFORMED_SEARCH, OUT_OF_MEMORY, SEARCH_TOO_LONG, UNKNOWN_KIND, UNKNOWN_SEARCH, trie_of,
 };
 use crate::zerotrie_c::parts::{left_of, write_some};
 use crate::rstd::alloc::Global;
 use crate::rstd::ops::Bound;
 use crate::zerotrie_core::ZeroTrieStream;
 use crate::zerotrie_search::{
-    Automaton, BeginsWith, Glob, GlobError, KeyRange, Levenshtein, LevenshteinChars, Subsequence,
-    ZeroTrieSearch,
+    AnyAutomaton, Automaton, BeginsWith, KeyRange, SearchBy, WordError, ZeroTrieSearch,
+    by_automaton,
 };
 
 /// What is searched, with C's layout. `by` is the number of how keys are found, and the bounds are
@@ -28,16 +28,6 @@ pub struct Search<'q> {
     pub beginnings: bool,
 }
 
-/// The automaton of a search.
-#[derive(Clone, Copy)]
-pub enum Sought<'q> {
-    Range(KeyRange<'q>),
-    Pattern(Glob<'q>),
-    Within(Subsequence<'q>),
-    Near(Levenshtein),
-    NearText(LevenshteinChars),
-}
-
 /// Returns the bound with this number at a key, or `None` if no bound has it.
 pub fn bound_with(number: u32, key: &[u8]) -> Option<Bound<&[u8]>> {
     match number {
@@ -48,43 +38,38 @@ pub fn bound_with(number: u32, key: &[u8]) -> Option<Bound<&[u8]>> {
     }
 }
 
+/// Returns the automaton of a word, or the status of what is wrong with the word.
+fn word_of(by: SearchBy, word: &[u8]) -> Result<AnyAutomaton<'_>, u32> {
+    match AnyAutomaton::new(by, word) {
+        Ok(any) => Ok(any),
+        Err(WordError::Malformed) => Err(MALFORMED_SEARCH),
+        Err(WordError::TooLong) => Err(SEARCH_TOO_LONG),
+    }
+}
+
 /// Returns the automaton of a search, or the status of its fault.
-fn sought_of<'q>(search: &Search<'q>) -> Result<Sought<'q>, u32> {
+fn sought_of<'q>(search: &Search<'q>) -> Result<AnyAutomaton<'q>, u32> {
     match search.by {
         0 => {
             let from = bound_with(search.from_bound, search.text.get()).ok_or(UNKNOWN_SEARCH)?;
             let to = bound_with(search.to_bound, search.to.get()).ok_or(UNKNOWN_SEARCH)?;
-            Ok(Sought::Range(KeyRange { from, to }))
+            Ok(AnyAutomaton::Range(KeyRange { from, to }))
         }
-        1 => match Glob::new(search.text.get()) {
-            Ok(glob) => Ok(Sought::Pattern(glob)),
-            Err(GlobError::Malformed) => Err(MALFORMED_SEARCH),
-            Err(GlobError::TooLong) => Err(SEARCH_TOO_LONG),
-        },
-        2 => Ok(Sought::Within(Subsequence(search.text.get()))),
-        3 => {
-            let near = near(search.text.get(), search.edits).ok_or(SEARCH_TOO_LONG)?;
-            Ok(Sought::Near(near))
-        }
-        4 => {
-            let Ok(word) = crate::rstd::str::from_utf8(search.text.get()) else {
-                return Err(MALFORMED_SEARCH);
-            };
-            let near = near_text(word, search.edits).ok_or(SEARCH_TOO_LONG)?;
-            Ok(Sought::NearText(near))
-        }
+        1 => word_of(SearchBy::Glob, search.text.get()),
+        2 => word_of(SearchBy::Subsequence, search.text.get()),
+        3 => word_of(SearchBy::Fuzzy(search.edits), search.text.get()),
+        4 => word_of(SearchBy::FuzzyChars(search.edits), search.text.get()),
         _ => Err(UNKNOWN_SEARCH),
     }
 }
 
-/// Returns the automaton of the keys that few edits of bytes make of a word.
-fn near(word: &[u8], edits: u32) -> Option<Levenshtein> {
-    Levenshtein::new(word, u8::try_from(edits).ok()?)
-}
-
-/// Returns the automaton of the keys that few edits of characters make of a word.
-fn near_text(word: &str, edits: u32) -> Option<LevenshteinChars> {
-    LevenshteinChars::new(word, u8::try_from(edits).ok()?)
+/// Returns the status of a search without a trie: `DONE` if it has a meaning, and else its fault,
+/// which is what `zerotrie_search_some` returns for it.
+pub fn zerotrie_search_check(search: &Search<'_>) -> u32 {
+    match sought_of(search) {
+        Ok(_) => DONE,
+        Err(status) => status,
+    }
 }
 
 /// Writes the next pairs of a stream whose keys an automaton accepts, or begin with such a key.
@@ -112,7 +97,7 @@ fn write_accepted<T: Automaton>(
 fn write_sought(
     alloc: Global,
     pairs: ZeroTrieStream<'_>,
-    sought: Sought<'_>,
+    sought: AnyAutomaton<'_>,
     beginnings: bool,
     keys: &mut [u8],
     ends: &mut [usize],
@@ -120,33 +105,9 @@ fn write_sought(
     count: &mut usize,
     next_len: &mut usize,
 ) -> u32 {
-    match sought {
-        Sought::Range(range) => {
-            write_accepted(
-                alloc, pairs, range, beginnings, keys, ends, values, count, next_len,
-            )
-        }
-        Sought::Pattern(glob) => {
-            write_accepted(
-                alloc, pairs, glob, beginnings, keys, ends, values, count, next_len,
-            )
-        }
-        Sought::Within(bytes) => {
-            write_accepted(
-                alloc, pairs, bytes, beginnings, keys, ends, values, count, next_len,
-            )
-        }
-        Sought::Near(near) => {
-            write_accepted(
-                alloc, pairs, near, beginnings, keys, ends, values, count, next_len,
-            )
-        }
-        Sought::NearText(near) => {
-            write_accepted(
-                alloc, pairs, near, beginnings, keys, ends, values, count, next_len,
-            )
-        }
-    }
+    by_automaton!(sought, automaton => write_accepted(
+        alloc, pairs, automaton, beginnings, keys, ends, values, count, next_len,
+    ))
 }
 
 /// Like `zerotrie_list_some`, of those pairs whose keys a search finds: a range, a pattern, bytes in
@@ -198,6 +159,14 @@ pub fn zerotrie_search_some(
 #[allow(unsafe_code)]
 mod exports {
     use super::*;
+
+    #[unsafe(no_mangle)]
+    unsafe extern "C" fn zerotrie_search_check(search: *const Search<'_>) -> u32 {
+        // SAFETY: a caller keeps to what zerotrie.h says.
+        unsafe {
+            super::zerotrie_search_check(&*search)
+        }
+    }
 
     #[unsafe(no_mangle)]
     unsafe extern "C" fn zerotrie_search_some(

@@ -17,7 +17,7 @@ fn members_of(
 ) -> Result<Option<Map<String, Value>>, AllocError> {
     let mut members = Map::new(alloc);
     for (key, value) in entries {
-        let Ok(text) = str::from_utf8(key.as_slice()) else {
+        let Ok(text) = crate::rstd::str::from_utf8(key.as_slice()) else {
             return Ok(None);
         };
         crate::rstd::serde_json::put(&mut members, alloc, text, Value::from(*value))?;

@@ -5,51 +5,6 @@ use crate::rstd::prelude::*;
 use crate::zerotrie_core::laws::steps_answer_stored_bytes;
 use crate::zerotrie_core::{CursorPlace, ZeroTrieBuilderOptions, ZeroTrieWithOptions, by_kind};
 
-/// Returns the lesser of two edges, of those that are at least `from`.
-fn lesser(
-    from: usize,
-    found: Option<(u8, CursorPlace)>,
-    byte: u8,
-    after: CursorPlace,
-) -> Option<(u8, CursorPlace)> {
-    if (byte as usize) < from {
-        return found;
-    }
-    match found {
-        Some((least, _after)) if least <= byte => found,
-        _ => Some((byte, after)),
-    }
-}
-
-/// Returns the least edge that is at least `from`, and the place after it.
-fn least_from<K: ZeroTrieWithOptions>(
-    bytes: &[u8],
-    place: CursorPlace,
-    from: usize,
-) -> Option<(u8, CursorPlace)> {
-    let mut first = place;
-    let edge = first.probe::<K>(bytes, 0)?;
-    let mut found = lesser(from, None, edge.byte, first);
-    for index in 1..edge.total_siblings as usize {
-        let mut after = place;
-        let Some(edge) = after.probe::<K>(bytes, index) else {
-            return found;
-        };
-        found = lesser(from, found, edge.byte, after);
-    }
-    found
-}
-
-/// Calls `least_from` for the kind that the options name.
-pub(in crate::zerotrie_search) fn edge_from(
-    options: ZeroTrieBuilderOptions,
-    bytes: &[u8],
-    place: CursorPlace,
-    from: usize,
-) -> Option<(u8, CursorPlace)> {
-    by_kind!(options.kind(), least_from::<_>(bytes, place, from))
-}
-
 /// Returns whether an edge is below a limit, if there is one.
 fn is_under(limit: Option<usize>, byte: u8) -> bool {
     match limit {

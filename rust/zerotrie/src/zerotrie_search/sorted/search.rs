@@ -1,0 +1,127 @@
+// Made from crates/zerotrie_search/src/sorted/search.rt by rust/make: edit that.
+//! The pairs of a sorted listing whose keys an automaton accepts.
+
+use crate::rstd::prelude::*;
+use crate::zerotrie_search::automaton::Automaton;
+use crate::zerotrie_search::sorted::ZeroTrieSorted;
+use crate::zerotrie_search::trail::{Verdict, read};
+use crate::rstd::alloc::{AllocError, Allocator, Global};
+
+/// Lists the pairs of a sorted listing whose keys an automaton accepts, in the order of bytes, each key
+/// borrowed from one buffer.
+///
+/// ```
+/// # use zerotrie::{rstd::examples::*, zerotrie_search::*, zerotrie_base::*, zerotrie_core::*, zerotrie_any::*, zerotrie_ascii::*, zerotrie_hashed::*};
+/// use zerotrie::rstd::ops::Bound;
+///
+/// // the keys "ab", "ac" and "b" with values 1, 2 and 3
+/// let bytes = b"\xC2ab\x06\xC2bc\x01\x81\x82\x83";
+/// let (from, to) = (Bound::Unbounded, Bound::Excluded(b"b".as_slice()));
+/// let sorted = ZeroTrieSorted::new::<Simple>(Global, bytes, from, to)?;
+/// let near = Levenshtein::new(b"c", 1).ok_or("a long word")?;
+/// let mut search = ZeroTrieSortedSearch::new(Global, sorted, near);
+/// assert!(search.advance()?);
+/// assert_eq!((search.key(), search.value()), (b"ac".as_slice(), 2));
+/// assert_eq!(search.automaton().distance(search.state()), Some(1));
+/// assert!(!search.advance()?);
+/// # Ok::<(), Fail>(())
+/// ```
+///
+/// Once no accepted key begins with the bytes so far, it skips the pairs that begin with them and reads
+/// no node of them. It allocates for the longest key alone: the listing, and one state a byte, which
+/// keys that begin alike share.
+pub struct ZeroTrieSortedSearch<'a, 'p, T: Automaton, A: Allocator = Global> {
+    pairs: ZeroTrieSorted<'a, 'p, A>,
+    automaton: T,
+    trail: Vec<(u8, T::State), A>,
+    state: T::State,
+}
+
+impl<'a, 'p, T: Automaton, A: Allocator> ZeroTrieSortedSearch<'a, 'p, T, A> {
+    /// Moves to the next pair whose key is accepted, and returns whether there is one. An error
+    /// ends the search.
+    ///
+    /// The only error is a failed allocation for a longer key. On malformed bytes the result is
+    /// unspecified; it never panics or reads outside them, and lists at most as many pairs as bytes.
+    pub fn advance(&mut self) -> Result<bool, AllocError> {
+        next_accepted(
+            &self.automaton,
+            &mut self.pairs,
+            &mut self.trail,
+            &mut self.state,
+        )
+    }
+
+    /// Returns the key of the current pair, the one that the last call of `advance` moved to.
+    /// Before the first call and after the end, it is not a key of the trie.
+    #[inline]
+    pub fn key(&self) -> &[u8] {
+        self.pairs.key()
+    }
+
+    /// Returns the value of the current pair.
+    #[inline]
+    pub fn value(&self) -> usize {
+        self.pairs.value()
+    }
+
+    /// Returns the automaton.
+    #[inline]
+    pub fn automaton(&self) -> &T {
+        &self.automaton
+    }
+
+    /// Returns the state of the automaton after the key of the current pair.
+    #[inline]
+    pub fn state(&self) -> T::State {
+        self.state
+    }
+}
+
+impl<'a, 'p, T: Automaton, A: Allocator + Copy> ZeroTrieSortedSearch<'a, 'p, T, A> {
+    /// Lists the pairs of a sorted listing whose keys are accepted. It does not allocate before the
+    /// first call of `advance`.
+    pub fn new(alloc: A, pairs: ZeroTrieSorted<'a, 'p, A>, automaton: T) -> Self {
+        let state = automaton.start();
+        ZeroTrieSortedSearch {
+            pairs,
+            automaton,
+            trail: Vec::new(alloc),
+            state,
+        }
+    }
+}
+
+/// Returns how many bytes of a trail a key begins with.
+fn shared<S: Copy>(trail: &[(u8, S)], key: &[u8]) -> usize {
+    let mut count = 0;
+    while count < trail.len() && count < key.len() && trail[count].0 == key[count] {
+        count += 1;
+    }
+    count
+}
+
+/// Moves a sorted listing to the next pair whose key is accepted.
+fn next_accepted<'a, 'p, T: Automaton, A: Allocator>(
+    automaton: &T,
+    pairs: &mut ZeroTrieSorted<'a, 'p, A>,
+    trail: &mut Vec<(u8, T::State), A>,
+    state: &mut T::State,
+) -> Result<bool, AllocError> {
+    loop {
+        if !pairs.advance()? {
+            return Ok(false);
+        }
+        let key = pairs.key();
+        let kept = shared(trail.as_slice(), key);
+        match read(automaton, key, kept, trail) {
+            Verdict::Dead(depth) => pairs.skip(depth)?,
+            Verdict::Alive(after) => {
+                if automaton.is_match(after) {
+                    *state = after;
+                    return Ok(true);
+                }
+            }
+        }
+    }
+}
