@@ -4,9 +4,9 @@
 A block of README.md or docs/CALLING.md that is marked ```text and begins with `// FILE` must be in that file. So must each clause of
 a block that begins with `fn`, which is shortened as docs/CALLING.md says: `kind` is the kind of the trie's type, `bytes` are its bytes,
 and `..` is anything. A line `FILE:NUMBER: OLD  ->  NEW` must be a planted mistake of zerotrie_base. Each link of a page must lead to a
-file that is there, and to a heading of it. The pages of PLAIN, the doc comments of the library's public items and the comments of definitions must be free of
+file that is there, and to a heading of it. The pages, the doc comments of the library's public items and the comments of definitions must be free of
 RETIRED, words for which every Rust programmer has another one. A name in code marks must be one of the sources, of the page's examples,
-or of ELSEWHERE. No page may have more words than LIMITS say, and all together no more than TOGETHER: when a page gets shorter,
+or of ELSEWHERE. The words of docs/MODEL.md's tables must be in the files that their rows name. No page may have more words than LIMITS say, and all together no more than TOGETHER: when a page gets shorter,
 so does its limit. docs/SIGNATURES.md, which docs/make writes, does not count. The figures of README.md on planted mistakes and on the definitions to judge
 must be those of the sources; `python3 .ci/documents.py --figures` prints them.
 """
@@ -22,42 +22,40 @@ sys.path.insert(0, str(ROOT / "docs" / "maker"))
 import sources
 
 QUOTING = ["README.md", "docs/CALLING.md"]
-# The pages that have no retired words.
-PLAIN = [*QUOTING, "CONTRIBUTING.md", "bindings/README.md", "docs/ARCHITECTURE.md", "docs/C.md", "docs/CPP.md", "docs/DECISIONS.md", "docs/DIFFERENCES.md", "docs/FORMAT.md", "docs/JAVASCRIPT.md", "docs/MODEL.md", "docs/PYTHON.md", "docs/README.md", "docs/RUST.md", "docs/SPEED.md", "docs/speed/fast.md", "docs/speed/tables.md", "examples/README.md"]
 SIGNATURES = "docs/SIGNATURES.md"
-TOGETHER = 30000  # words of all pages
+TOGETHER = 26900  # words of all pages
 # How many words a page may have: words have a letter or a digit, so the bars of a table are none. CHANGELOG.md grows.
 LIMITS = {
     "README.md": 810,
-    "CONTRIBUTING.md": 1670,
+    "CONTRIBUTING.md": 1610,
     "bindings/README.md": 330,
-    "bindings/python/README.md": 130,
+    "bindings/python/README.md": 120,
     "crates/zerotrie_cli/NOTES.md": 670,
     "crates/zerotrie_cli/README.md": 1080,
-    "crates/zerotrie_index/README.md": 420,
+    "crates/zerotrie_index/README.md": 400,
     "crates/zerotrie_reverse/README.md": 320,
-    "crates/zerotrie_search/README.md": 470,
+    "crates/zerotrie_search/README.md": 500,
     "crates/zerotrie_sets/README.md": 260,
-    "crates/zerotrie_tool/README.md": 400,
-    "docs/ARCHITECTURE.md": 1400,
-    "docs/C.md": 740,
-    "docs/CALLING.md": 2340,
-    "docs/CPP.md": 740,
-    "docs/DECISIONS.md": 1760,
-    "docs/DIFFERENCES.md": 1420,
-    "docs/FORMAT.md": 4380,
-    "docs/JAVASCRIPT.md": 660,
-    "docs/MODEL.md": 1610,
-    "docs/PYTHON.md": 780,
+    "crates/zerotrie_tool/README.md": 390,
+    "docs/ARCHITECTURE.md": 1290,
+    "docs/C.md": 710,
+    "docs/CALLING.md": 2150,
+    "docs/CPP.md": 710,
+    "docs/DECISIONS.md": 1360,
+    "docs/DIFFERENCES.md": 1300,
+    "docs/FORMAT.md": 4210,
+    "docs/JAVASCRIPT.md": 550,
+    "docs/MODEL.md": 1570,
+    "docs/PYTHON.md": 760,
     "docs/README.md": 190,
-    "docs/RUST.md": 760,
+    "docs/RUST.md": 840,
     "docs/SPEED.md": 1090,
-    "docs/speed/fast.md": 590,
-    "docs/speed/tables.md": 2150,
-    "examples/README.md": 280,
+    "docs/speed/fast.md": 540,
+    "docs/speed/tables.md": 1340,
+    "examples/README.md": 250,
     "release/README.md": 290,
-    "rust/README.md": 230,
-    "rust/zerotrie/README.md": 190,
+    "rust/README.md": 220,
+    "rust/zerotrie/README.md": 180,
 }
 # Words that are gone, each with what to write.
 RETIRED = {
@@ -186,9 +184,9 @@ def spec_comments():
                 yield f"{file.relative_to(ROOT)}:{number}", line
 
 
-def retired():
+def retired(pages):
     """Yields the retired words that are there."""
-    texts = [(page, (ROOT / page).read_text(), RETIRED) for page in PLAIN]
+    texts = [(page, (ROOT / page).read_text(), RETIRED) for page in pages if page != SIGNATURES]
     texts += [(place, text, RETIRED) for place, text in comments()]
     texts += [(place, text, {word: RETIRED[word] for word in RETIRED if word not in DEFINED}) for place, text in spec_comments()]
     for place, text, words in texts:
@@ -215,9 +213,34 @@ def unknown_names(pages):
                     yield f"{page}: the sources have no {name}"
 
 
+def files_named(cell, folder, ending):
+    """Returns the text of the files that the last cell of a row of docs/MODEL.md names, such as `CRATE`: `FILE`, or all of a crate."""
+    found = []
+    for part in cell.split(";"):
+        crate, *names = re.findall(r"`([\w/]+)`", part)
+        place = ROOT / "crates" / crate / folder
+        files = [it for name in names for it in (*place.glob(f"{name.removeprefix('src/')}{ending}"), *place.glob(f"{name}/**/*{ending}"))]
+        found += files if names else place.rglob(f"*{ending}")
+    return "\n".join(it.read_text() for it in found)
+
+
+def misplaced():
+    """Yields the words of the tables of docs/MODEL.md that are not in the files of their rows: definitions in specs/, clauses in src/."""
+    tables = (ROOT / "docs" / "MODEL.md").read_text().split("\n## ")
+    for title, cell, folder, ending in [("The words", 0, "specs", ".antt"), ("The headline", 1, "src", ".rt")]:
+        rows = next(it for it in tables if it.startswith(title)).split("|---|---|---|\n")[1].split("\n\n")[0].splitlines()
+        for row in rows:
+            cells = row.strip("| ").split(" | ")
+            is_code = "`src/" in cells[2]
+            text = files_named(cells[2], "src" if is_code else folder, ".rt" if is_code else ending)
+            for name in re.findall(r"\b[A-Za-z]\w{2,}", " ".join(re.findall(r"`([^`]*)`", cells[cell]))):
+                if not re.search(rf"\b{name}\b", text):
+                    yield f"docs/MODEL.md: {cells[2]} has no {name}"
+
+
 def planted():
     """Returns how many mistakes are planted in the sources."""
-    lists = [len(re.findall(r"^\w+: ", it.read_text(), re.M)) for it in ROOT.glob("crates/*/wrong.txt")]
+    lists = [len(it.read_text().strip().split("\n\n")) for it in ROOT.glob("crates/*/wrong.txt")]
     return sum(lists) + len([*ROOT.glob("crates/*/must-fail/*.edit")])
 
 
@@ -265,7 +288,7 @@ def main():
     pages = [it for it in listed if (ROOT / it).exists()]
     if sys.argv[1:] == ["--figures"]:
         sys.exit(print(f"{planted()} planted mistakes, {judged()} lines in {len(JUDGED)} files of definitions to judge"))
-    wrong = [*misquoted(), *not_planted(), *wrong_figures(), *dead_links(pages), *retired(), *unknown_names(it for it in pages if it != "CHANGELOG.md"), *too_long(pages)]
+    wrong = [*misquoted(), *not_planted(), *wrong_figures(), *dead_links(pages), *misplaced(), *retired(pages), *unknown_names(it for it in pages if it != "CHANGELOG.md"), *too_long(pages)]
     print("\n".join([*wrong, f"{len(pages)} pages: {len(wrong)} faults in quotes, links, words and lengths"]))
     sys.exit(1 if wrong else 0)
 

@@ -60,19 +60,22 @@ class Guide:
             self.done.append("<ul>" + "".join(f"<li>{self.inline(it)}</li>" for it in self.rows) + "</ul>")
         self.paragraph, self.rows = [], []
 
-    def block(self, lines):
-        """Adds code."""
+    def block(self, lines, language):
+        """Adds code, in colour if it is Rattle or a language like it."""
         self.close()
-        self.done.append(f"<pre>{code_pages.colored(chr(10).join(lines))}</pre>")
+        text = "\n".join(lines)
+        is_code = language in ("", "rust", "rs", "rt", "c", "cpp", "js") or text.startswith("// ")
+        self.done.append(f"<pre>{code_pages.colored(text) if is_code else html.escape(text, quote=False)}</pre>")
 
     def table(self, lines):
         """Adds a table, whose second line is the rule below its head."""
         self.close()
         rows = [[self.inline(it.replace("\0", "|").strip()) for it in line.replace("\\|", "\0").strip().strip("|").split("|")] for line in lines]
-        head = "".join(f"<th>{it}</th>" for it in rows[0])
+        head = f'<tr>{"".join(f"<th>{it}</th>" for it in rows[0])}</tr>' if any(rows[0]) else ""
         body = "".join("<tr>" + "".join(f"<td>{it}</td>" for it in row) + "</tr>" for row in rows[2:])
-        kind = "wide many" if len(rows[0]) > 2 else "wide"
-        self.done.append(f'<div class="scroll"><table class="{kind}"><tr>{head}</tr>{body}</table></div>')
+        is_prose = any(len(re.sub("<.*?>", "", it)) > 25 for row in rows[2:] for it in row[1:])
+        kind = "wide" if len(rows[0]) <= 3 else "wide many prose" if is_prose else "wide many"
+        self.done.append(f'<div class="scroll"><table class="{kind}">{head}{body}</table></div>')
 
     def page(self):
         """Returns the document as HTML."""
@@ -81,11 +84,11 @@ class Guide:
             line = left.pop(0)
             if line.startswith("```"):
                 end = next((it for it, text in enumerate(left) if text.startswith("```")), len(left))
-                self.block(left[:end])
+                self.block(left[:end], line[3:].strip())
                 left = left[end + 1:]
             elif line.startswith("    ") and not self.paragraph and not self.rows:
                 end = next((it for it, text in enumerate(left) if text and not text.startswith("    ")), len(left))
-                self.block([it[4:] for it in [line, *left[:end]]])
+                self.block([it[4:] for it in [line, *left[:end]]], "shell")
                 left = left[end:]
             elif left and "|" in line and re.fullmatch(r"[|\s:-]+", left[0]) and "-" in left[0]:
                 end = next((it for it, text in enumerate(left) if "|" not in text), len(left))
@@ -95,6 +98,8 @@ class Guide:
                 self.close()
                 level, place = min(len(found[1]), 4), anchor(found[2], self.seen)
                 self.done.append(f'<h{level} id="{place}">{self.inline(found[2])}</h{level}>')
+                if level > 1 and not self.name.endswith("SIGNATURES.md"):  # (whose sections are items)
+                    self.reference.add(re.sub("`", "", found[2]), f"section of {self.name}", "", f"{address(self.name)}#{place}")
             elif found := re.match(r"(?:[-*]|\d+\.) (.*)", line):
                 if self.paragraph:
                     self.close()

@@ -67,7 +67,7 @@ class Reference:
             if name in KEYWORDS:
                 return f'<span class="word">{name}</span>'
             return f'<a href="{self.pages[name]}">{name}</a>' if name in self.pages and name[0].isupper() and name not in own else name
-        return NAME.sub(link, html.escape(text, quote=False))
+        return whole_arrows(NAME.sub(link, html.escape(text, quote=False)))
 
     def word_link(self, file, name):
         """Returns the address and the comment of a word of a clause or a definition, if it is the library's."""
@@ -173,7 +173,12 @@ class Reference:
                 return f'<a href="sources.html#{text}"><code>{text}</code></a>'
             if text in self.variants:
                 return f'<a href="{self.pages[self.variants[text]]}#{text}"><code>{text}</code></a>'
-            return f"<code>{text}</code>"
+            lemmas = next((it for it in self.lemmas if it.stem == text), None)
+            if lemmas:
+                return f'<a href="{spec_address(lemmas)}"><code>{text}</code></a>'
+            if text == "laws":
+                return f'<a href="index.html#laws"><code>{text}</code></a>'
+            return f"<code>{whole_arrows(text)}</code>"
         text = re.sub(r"\[(`[^`]+`)\](?!\()", r"\1", html.escape(text, quote=False))
         text = re.sub(r"`([^`]+)`", named, text)
         return re.sub(r"\[([^]]+)\]\((https?://[^)]+)\)", r'<a href="\2">\1</a>', text)
@@ -181,7 +186,7 @@ class Reference:
     def sentence(self, lines):
         """Returns the first sentence of a doc comment."""
         text = " ".join(line if line.strip() else "\n" for line in lines).split("\n")[0].split("```")[0].strip()
-        return re.split(r"(?<=[.:]) (?=[A-Z`])", text)[0].rstrip(":")
+        return re.split(r"(?<=[.]) (?=[A-Z`])", text)[0].rstrip(":")
 
     # Items.
 
@@ -223,8 +228,11 @@ class Reference:
                 self.notes.append(f"{item.file.relative_to(ROOT)}:{part.line}: {item.name}::{part.name} has no doc comment")
             message = next((it[1] for note in part.notes if (it := re.match(r'#\[error\("(.*)"\)\]', note))), "")
             message = f'<p class="soft">prints: {html.escape(message)}</p>' if message else ""
-            done += f'<h3 id="{part.name}"><code>{self.linked(part.text)}</code></h3>\n{self.prose(part.doc)}{message}'
-        return f"<h2>{'Variants' if item.kind == 'enum' else 'Fields'}</h2>{done}" if done else ""
+            done += f'<h3 id="{part.name}"><code>{self.linked(part.text.removeprefix("pub "))}</code></h3>\n{self.prose(part.doc)}{message}'
+            self.add(part.name, f"{'variant' if item.kind == 'enum' else 'field'} of {item.name}", self.sentence(part.doc).replace("`", ""),
+                     f"{self.pages[item.name]}#{part.name}")
+        title = "Variants" if item.kind == "enum" else "Fields"
+        return f'<h2 id="{title.lower()}--">{title}</h2>{done}' if done else ""
 
     def trait(self, name, item):
         """Returns the members of a trait, and the types that have it."""
@@ -236,21 +244,34 @@ class Reference:
                             + hanging([self.clause(part.file, text.split(": ", 1)[1])]))
                 continue
             self.need(part, f"{name}::{part.name}")
+            if part.kind == "fn":
+                self.add(part.name, name, self.sentence(part.doc).replace("`", ""), f"{self.pages[name]}#{part.name}")
             done.append(self.call(part, None, [it.name for it in item.parts]) if part.kind == "fn" else
                         f'<h3 id="{part.name}"><code>{html.escape(part.text)}</code></h3>\n{self.prose(part.doc)}')
         impls = [it.header for it in self.impls if it.trait.split("<")[0] == name]
         rows = "".join(f"<li><code>{self.linked(it, [name])}</code></li>" for it in impls)
-        return "".join(done) + (f"<h2>Implemented by</h2><ul>{rows}</ul>" if rows else "")
+        return "".join(done) + (f'<h2 id="implemented--">Implemented by</h2><ul>{rows}</ul>' if rows else "")
 
-    def shared_calls(self, block):
-        """Returns the calls that a trait of the library gives to the type of an impl block, with links to the page of the trait."""
-        trait = self.items.get(("", block.trait))
-        given = [it.name for it in block.methods]
-        calls = [it for it in trait.parts if it.kind == "fn" and it.name not in given] if trait and trait.kind == "trait" else []
-        rows = ""
-        for it in calls:
-            rows += f'<tr><td><a href="{self.pages[block.trait]}#{it.name}"><code>{breaking(it.name)}</code></a><td>{self.inline(self.sentence(it.doc))}'
-        return f'<h2 id="of-{block.trait}">Calls of every {self.linked(block.trait)}</h2><table>{rows}</table>\n' if rows else ""
+    def traits_of(self, traits):
+        """Returns the library's own traits of a type with these impl blocks, those that another one of them gives it too."""
+        own = {name: it for (_, name), it in self.items.items() if it.kind == "trait" and any(part.kind == "fn" for part in it.parts)}
+        found = dict.fromkeys(name for block in traits if (name := block.trait.split("<")[0]) in own)
+        for block in self.impls:
+            given = re.match(r"impl<(\w+): (\w+)> (\w+) for \1$", block.header)
+            if given and given[2] in found:
+                found[given[3]] = None
+        return {name: own[name] for name in found}
+
+    def shared_calls(self, traits):
+        """Returns the calls that traits of the library give to a type with these impl blocks, with links to the pages of the traits."""
+        done = ""
+        for name, trait in self.traits_of(traits).items():
+            rows = ""
+            for it in trait.parts:
+                if it.kind == "fn":
+                    rows += f'<tr><td><a href="{self.pages[name]}#{it.name}"><code>{breaking(it.name)}</code></a><td>{self.inline(self.sentence(it.doc))}'
+            done += f'<h2 id="of-{name}">Calls of every {self.linked(name)}</h2><table>{rows}</table>\n'
+        return done
 
     def type(self, name, item):
         """Returns the calls of a type, by the modules that they are in, and its traits."""
@@ -277,7 +298,7 @@ class Reference:
                 generic = re.fullmatch(r"impl(<.*>)? \w+(<[^>]*>)?", block.header)
                 done += self.call(it, None if generic else block, near, mark=mark)
                 self.add(it.name, f"{name}", self.sentence(it.doc).replace("`", ""), f"{self.pages[name]}#{it.name}")
-        done += "".join(self.shared_calls(block) for block in traits)
+        done += self.shared_calls(traits)
         rows = ""
         for block in traits:
             inner = "".join(f'<pre class="signature">{self.linked(it.text)}</pre>{self.contract(it)}' for it in block.methods if it.kind == "fn")
@@ -299,7 +320,7 @@ class Reference:
             if block.type != name:
                 rows += f'<tr><td><a href="{self.pages[of]}#{it.name}"><code>{breaking(it.name)}</code></a><td>{self.inline(self.sentence(it.doc))}'
         done += f"<h2>Calls of {self.linked(of)}</h2><table>{rows}</table>\n"
-        return done + "".join(self.shared_calls(block) for block in traits)
+        return done + self.shared_calls(traits)
 
     def item_page(self, module, name, item):
         """Writes the page of an item."""
@@ -390,11 +411,12 @@ class Reference:
         """Writes the first page."""
         lib = sources.file_of("zerotrie", []).read_text()
         docs = [line[4:] for line in lib.splitlines() if line.startswith("//!")]
-        body = f"<h1><small>reference of the library</small>zerotrie</h1>{self.prose(docs)}"
-        rows = "".join(f'<tr><td><a href="{page}">{self.inline(title)}</a><td class="soft">{name}' for page, title, name in guides.pages(self))
-        body += f'<h2 id="documents">Documents</h2><table>{rows}</table><p><a href="{code_pages.pages(self)}">All sources</a></p>'
-        body += '<h2 id="languages">Other languages</h2>' + "".join(f"<p>{it}</p>" for it in others if "left out" not in it)
-        main = re.findall(r"^- `(\w+)`", "\n".join(docs), re.M)
+        about = next((number for number, line in enumerate(docs) if line.startswith("A crate that depends on")), len(docs))
+        body = f"<h1><small>reference of the library</small>zerotrie</h1>{self.prose(docs[:about])}"
+        places = {name: page for page, _, name in guides.pages(self)}
+        links = " · ".join(f'<a href="{places[name]}">{title}</a>' for name, title in FIRST_PAGES.items() if name in places)
+        body += f'<p>{links} · <a href="{code_pages.pages(self)}">all sources</a></p>'
+        main = re.findall(r"^- \[?`(\w+)`", "\n".join(docs), re.M)
         tables = {
             "Tries": lambda it: it.name in main,
             "Errors": lambda it: any("Error)" in note for note in it.notes),
@@ -410,11 +432,12 @@ class Reference:
         for module, doc in sources.modules().items():
             if some := {key: item for key, item in self.items.items() if key[0] == module}:
                 body += f'<h2 id="{module}">{owner_of(module)}</h2>{self.prose(doc)}{self.table(some)}'
+        body += '<h2 id="languages">Other languages</h2>' + "".join(f"<p>{it}</p>" for it in others if "left out" not in it)
         rows = ""
         for file in self.lemmas:
             first = file.read_text().split("\n")[0]
             rows += f'<tr><td><a href="{spec_address(file)}"><code>{spec_title(file)}</code></a><td>{self.inline(first[3:])}'
-        body += f'<h2 id="lemmas">Lemmas for callers</h2><table>{rows}</table>'
+        body += f'<h2 id="lemmas">Lemmas for callers</h2>{self.prose(docs[about:])}<table>{rows}</table>'
         rows = ""
         for file in self.specs:
             first = file.read_text().split("\n")[0]
@@ -439,6 +462,12 @@ class Reference:
         (self.out / "search.js").write_text(f"const INDEX = {json.dumps(self.index, ensure_ascii=False)};\n{(HERE / 'search.js').read_text()}")
 
 
+# The documents that the first page names.
+FIRST_PAGES = {
+    "README.md": "README", "docs/CALLING.md": "calls by purpose", "docs/SIGNATURES.md": "signatures", "docs/FORMAT.md": "the format",
+    "docs/MODEL.md": "what is proved", "docs/DIFFERENCES.md": "differences from the crate", "docs/README.md": "all pages",
+}
+
 READING = """<p>A call's contract is behind its fold. <code>ensures</code> says what holds when the call returns, and
 <code>requires</code> what its caller must know before. <code>x.now</code> is what the reference <code>x</code> points to; of a
 <code>&amp;mut</code> it is <code>x.old</code> before the call and <code>x.new</code> after it. <code>v.items</code> are the items of a vector.
@@ -452,6 +481,11 @@ holds if all of its fields do.</p>"""
 def owner_of(module):
     """Returns the path of a module of zerotrie, or of a crate beside it."""
     return module if module.startswith("zerotrie_") else f"zerotrie::{module}" if module else "zerotrie"
+
+
+def whole_arrows(text):
+    """Returns marked-up code whose arrows do not break."""
+    return text.replace("-&gt;", '<span class="arrow">-&gt;</span>')
 
 
 def breaking(name):

@@ -1,4 +1,5 @@
 """Writes docs/SIGNATURES.md: each public call, variant and field, with its arguments, its result and its first sentence."""
+import dataclasses
 import re
 
 import sources
@@ -12,8 +13,7 @@ HEAD = """# All calls with their arguments
 purpose, with examples.
 
 A name of a trie's type is an alias: `ZeroTrieSimpleAscii` and `ZeroAsciiIgnoreCaseTrie` have the calls of `AsciiTrie`,
-`ZeroTriePerfectHash` and `ZeroTrieExtendedCapacity` those of `HashedTrie`. All of them, and `ZeroTrie`, have those of the traits
-`Trie`, `Search` and `Reverse`.
+`ZeroTriePerfectHash` and `ZeroTrieExtendedCapacity` those of `HashedTrie`. A trait's calls want its name in a `use`.
 """
 
 
@@ -29,19 +29,27 @@ def row(reference, item):
     return f"| `{shown(item)}` | {said} |\n"
 
 
-def section(title, items, reference):
-    """Returns the table of some calls, each once."""
-    rows = dict.fromkeys(row(reference, it) for it in items)
-    return f"\n## {title}\n\n| Call | |\n|---|---|\n{''.join(rows)}" if rows else ""
+def section(title, items, reference, traits=()):
+    """Returns the table of some calls, each once, and the traits that give more."""
+    rows = "".join(dict.fromkeys(row(reference, it) for it in items))
+    table = f"\n| Call | |\n|---|---|\n{rows}" if rows else ""
+    more = f"\nHas the calls of {', '.join(f'`{it}`' for it in traits)}.\n" if traits else ""
+    return f"\n## {title}\n{more}{table}" if table or more else ""
 
 
 def calls_of(reference, name, item):
-    """Returns the calls of a type or a trait that its own page has."""
+    """Returns the calls of a type or a trait that its own page has, and the fields of a struct that has no names for them."""
     if item.kind == "trait":
         return [it for it in item.parts if it.kind == "fn"]
     own = reference.public_methods(reference.methods(name, item)[0])
-    aliases = re.search(r"= (\w+)<", item.text) if item.kind == "type" else None
-    return [it for it in item.parts if it.kind == "part"] + [it for it, block in own if not aliases or block.type == name]
+    fields = re.fullmatch(r"pub struct (\w+)(?:<.*>)?(\(pub .*\))", item.text)
+    made = [dataclasses.replace(item, text=fields[1] + fields[2])] if fields else []
+    return made + [it for it in item.parts if it.kind == "part"] + [it for it, block in own if block.type == name]
+
+
+def traits_of(reference, name, item):
+    """Returns the traits of the library that a type has, whose calls are its own, too."""
+    return reference.traits_of(reference.methods(name, item)[1]) if item.kind in ("struct", "enum") else ()
 
 
 def text(reference):
@@ -52,7 +60,7 @@ def text(reference):
         if item.kind == "fn" and not owner.endswith("laws"):
             alone.setdefault(owner, []).append(item)
         if item.kind in ("struct", "enum", "type", "trait"):
-            done += section(f"`{name}` of `{owner}`", calls_of(reference, name, item), reference)
+            done += section(f"`{name}` of `{owner}`", calls_of(reference, name, item), reference, traits_of(reference, name, item))
     for owner, items in alone.items():
         done += section(f"Functions of `{owner}`", items, reference)
     return done

@@ -223,11 +223,12 @@ def resolved(crate, modules, name):
 
 def public():
     """Yields the public items of the library: the crate or the module of zerotrie that shows each, its name there, and the item."""
-    yield from of_zerotrie()
+    shown = [*of_zerotrie()]
+    yield from shown
     for crate in BESIDE:
         for name in uses(file_of(crate, [])):
             item = resolved(crate, [], name)
-            if item is None or crate in item.file.parts:  # (what is handed on has its page in its own crate)
+            if not any(it is item for _, _, it in shown):  # (what zerotrie hands on has its page there)
                 yield crate, name, item
         yield from ((f"{crate}::laws", it.name, it) for it in laws(file_of(crate, ["laws"])))
 
