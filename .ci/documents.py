@@ -23,15 +23,15 @@ import sources
 
 QUOTING = ["README.md", "docs/CALLING.md"]
 SIGNATURES = "docs/SIGNATURES.md"
-TOGETHER = 26900  # words of all pages
+TOGETHER = 27000  # words of all pages
 # How many words a page may have: words have a letter or a digit, so the bars of a table are none. CHANGELOG.md grows.
 LIMITS = {
     "README.md": 810,
-    "CONTRIBUTING.md": 1610,
+    "CONTRIBUTING.md": 1640,
     "bindings/README.md": 330,
     "bindings/python/README.md": 120,
     "crates/zerotrie_cli/NOTES.md": 670,
-    "crates/zerotrie_cli/README.md": 1080,
+    "crates/zerotrie_cli/README.md": 1090,
     "crates/zerotrie_index/README.md": 400,
     "crates/zerotrie_reverse/README.md": 320,
     "crates/zerotrie_search/README.md": 500,
@@ -41,7 +41,7 @@ LIMITS = {
     "docs/C.md": 710,
     "docs/CALLING.md": 2150,
     "docs/CPP.md": 710,
-    "docs/DECISIONS.md": 1360,
+    "docs/DECISIONS.md": 1430,
     "docs/DIFFERENCES.md": 1300,
     "docs/FORMAT.md": 4210,
     "docs/JAVASCRIPT.md": 550,

@@ -736,7 +736,10 @@ static PyObject *bind(PyObject *Py_UNUSED(module), PyObject *addresses) {
         SLOT(GET_BUFFER, get_buffer)
 #define WORDS(function) (PyCFunction)(void (*)(void))(function), METH_VARARGS | METH_KEYWORDS
 #define DOC(signature, text) signature "\n--\n\n" text
-#define FLAGS Py_TPFLAGS_DEFAULT | Py_TPFLAGS_BASETYPE | Py_TPFLAGS_HAVE_GC
+/* Headers of Python 3.10 leave the version tag out of the default. Without it Python 3.9.2 releases
+ * a method once too often when it makes a subclass with a metaclass: then no class can be made. */
+#define FLAGS                                                                                      \
+    Py_TPFLAGS_DEFAULT | Py_TPFLAGS_HAVE_VERSION_TAG | Py_TPFLAGS_BASETYPE | Py_TPFLAGS_HAVE_GC
 
 static PyMethodDef reader_methods[] = {
     { "_hold", hold, METH_VARARGS, NULL },
