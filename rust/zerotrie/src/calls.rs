@@ -216,6 +216,26 @@ macro_rules! calls {
                 self.search(bounds.into())
             }
 
+            /// Lists the pairs between two bounds whose keys an automaton accepts, in ascending order of bytes, whatever the
+            /// kind. Keys that begin as none that is accepted are passed over.
+            ///
+            /// ```
+            #[doc = concat!("use zerotrie::", stringify!($name), ";")]
+            /// use zerotrie::search::Glob;
+            ///
+            #[doc = concat!("let trie = ", stringify!($name), "::try_from_iter([(\"to\", 3), (\"on\", 2), (\"in\", 1)])?;")]
+            /// let found = trie.search_sorted(.., Glob::new(b"?n").unwrap());
+            /// assert_eq!(found.values().collect::<Vec<_>>(), [1, 2]);
+            /// # Ok::<(), zerotrie::ZeroTrieBuildError>(())
+            /// ```
+            pub fn search_sorted<'p, T: Automaton>(
+                &self,
+                bounds: impl Into<KeyRange<'p>>,
+                automaton: T,
+            ) -> SortedMatches<'_, 'p, T> {
+                SortedMatches::of(self.kind(), self.as_bytes(), bounds.into(), automaton)
+            }
+
             /// Lists the pairs between two bounds in ascending order of bytes, whatever the kind.
             ///
             /// ```

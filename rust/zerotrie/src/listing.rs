@@ -3,7 +3,9 @@
 use crate::by_kind;
 use crate::rstd::alloc::{AllocError, Global};
 use crate::zerotrie_core::{self, PairStream, TrieKind, ZeroTrieWithOptions};
-use crate::zerotrie_search::{Automaton, KeyRange, ZeroTrieSearch, ZeroTrieSorted};
+use crate::zerotrie_search::{
+    Automaton, KeyRange, ZeroTrieSearch, ZeroTrieSorted, ZeroTrieSortedSearch,
+};
 use crate::zerotrie_sets::{Change, Combined, Diff, Keep, Operation, SortedTrie};
 use alloc::alloc::{Layout, handle_alloc_error};
 use alloc::string::String;
@@ -302,6 +304,66 @@ fn sorted_of<'a, 'p, K: ZeroTrieWithOptions>(
     bounds: KeyRange<'p>,
 ) -> Result<ZeroTrieSorted<'a, 'p>, AllocError> {
     ZeroTrieSorted::new::<K>(Global, bytes, bounds.from, bounds.to)
+}
+
+/// A search in the order of bytes, as the listing of `SortedMatches`.
+pub struct SortedSearch<'a, 'p, T: Automaton>(ZeroTrieSortedSearch<'a, 'p, T>);
+
+impl<T: Automaton> PairStream for SortedSearch<'_, '_, T> {
+    fn advance(&mut self) -> Result<bool, AllocError> {
+        self.0.advance()
+    }
+
+    fn key(&self) -> &[u8] {
+        self.0.key()
+    }
+
+    fn value(&self) -> usize {
+        self.0.value()
+    }
+}
+
+/// The pairs that a search finds between two bounds, in ascending order of bytes.
+pub type SortedMatches<'a, 'p, T> = Pairs<SortedSearch<'a, 'p, T>>;
+
+impl<'a, 'p, T: Automaton> SortedMatches<'a, 'p, T> {
+    /// Lists the pairs of a trie between two bounds that an automaton accepts.
+    pub(crate) fn of(kind: TrieKind, bytes: &'a [u8], bounds: KeyRange<'p>, automaton: T) -> Self {
+        let pairs = allocated(by_kind!(kind, sorted_of::<_>(bytes, bounds)));
+        Pairs::new(SortedSearch(ZeroTrieSortedSearch::new(
+            Global, pairs, automaton,
+        )))
+    }
+
+    /// Returns the automaton.
+    ///
+    /// ```
+    /// use zerotrie::ZeroTriePerfectHash;
+    /// use zerotrie::search::StartsWith;
+    ///
+    /// let trie = ZeroTriePerfectHash::try_from_iter([("in", 1)])?;
+    /// assert_eq!(trie.search_sorted(.., StartsWith(b"i")).automaton().0, b"i");
+    /// # Ok::<(), zerotrie::ZeroTrieBuildError>(())
+    /// ```
+    pub fn automaton(&self) -> &T {
+        self.pairs.0.automaton()
+    }
+
+    /// Returns the state of the automaton after the current key.
+    ///
+    /// ```
+    /// use zerotrie::ZeroTriePerfectHash;
+    /// use zerotrie::search::Levenshtein;
+    ///
+    /// let trie = ZeroTriePerfectHash::try_from_iter([("on", 2), ("in", 1)])?;
+    /// let mut found = trie.search_sorted("j".., Levenshtein::new(b"in", 1).unwrap());
+    /// found.advance();
+    /// assert_eq!(found.automaton().distance(found.state()), Some(1));
+    /// # Ok::<(), zerotrie::ZeroTrieBuildError>(())
+    /// ```
+    pub fn state(&self) -> T::State {
+        self.pairs.0.state()
+    }
 }
 
 /// What is made of two tries, in the order of bytes.

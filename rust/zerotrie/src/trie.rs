@@ -4,7 +4,7 @@ use crate::any::{Trie, fault, first, last, lent, sorted, tagged};
 use crate::by_kind;
 use crate::calls::calls;
 use crate::listing::{
-    Combination, Difference, Matches, Sorted, ZeroTrieIterator, ZeroTrieKeys,
+    Combination, Difference, Matches, Sorted, SortedMatches, ZeroTrieIterator, ZeroTrieKeys,
     ZeroTrieStringIterator, ZeroTrieStringKeys, ZeroTrieValues, allocated,
 };
 use crate::look_ups::LookUps;
