@@ -6,6 +6,8 @@ mod SwapBits
 mod TrailLemmas
 mod SearchLemmas
 mod GlobLemmas
+mod MarkLemmas
+mod GlobTextLemmas
 mod WordLemmas
 mod WantedLemmas
 mod CharLemmas
@@ -19,3 +21,5 @@ mod StandLemmas
 mod SkipLemmas
 mod LastLemmas
 mod TurnLemmas
+mod NearestLemmas
+mod FoldLemmas

@@ -1,20 +1,32 @@
 -- Patterns: their items, and the keys that they match.
-use Rattle.std.specs.Prelude.{ℕ, List, [], ◌∷◌, ◌+◌, ◌==◌, ◌&&◌, ◌||◌, not, length, take, drop, nat_le, Bool, true, false, Option, Some, None, if◌then◌else◌}
-use Rattle.std.specs.Option.{option_map, option_map_or}
-use Rattle.std.specs.Int.{bit_at}
+use Rattle.std.specs.Prelude.{ℕ, List, [], ◌∷◌, ◌==◌, ◌&&◌, ◌||◌, not, length, nat_le, Bool, true, false, Option, Some, None, if◌then◌else◌}
+use Rattle.std.specs.Option.{option_map_or}
+use Rattle.std.specs.Str.{chars, is_utf8}
 use Rattle.std.proofs.Common.{zero, suc}
 
--- The letters of a class: each byte, with whether a backslash escapes it.
-abbrev pub letters : List ℕ → List (Bool × ℕ)
-letters [] = []
-letters (c ∷ []) = if c == 92 then [] else (false, c) ∷ []
-letters (c ∷ d ∷ text) = if c == 92 then (true, d) ∷ letters text else (false, c) ∷ letters (d ∷ text)
+-- the letters of a class, each with whether a backslash escapes it, and what is left of the pattern behind the class
+abbrev pub Class : Type 0
+Class = Option (List (Bool × ℕ) × List ℕ)
 
--- whether a byte is one of a range, both ends included
+-- a class with one more letter in front
+abbrev pub with_letter : Bool × ℕ → Class → Class
+with_letter letter None = None
+with_letter letter (Some c) = Some (letter ∷ c.0, c.1)
+
+-- the class up to the first closing bracket that is not escaped
+abbrev pub class_at : List ℕ → Class
+class_at [] = None
+class_at (c ∷ []) = if c == 93 then Some ([], []) else None
+class_at (c ∷ d ∷ text) =
+    if c == 93 then Some ([], d ∷ text)
+    else if c == 92 then with_letter (true, d) (class_at text)
+    else with_letter (false, c) (class_at (d ∷ text))
+
+-- whether a letter is one of a range, both ends included
 abbrev pub is_within : ℕ → ℕ → ℕ → Bool
 is_within from to b = nat_le from b && nat_le b to
 
--- Whether a class has a byte. A dash that is not escaped, between two letters, makes a range of
+-- Whether a class has a letter. A dash that is not escaped, between two letters, makes a range of
 -- them.
 abbrev pub has : List (Bool × ℕ) → ℕ → Bool
 has [] b = false
@@ -25,41 +37,43 @@ has (from ∷ dash ∷ to ∷ more) b =
     then is_within from.1 to.1 b || has more b
     else is_within from.1 from.1 b || has (dash ∷ to ∷ more) b
 
--- the number of bytes before the first closing bracket that is not escaped
-abbrev pub class_len : List ℕ → Option ℕ
-class_len [] = None
-class_len (c ∷ []) = if c == 93 then Some 0 else None
-class_len (c ∷ d ∷ text) =
-    if c == 93 then Some 0
-    else if c == 92 then option_map (λ n. 2 + n) (class_len text)
-    else option_map (λ n. 1 + n) (class_len (d ∷ text))
+-- whether the last letter of each range is not below its first
+abbrev pub rises : List (Bool × ℕ) → Bool
+rises [] = true
+rises (from ∷ []) = true
+rises (from ∷ dash ∷ []) = true
+rises (from ∷ dash ∷ to ∷ more) =
+    if not dash.0 && (dash.1 == 45)
+    then nat_le from.1 to.1 && rises more
+    else rises (dash ∷ to ∷ more)
 
--- An item of a pattern: any number of bytes, any one byte, one byte, or a byte of a class, or if it
--- is negated one that is not of it.
+-- An item of a pattern: any number of letters, any one letter, one letter, or a letter of a class, or
+-- if it is negated one that is not of it. A letter is a byte, or a character.
 pub data Item : Type 0 where
   many : Item
   any : Item
-  byte : ℕ → Item
-  class : Bool → List ℕ → Item
+  one : ℕ → Item
+  class : Bool → List (Bool × ℕ) → Item
 
 -- an item, and what is left of the pattern after it
 abbrev pub Reading : Type 0
 Reading = Option (Item × List ℕ)
 
--- a class of this many bytes; it has one at least
-abbrev pub class_of : Bool → List ℕ → Option ℕ → Reading
-class_of negated text None = None
-class_of negated text (Some n) = if n == 0 then None else Some (class negated (take n text), drop (n + 1) text)
+-- a class has a letter, and no range without one
+abbrev pub class_of : Bool → Class → Reading
+class_of negated None = None
+class_of negated (Some ([], rest)) = None
+class_of negated (Some (l ∷ ls, rest)) = if rises (l ∷ ls) then Some (class negated (l ∷ ls), rest) else None
 
 -- a class that begins behind its opening bracket
 abbrev pub opened : List ℕ → Reading
 opened [] = None
-opened (c ∷ text) = if c == 33 then class_of true text (class_len text) else class_of false (c ∷ text) (class_len (c ∷ text))
+opened (c ∷ text) = if (c == 33) || (c == 94) then class_of true (class_at text) else class_of false (class_at (c ∷ text))
 
--- the byte behind a backslash
+-- the letter behind a backslash
 abbrev pub escaped : List ℕ → Reading
 escaped [] = None
-escaped (c ∷ pattern) = Some (byte c, pattern)
+escaped (c ∷ pattern) = Some (one c, pattern)
 
 -- the first item of a pattern
 abbrev pub first_item : List ℕ → Reading
@@ -69,7 +83,7 @@ first_item (c ∷ pattern) =
     else if c == 63 then Some (any, pattern)
     else if c == 92 then escaped pattern
     else if c == 91 then opened pattern
-    else Some (byte c, pattern)
+    else Some (one c, pattern)
 
 -- the first n items of a pattern, or all of them if there are fewer
 abbrev pub items_to : ℕ → List ℕ → List Item
@@ -81,7 +95,7 @@ abbrev pub left_to : ℕ → List ℕ → List ℕ
 left_to zero pattern = pattern
 left_to (suc n) pattern = option_map_or (λ r. left_to n r.1) (first_item pattern) pattern
 
--- the items of a pattern, as each has at least one byte
+-- the items of a pattern, as each has at least one letter
 abbrev pub items : List ℕ → List Item
 items pattern = items_to (length pattern) pattern
 
@@ -89,12 +103,12 @@ items pattern = items_to (length pattern) pattern
 abbrev pub no_item : List ℕ → List ℕ
 no_item pattern = left_to (length pattern) pattern
 
--- whether an item may take a byte
+-- whether an item may take a letter
 abbrev pub takes : Item → ℕ → Bool
 takes many b = true
 takes any b = true
-takes (byte c) b = c == b
-takes (class negated text) b = if negated then not (has (letters text) b) else has (letters text) b
+takes (one c) b = c == b
+takes (class negated letters) b = if negated then not (has letters b) else has letters b
 
 -- whether items match a key
 abbrev pub matches : List Item → List ℕ → Bool
@@ -105,9 +119,6 @@ matches (many ∷ more) (b ∷ key) = matches more (b ∷ key) || matches (many 
 matches (i ∷ more) [] = false
 matches (i ∷ more) (b ∷ key) = takes i b && matches more key
 
--- Whether some items from a place that is marked on match a key. A mark is a bit, and the first of
--- the items is at this place.
-abbrev pub any_match : ℕ → ℕ → List Item → List ℕ → Bool
-any_match marks place [] key = (bit_at marks place == 1) && matches [] key
-any_match marks place (i ∷ more) key =
-    ((bit_at marks place == 1) && matches (i ∷ more) key) || any_match marks (suc place) more key
+-- whether a key is text, and a pattern of characters matches it
+abbrev pub matches_text : List ℕ → List ℕ → Bool
+matches_text pattern key = is_utf8 key && matches (items pattern) (chars key)

@@ -1,6 +1,8 @@
 //! Searches of every trie.
 
-ghost use Rattle.std.specs.Prelude.{◌≡◌, ◌≤◌, ℕ, List, length, IfOk};
+ghost use Rattle.std.specs.Prelude.{◌≡◌, ◌≤◌, ◌*◌, ℕ, List, length, IfOk};
+ghost use Rattle.std.proofs.Common.{suc};
+ghost use Rattle.std.specs.FinMap.{entries};
 ghost use Rattle.std.specs.Option.{option_map};
 ghost use Rattle.std.specs.Range.Bound.{bound_map, bounds_contain};
 ghost use Rattle.std.specs.declared.ops.Bound.TheVariants.{Included, Excluded, Unbounded};
@@ -10,10 +12,13 @@ ghost use Rattle.zerotrie_core.specs.Maps.{Pairs, Map, beginning};
 ghost use Rattle.zerotrie_core.specs.Texts.{Means};
 ghost use Rattle.zerotrie_core.specs.Listings.{rest_after, to_come};
 ghost use Rattle.zerotrie_search.specs.Searches.{IsSearch, accepted};
+ghost use Rattle.zerotrie_search.specs.Nearest as near;
 ghost use Rattle.zerotrie_search.specs.Sets.{by_bytes};
 ghost use Rattle.zerotrie_search.specs.Sorted.{within, first_of, last_of};
 
 use crate::automaton::Automaton;
+use crate::fuzzy::Fuzzy;
+use crate::nearest::ZeroTrieNearest;
 use crate::range::KeyRange;
 use crate::search::ZeroTrieSearch;
 use crate::sorted::{ZeroTrieSorted, ZeroTrieSortedIterator, ZeroTrieSortedSearch, last_between};
@@ -215,6 +220,45 @@ pub trait Search: Trie {
     {
         let pairs = self.stream_sorted(alloc, from, to)?;
         Ok(ZeroTrieSortedSearch::new(alloc, pairs, automaton))
+    }
+
+    /// Lists the pairs whose keys few edits make of a word, the nearest first, and those that are as near
+    /// in the order of bytes.
+    ///
+    /// ```
+    /// let words = [("trial", 1), ("trie", 2), ("tries", 3), ("trio", 4)];
+    /// let trie = ZeroTriePerfectHash::try_from_iter(rt.alloc(), words)?;
+    /// let word = LevenshteinChars::new("trie", 1).ok_or("a long word")?;
+    /// let mut nearest = trie.nearest(rt.alloc(), word)?;
+    /// assert!(rt; nearest.advance()?);
+    /// assert_eq!(rt; (nearest.key(), nearest.value()), (b"trie".as_slice(), 2));
+    /// assert_eq!(rt; nearest.distance(), 0);
+    /// assert!(rt; nearest.advance()?);
+    /// assert_eq!(rt; (nearest.key(), nearest.value()), (b"tries".as_slice(), 3));
+    /// assert_eq!(rt; nearest.distance(), 1);
+    /// assert!(rt; nearest.advance()?);
+    /// assert_eq!(rt; (nearest.key(), nearest.value()), (b"trio".as_slice(), 4));
+    /// assert!(rt; !nearest.advance()?);
+    /// ```
+    ///
+    /// It searches as it is asked. On malformed bytes it lists at most as many pairs as bytes for each
+    /// number of edits. An error means that an allocation failed.
+    fn nearest<T: Fuzzy>(
+        &self,
+        alloc: Global,
+        automaton: T,
+    ) -> Result<ZeroTrieNearest<'_, T>, AllocError>
+        ensures pairs { IfOk result (λ s. (m : Map)
+            → Means (Self.kind self.now) (Self.bytes self.now) m
+            → s.left ≡ to_come (near.nearest (T.measure automaton) (entries m) 0 (suc (T.most automaton)))) }
+        ensures most { IfOk result (λ s.
+            s.most ≤ suc (T.most automaton) * length (Self.bytes self.now)) }
+        ensures kind { IfOk result (λ s. s.kind ≡ Self.kind self.now) }
+        ensures bytes { IfOk result (λ s. s.bytes ≡ Self.bytes self.now) }
+        ensures automaton { IfOk result (λ s. s.automaton ≡ automaton) }
+    {
+        let (options, bytes) = (options_of(self.trie_kind()), self.as_bytes());
+        ZeroTrieNearest::with_options(alloc, options, bytes, automaton)
     }
 
     /// Returns an iterator over the pairs whose keys are between two bounds, in ascending order of

@@ -1,155 +1,181 @@
-//! The items of a pattern, read one by one from its bytes.
+//! The items of a pattern, read one by one from its text.
 
-ghost use Rattle.std.specs.Prelude.{◌≡◌, ◌≤◌, ◌<◌, ◌||◌, ◌&&◌, ◌∷◌, ℕ, List, Bool, [], length, MatchOption, IfSome};
+ghost use Rattle.std.specs.Prelude.{◌≡◌, ◌≤◌, ◌<◌, ◌∷◌, ℕ, Bool, [], length, MatchOption, IfSome};
 ghost use Rattle.std.specs.Option.{option_map};
+ghost use Rattle.std.specs.Str.{chars};
 ghost use Rattle.zerotrie_search.specs.Globs as glob;
-ghost use Rattle.zerotrie_search.specs.Globs.{letters, has, is_within, matches};
-ghost use Rattle.zerotrie_search.specs.GlobItems.{item_of};
+ghost use Rattle.zerotrie_search.specs.Globs.{class_at, with_letter};
+ghost use Rattle.zerotrie_search.specs.GlobMasks.{letters_in, closing, class_has, add_range, read};
 
-/// An item of a pattern.
+const ANY: u32 = b'?' as u32;
+
+const CARET: u32 = b'^' as u32;
+
+const CLOSE: u32 = b']' as u32;
+
+const DASH: u32 = b'-' as u32;
+
+const ESCAPE: u32 = b'\\' as u32;
+
+const MANY: u32 = b'*' as u32;
+
+const NOT: u32 = b'!' as u32;
+
+const OPEN: u32 = b'[' as u32;
+
+/// A text of letters.
 #[derive(Clone, Copy, Debug)]
-pub(crate) enum Item<'p> {
-    /// Any number of bytes.
-    Many,
-    /// One byte.
-    Any,
-    /// This byte.
-    Byte(u8),
-    /// One byte of this class, or if it is negated, one that is not of it.
-    Class(bool, &'p [u8]),
+pub(crate) enum Text<'p> {
+    /// Each byte is a letter.
+    Bytes(&'p [u8]),
+    /// Each character is a letter.
+    Chars(&'p str),
 }
 
-/// Returns the first letter of the text of a class, and what is left of the text. The letter is a
-/// byte and whether it is escaped.
-fn letter(text: &[u8]) -> Option<((bool, u8), &[u8])>
-    ensures { MatchOption result (letters text.now ≡ [])
-        (λ r. (letters text.now ≡ r.0 ∷ letters r.1.now) × (length r.1.now < length text.now)) }
+/// Returns the first character of a text, and what is left after it.
+fn first_char(text: &str) -> Option<(u32, &str)>
+    ensures { MatchOption result (chars text.now ≡ [])
+        (λ r. chars text.now ≡ r.0 ∷ chars r.1.now) }
 {
-    let (first, rest) = text.split_first()?;
-    if *first != b'\\' {
-        return Some(((false, *first), rest));
-    }
-    let (escaped, rest) = rest.split_first()?;
-    Some(((true, *escaped), rest))
+    let mut left = text.chars();
+    let first = left.next()?;
+    Some((u32::from(first), left.as_str()))
 }
 
-/// Returns the last byte of a range whose first byte is `from`, and what is left of the text after
-/// it. If no range continues here, that is the first byte itself.
-fn range_end(from: u8, text: &[u8]) -> (u8, &[u8])
-    ensures has { (escaped : Bool) (b : ℕ) → has ((escaped, from) ∷ letters text.now) b
-        ≡ (is_within from result.0 b || has (letters result.1.now) b) }
-    ensures left { length result.1.now ≤ length text.now }
-{
-    let Some(((escaped, dash), after)) = letter(text) else {
-        return (from, text);
-    };
-    if escaped {
-        return (from, text);
-    }
-    if dash != b'-' {
-        return (from, text);
-    }
-    match letter(after) {
-        Some(((_escaped, to), rest)) => (to, rest),
-        None => (from, text),
-    }
-}
-
-/// Returns whether a class has the byte.
-fn class_has(class: &[u8], byte: u8) -> bool
-    ensures { result ≡ has (letters class.now) byte }
-{
-    let mut left = class;
-    while let Some(((_escaped, from), rest)) = letter(left) {
-        let (to, more) = range_end(from, rest);
-        if from <= byte && byte <= to {
-            return true;
-        }
-        left = more;
-    }
-    false
-}
-
-/// Returns how many bytes are before the bracket that closes a class.
-fn class_len(text: &[u8]) -> Option<usize>
-    ensures is { result ≡ glob.class_len text.now }
-    ensures inside { IfSome result (λ len. len < length text.now) }
-{
-    let mut left = text;
-    let mut len: usize = 0;
-    loop {
-        let (first, rest) = left.split_first()?;
-        if *first == b']' {
-            return Some(len);
-        }
-        left = rest;
-        len += 1;
-        if *first == b'\\' {
-            let (_escaped, rest) = left.split_first()?;
-            left = rest;
-            len += 1;
-        }
-    }
-}
-
-/// Returns the class whose text begins here, and what is left of the pattern after it.
-fn class_item(text: &[u8], negated: bool) -> Option<(Item<'_>, &[u8])>
-    ensures is { option_map (λ r. (item_of r.0, r.1.now)) result
-        ≡ glob.class_of negated text.now (glob.class_len text.now) }
-    ensures left { IfSome result (λ r. length r.1.now < length text.now) }
-{
-    let len = class_len(text)?;
-    if len == 0 {
-        return None;
-    }
-    Some((Item::Class(negated, &text[..len]), &text[len + 1..]))
-}
-
-/// Returns the first item of a pattern, and what is left of the pattern after it.
-pub(crate) fn first_item(pattern: &[u8]) -> Option<(Item<'_>, &[u8])>
-    ensures is { option_map (λ r. (item_of r.0, r.1.now)) result ≡ glob.first_item pattern.now }
-    ensures left { IfSome result (λ r. length r.1.now < length pattern.now) }
-{
-    let (first, rest) = pattern.split_first()?;
-    match *first {
-        b'*' => Some((Item::Many, rest)),
-        b'?' => Some((Item::Any, rest)),
-        b'\\' => {
-            let (byte, rest) = rest.split_first()?;
-            Some((Item::Byte(*byte), rest))
-        }
-        b'[' => match rest.split_first() {
-            Some((b'!', text)) => class_item(text, true),
-            _ => class_item(rest, false),
-        },
-        byte => Some((Item::Byte(byte), rest)),
-    }
-}
-
-/// Returns whether an item takes the byte as one of its own.
-pub(crate) fn takes(item: Item<'_>, byte: u8) -> bool
-    ensures { result ≡ glob.takes (item_of item.entry) byte }
-{
-    match item {
-        Item::Many => true,
-        Item::Any => true,
-        Item::Byte(same) => same == byte,
-        Item::Class(negated, class) => {
-            if negated {
-                !class_has(class, byte)
-            } else {
-                class_has(class, byte)
+impl<'p> Text<'p> {
+    /// Returns the first letter, and what is left after it.
+    pub(crate) fn first(self) -> Option<(u32, Text<'p>)>
+        ensures { MatchOption result (letters_in self.entry ≡ [])
+            (λ r. letters_in self.entry ≡ r.0 ∷ letters_in r.1) }
+    {
+        match self {
+            Text::Bytes(bytes) => {
+                let (first, rest) = bytes.split_first()?;
+                Some((u32::from(*first), Text::Bytes(rest)))
+            }
+            Text::Chars(text) => {
+                let (first, rest) = first_char(text)?;
+                Some((first, Text::Chars(rest)))
             }
         }
     }
 }
 
-/// Returns whether an item matches no bytes.
-pub(crate) fn may_be_empty(item: Item<'_>) -> bool
-    ensures { (more : List glob.Item) → matches (item_of item.entry ∷ more) [] ≡ (result && matches more []) }
+/// An item of a pattern, beside a letter.
+#[derive(Clone, Copy, Debug)]
+pub(crate) struct Item {
+    /// It is any number of letters.
+    pub(crate) is_many: bool,
+    /// It takes the letter.
+    pub(crate) takes: bool,
+}
+
+/// Returns the first letter of a class with whether it is escaped, and what is left after it, or
+/// `None` if the class ends here.
+fn class_letter(text: Text<'_>) -> Option<((bool, u32), Text<'_>)>
+    ensures is { MatchOption result (class_at (letters_in text.entry) ≡ closing (letters_in text.entry))
+        (λ r. class_at (letters_in text.entry) ≡ with_letter r.0 (class_at (letters_in r.1))) }
+    ensures left { IfSome result (λ r. length (letters_in r.1) < length (letters_in text.entry)) }
 {
-    match item {
-        Item::Many => true,
-        _ => false,
+    let (first, rest) = text.first()?;
+    if first == CLOSE {
+        return None;
     }
+    if first != ESCAPE {
+        return Some(((false, first), rest));
+    }
+    let (escaped, rest) = rest.first()?;
+    Some(((true, escaped), rest))
+}
+
+/// Returns the last letter of a range whose first letter is `from`, and what is left of the class
+/// after it. If no range continues here, that is the first letter itself.
+fn range_end(from: u32, text: Text<'_>) -> (u32, Text<'_>)
+    ensures has { (escaped : Bool) (b : ℕ)
+        → class_has b (with_letter (escaped, from) (class_at (letters_in text.entry)))
+        ≡ add_range from result.0 b (class_has b (class_at (letters_in result.1))) }
+    ensures left { length (letters_in result.1) ≤ length (letters_in text.entry) }
+{
+    let Some(((escaped, dash), after)) = class_letter(text) else {
+        return (from, text);
+    };
+    if escaped {
+        return (from, text);
+    }
+    if dash != DASH {
+        return (from, text);
+    }
+    match class_letter(after) {
+        Some(((_escaped, to), rest)) => (to, rest),
+        None => (from, text),
+    }
+}
+
+/// Returns whether a class has the letter, and what is left after its closing bracket, or `None` if
+/// it has none, or a range without letters.
+fn class_takes(text: Text<'_>, letter: u32) -> Option<(bool, Text<'_>)>
+    ensures { option_map (λ r. (r.0, letters_in r.1)) result
+        ≡ class_has letter (class_at (letters_in text.entry)) }
+{
+    let mut left = text;
+    let mut found = false;
+    while let Some(((_escaped, from), rest)) = class_letter(left) {
+        let (to, more) = range_end(from, rest);
+        if to < from {
+            return None;
+        }
+        found = found | ((from <= letter) & (letter <= to));
+        left = more;
+    }
+    let (close, rest) = left.first()?;
+    (close == CLOSE).then_some((found, rest))
+}
+
+/// Returns a class beside the letter, and what is left of the pattern after it.
+fn class_item(text: Text<'_>, negated: bool, letter: u32) -> Option<(Item, Text<'_>)>
+    ensures { option_map (λ r. ((r.0.is_many, r.0.takes), letters_in r.1)) result
+        ≡ read letter (glob.class_of negated (class_at (letters_in text.entry))) }
+{
+    let _first = class_letter(text)?;
+    let (has, rest) = class_takes(text, letter)?;
+    let item = Item {
+        is_many: false,
+        takes: has != negated,
+    };
+    Some((item, rest))
+}
+
+/// Returns the class behind an opening bracket, beside the letter, and what is left of the pattern
+/// after it.
+fn opened(text: Text<'_>, letter: u32) -> Option<(Item, Text<'_>)>
+    ensures { option_map (λ r. ((r.0.is_many, r.0.takes), letters_in r.1)) result
+        ≡ read letter (glob.opened (letters_in text.entry)) }
+{
+    let (first, rest) = text.first()?;
+    if first == NOT || first == CARET {
+        class_item(rest, true, letter)
+    } else {
+        class_item(text, false, letter)
+    }
+}
+
+/// Returns the first item of a pattern beside the letter, and what is left of the pattern after it.
+pub(crate) fn first_item(pattern: Text<'_>, letter: u32) -> Option<(Item, Text<'_>)>
+    ensures is { option_map (λ r. ((r.0.is_many, r.0.takes), letters_in r.1)) result
+        ≡ read letter (glob.first_item (letters_in pattern.entry)) }
+    ensures left { IfSome result (λ r. length (letters_in r.1) < length (letters_in pattern.entry)) }
+{
+    let (first, rest) = pattern.first()?;
+    let is_many = first == MANY;
+    let takes = match first {
+        MANY | ANY => true,
+        OPEN => return opened(rest, letter),
+        ESCAPE => {
+            let (escaped, rest) = rest.first()?;
+            let takes = escaped == letter;
+            return Some((Item { is_many, takes }, rest));
+        }
+        _ => first == letter,
+    };
+    Some((Item { is_many, takes }, rest))
 }

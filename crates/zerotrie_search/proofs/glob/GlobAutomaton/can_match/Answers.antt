@@ -1,8 +1,8 @@
 use Rattle.std.proofs.Common.{◌∙◌, ap}
 use Rattle.std.proofs.lemmas.Bool.{not-false, eqb-true}
 use Rattle.zerotrie_search.specs.Globs as glob
-use Rattle.zerotrie_search.specs.Globs.{any_match}
-use Rattle.zerotrie_search.proofs.GlobLemmas.{no_marks}
+use Rattle.zerotrie_search.specs.GlobMasks.{any_match}
+use Rattle.zerotrie_search.proofs.MarkLemmas.{no_marks}
 use Rattle.zerotrie_search.proofs.glob.GlobAutomaton.can_match.Goals as goal
 
 pub returns : goal.returns

@@ -1,9 +1,0 @@
-use Rattle.std.proofs.Common.{w64}
-use Rattle.std.proofs.lemmas.Nat.Bits.{bit_at_set_same, bit_at_set_other}
-use Rattle.zerotrie_search.proofs.glob.marked.Goals as goal
-
-pub returns-clause-same : goal.returns-clause-same
-returns-clause-same c = bit_at_set_same w64 c.args.marks c.args.place c.requires
-
-pub returns-clause-other : goal.returns-clause-other
-returns-clause-other c i other = bit_at_set_other w64 c.args.marks c.args.place c.requires i other

@@ -1,0 +1,91 @@
+-- Patterns as masks: a bit for each item, and one for the end.
+use Rattle.std.specs.Prelude.{◌≡◌, ◌<◌, ℕ, List, [], ◌∷◌, ◌==◌, ◌&&◌, ◌||◌, length, drop, nat_le, slice_index, Bool, true, false, Option, Some, None, if◌then◌else◌}
+use Rattle.std.specs.Int.{bit_at}
+use Rattle.std.specs.Str.{chars}
+use Rattle.std.proofs.Common.{suc}
+use Rattle.zerotrie_search.specs.Globs as glob
+use Rattle.zerotrie_search.specs.Globs.{Item, Class, matches, rises, has, is_within, takes}
+use Rattle.zerotrie_search.specs.declared.glob.pattern.Text.{Text}
+use Rattle.zerotrie_search.specs.declared.glob.pattern.Text.TheVariants.{Bytes, Chars}
+
+-- the letters of a text
+abbrev pub letters_in : Text → List ℕ
+letters_in (Bytes bytes) = bytes.now
+letters_in (Chars text) = chars text.now
+
+-- what is left behind a closing bracket
+abbrev pub closing : List ℕ → Class
+closing [] = None
+closing (c ∷ text) = if c == 93 then Some ([], text) else None
+
+-- whether a class has a letter, and what is left behind it; its ranges rise
+abbrev pub class_has : ℕ → Class → Option (Bool × List ℕ)
+class_has b None = None
+class_has b (Some c) = if rises c.0 then Some (has c.0 b, c.1) else None
+
+-- the same of a class with a range in front
+abbrev pub add_range : ℕ → ℕ → ℕ → Option (Bool × List ℕ) → Option (Bool × List ℕ)
+add_range from to b None = None
+add_range from to b (Some r) = if nat_le from to then Some (is_within from to b || r.0, r.1) else None
+
+-- and of one whose letters in front have it
+abbrev pub or_found : Bool → Option (Bool × List ℕ) → Option (Bool × List ℕ)
+or_found found None = None
+or_found found (Some r) = Some (found || r.0, r.1)
+
+-- whether an item is a star
+abbrev pub is_many : Item → Bool
+is_many glob.many = true
+is_many i = false
+
+-- whether the first item is a star; whether it takes a letter, and what is left after it
+abbrev pub read : ℕ → glob.Reading → Option ((Bool × Bool) × List ℕ)
+read b None = None
+read b (Some r) = Some ((is_many r.0, takes r.0 b), r.1)
+
+-- what has to match after an item took a letter: a star may take more
+abbrev pub after : Item → List Item → List ℕ → Bool
+after glob.many more key = matches (glob.many ∷ more) key
+after i more key = matches more key
+
+-- the same of the first of some items
+abbrev pub after_first : List Item → List ℕ → Bool
+after_first [] key = false
+after_first (i ∷ more) key = after i more key
+
+-- whether items match a key whose first letter the first of them takes; none match the empty key
+abbrev pub takes_on : List Item → List ℕ → Bool
+takes_on [] [] = true
+takes_on [] (b ∷ key) = false
+takes_on (i ∷ more) [] = false
+takes_on (i ∷ more) (b ∷ key) = takes i b && after i more key
+
+-- Whether some items from a place that is marked on match a key so. A mark is a bit, and the first of
+-- the items is at this place.
+abbrev pub any_match : ℕ → ℕ → List Item → List ℕ → Bool
+any_match marks place [] key = (bit_at marks place == 1) && takes_on [] key
+any_match marks place (i ∷ more) key =
+    ((bit_at marks place == 1) && takes_on (i ∷ more) key) || any_match marks (suc place) more key
+
+-- 1 if the first item is a star
+abbrev pub star_at : List Item → ℕ
+star_at [] = 0
+star_at (i ∷ more) = if is_many i then 1 else 0
+
+-- 1 if the first item takes the letter
+abbrev pub taken_at : List Item → ℕ → ℕ
+taken_at [] b = 0
+taken_at (i ∷ more) b = if takes i b then 1 else 0
+
+-- the mask has the items that are stars
+abbrev pub AreStars : List Item → ℕ → Type 0
+AreStars items mask = (place : ℕ) → place < length items → bit_at mask place ≡ star_at (drop place items)
+
+-- the mask has the items that take a letter
+abbrev pub AreTakers : List Item → ℕ → ℕ → Type 0
+AreTakers items b mask = (place : ℕ) → bit_at mask place ≡ taken_at (drop place items) b
+
+-- the masks have the places after each item
+abbrev pub AreFollowers : List Item → List ℕ → Type 0
+AreFollowers items follow = (place : ℕ) → place < length items → (key : List ℕ)
+    → any_match (slice_index follow place) 0 items key ≡ after_first (drop place items) key

@@ -1,0 +1,101 @@
+//! Automata over keys as a kind compares them.
+
+ghost use Rattle.std.specs.Prelude.{◌≡◌, ℕ, map, false};
+ghost use Rattle.std.specs.Char.{to_ascii_lowercase};
+ghost use Rattle.zerotrie_base.specs.Kind.{fold_byte};
+ghost use Rattle.zerotrie_base.specs.Kinds.{kind_of};
+ghost use Rattle.zerotrie_core.specs.ByteSets.{is_in};
+
+use crate::automaton::Automaton;
+use zerotrie_core::{ByteSet, TrieKind, by_kind, folded};
+
+/// Returns a byte as the kind compares it: an ASCII letter in lower case if the kind ignores case.
+#[inline(always)]
+fn folded_by(kind: TrieKind, byte: u8) -> u8
+    ensures { result ≡ fold_byte (kind_of kind) byte }
+{
+    by_kind!(kind, folded::<_>(byte))
+}
+
+/// Makes each byte the one as which the kind compares it: an ASCII letter is in lower case if the kind
+/// ignores case.
+///
+/// ```
+/// let mut word = *b"Trie";
+/// fold_by(TrieKind::Ignore, &mut word);
+/// assert_eq!(rt; word, *b"trie");
+/// ```
+pub fn fold_by(kind: TrieKind, bytes: &mut [u8])
+    ensures { bytes.new ≡ map (fold_byte (kind_of kind)) bytes.old }
+{
+    match kind {
+        TrieKind::Ignore => bytes.make_ascii_lowercase(),
+        TrieKind::Simple | TrieKind::Hash | TrieKind::Ext => {}
+    }
+}
+
+/// Accepts the keys that the automaton accepts once each byte is as a kind compares it: with ASCII
+/// letters in lower case in the kind that ignores case, and the key itself in another.
+///
+/// ```
+/// let mut word = *b"Tr";
+/// fold_by(TrieKind::Ignore, &mut word);
+/// let automaton = ByKind(TrieKind::Ignore, StartsWith(&word));
+/// let mut state = automaton.start();
+/// for byte in b"TRIE" {
+///     state = automaton.step(state, *byte);
+/// }
+/// assert!(rt; automaton.is_match(state));
+/// ```
+///
+/// So give the automaton a word, a pattern or bounds that `fold_by` made.
+#[derive(Clone, Copy, Debug)]
+pub struct ByKind<S>(pub TrieKind, pub S);
+
+/// Returns a set with the letters in upper case whose lower case is in it.
+fn with_upper_case(set: &ByteSet) -> ByteSet
+    ensures { (byte : ℕ) → is_in result byte ≡ false → is_in set.now (to_ascii_lowercase byte) ≡ false }
+{
+    let mut both = *set;
+    for letter in 65..91_usize {
+        if set.has(letter as u8 + 32) {
+            both.insert(letter as u8);
+        }
+    }
+    both
+}
+
+impl<S: Automaton> Automaton for ByKind<S> {
+    type State = S::State;
+
+    ghost accepts = { λ s key. S.accepts s.1 (map (fold_byte (kind_of s.0)) key) };
+
+    ghost accepts_from = { λ s state key.
+        S.accepts_from s.1 state (map (fold_byte (kind_of s.0)) key) };
+
+    ghost IsAfter = { λ s front state. S.IsAfter s.1 (map (fold_byte (kind_of s.0)) front) state };
+
+    fn start(&self) -> S::State {
+        self.1.start()
+    }
+
+    fn step(&self, state: S::State, byte: u8) -> S::State {
+        self.1.step(state, folded_by(self.0, byte))
+    }
+
+    fn is_match(&self, state: S::State) -> bool {
+        self.1.is_match(state)
+    }
+
+    fn can_match(&self, state: S::State) -> bool {
+        self.1.can_match(state)
+    }
+
+    fn wanted(&self, state: S::State) -> Option<ByteSet> {
+        let wanted = self.1.wanted(state)?;
+        match self.0 {
+            TrieKind::Ignore => Some(with_upper_case(&wanted)),
+            TrieKind::Simple | TrieKind::Hash | TrieKind::Ext => Some(wanted),
+        }
+    }
+}
