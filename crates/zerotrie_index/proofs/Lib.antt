@@ -1,8 +1,10 @@
 mod AscendLemmas
 mod BucketLemmas
+mod CrowdLemmas
 mod HashLemmas
 mod LentLemmas
 mod PermutedLemmas
+mod PlacedLemmas
 mod RecordLemmas
 mod RepeatLemmas
 mod WordLemmas

@@ -68,10 +68,11 @@ CauseWith Crowd pairs OutOfMemory = Unit {0}
 abbrev pub IndexCause : ℕ → Pairs → ZeroIndexBuildError → Type 0
 IndexCause first pairs e = CauseWith ((k : ℕ) → k < seeds_tried → IsCrowded ((first + k * golden) % 2 ^ 64) (bucket_count pairs) pairs) pairs e
 
--- the bytes are an index of the pairs by one of the seeds that a build tries, in the buckets that it takes
+-- the bytes are an index of the pairs in the buckets that a build takes, by the first of its seeds that does not crowd them
 abbrev pub IsIndexFrom : ℕ → Pairs → List ℕ → Type 0
 IsIndexFrom first given bytes = IsIndexOf given bytes
     × (k : ℕ) × (k < seeds_tried) × IsLaidOut ((first + k * golden) % 2 ^ 64) (bucket_count given) given bytes
+    × ((j : ℕ) → j < k → IsCrowded ((first + j * golden) % 2 ^ 64) (bucket_count given) given)
 
 -- the result is an index of the pairs, or an error whose cause holds
 abbrev pub IsIndexBuild : {B : Type 0} → ℕ → (B → List ℕ) → Pairs → Result B ZeroIndexBuildError → Type 0
@@ -101,6 +102,7 @@ abbrev pub AnswersAsGiven : Type 0
 AnswersAsGiven = (given pairs : Pairs) → (RepeatsKey pairs → ⊥) → IsPermutation given pairs → (key : List ℕ)
     → value_at simple_ascii pairs key ≡ value_at simple_ascii given key
 
--- pairs of an index have no key twice, and their records fewer than 2 ^ 32 bytes
+-- pairs of an index have no key twice, and their records fewer than 2 ^ 32 bytes; under its seed they crowd none of its buckets
 abbrev pub IndexExcludesCauses : Type 0
 IndexExcludesCauses = (given : Pairs) (bytes : List ℕ) → IsIndexOf given bytes → (RepeatsKey given → ⊥) × (records_size given < 2 ^ 32)
+    × ((seed count : ℕ) → seed < 2 ^ 64 → IsLaidOut seed count given bytes → IsCrowded seed count given → ⊥)

@@ -1,5 +1,5 @@
 -- The hash of a key, on which its bucket and its mark depend.
-use Rattle.std.specs.Prelude.{ℕ, zero, suc, ◌+◌, ◌-◌, ◌*◌, ◌/◌, ◌%◌, ◌^◌, List, length, drop, bit_xor}
+use Rattle.std.specs.Prelude.{ℕ, zero, suc, ◌-◌, ◌*◌, ◌/◌, ◌%◌, ◌^◌, List, length, drop, bit_xor}
 use Rattle.std.specs.Int.{from_le_bytes, rotate_left, w64}
 
 -- the first 64 bits of the fraction of pi

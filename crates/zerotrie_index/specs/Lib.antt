@@ -1,5 +1,6 @@
 pub mod Hash
 pub mod Layout
+pub mod Placed
 pub mod Hashed
 pub mod Built
 pub mod Valid

@@ -23,7 +23,7 @@ fn fold(a: u64, b: u64) -> u64
 /// Returns the number in the eight bytes from a place on, the lowest first.
 #[inline(always)]
 #[tactic(auto, unfolding(crate::specs::Hash::eight_at))]
-fn eight_at(bytes: &[u8], place: usize) -> u64
+pub(crate) fn eight_at(bytes: &[u8], place: usize) -> u64
     requires { place + 8 ≤ length bytes.now }
     ensures { result ≡ eight_at bytes.now place }
 {

@@ -7,7 +7,8 @@ pub fn built_answers_as_given()
     ensures { AnswersAsGiven }
 {}
 
-/// Pairs that have an index have no cause of `DuplicateKey` and none of `CapacityExceeded`.
+/// Pairs that have an index have no cause of `DuplicateKey` and none of `CapacityExceeded`, and
+/// its seed crowds none of its buckets.
 pub fn index_excludes_causes()
     ensures { IndexExcludesCauses }
 {}

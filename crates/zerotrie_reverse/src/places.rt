@@ -92,19 +92,21 @@ pub(crate) fn sorted_places<K: ZeroTrieWithOptions>(
     Ok(Some(places))
 }
 
-/// Returns how many places have lower values, of places in the order of their values.
+/// Returns how many places have lower values, of places in the order of their values. Of other
+/// places the result is unspecified.
 fn first_from(bytes: &[u8], places: &[u32], value: usize) -> usize
-    requires { IsNonDecreasingBy (value_at bytes.now) places.now }
-    ensures { IsPartitionPoint (λ place. value_at bytes.now place < value)
+    ensures { IsNonDecreasingBy (value_at bytes.now) places.now
+        → IsPartitionPoint (λ place. value_at bytes.now place < value)
         (λ place. value ≤ value_at bytes.now place) places.now result }
 {
     places.partition_point(|place| value_at(bytes, *place as usize) < value)
 }
 
-/// Returns the first place that has this value, of places in the order of their values.
+/// Returns the first place that has this value, of places in the order of their values. Of other
+/// places the result is unspecified.
 pub(crate) fn first_place_of(bytes: &[u8], places: &[u32], value: usize) -> Option<u32>
-    requires { IsNonDecreasingBy (value_at bytes.now) places.now }
-    ensures { result ≡ find (λ place. value_at bytes.now place == value) places.now }
+    ensures { IsNonDecreasingBy (value_at bytes.now) places.now
+        → result ≡ find (λ place. value_at bytes.now place == value) places.now }
 {
     let place = places.get(first_from(bytes, places, value))?;
     if value_at(bytes, *place as usize) == value {

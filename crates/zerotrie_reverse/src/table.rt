@@ -1,7 +1,7 @@
 //! The table of places that reverse look-ups use.
 
-ghost use Rattle.std.specs.Prelude.{◌≡◌, ◌≤◌, ◌⊎◌, length, IfOk};
-ghost use Rattle.std.specs.Option.{option_map};
+ghost use Rattle.std.specs.Prelude.{◌≡◌, ◌≤◌, ◌⊎◌, length, IfOk, IfSome};
+ghost use Rattle.std.specs.Option.{option_map, option_map_or};
 ghost use Rattle.zerotrie_core.specs.Kind.{kind_with};
 ghost use Rattle.zerotrie_core.specs.Maps.{Pairs};
 ghost use Rattle.zerotrie_core.specs.Texts.{Lists};
@@ -118,8 +118,8 @@ fn found(
     places: &[u32],
     value: usize,
 ) -> Result<Option<Vec<u8>>, AllocError>
-    requires { IsTable (kind_with options) bytes.now places.now }
-    ensures { (pairs : Pairs) → Lists (kind_with options) bytes.now pairs
+    ensures { IsTable (kind_with options) bytes.now places.now
+        → (pairs : Pairs) → Lists (kind_with options) bytes.now pairs
         → IfOk result (λ key. option_map (λ k. k.items) key ≡ first_key_of value pairs) }
 {
     match first_place_of(bytes, places, value) {
@@ -129,6 +129,38 @@ fn found(
             Ok(Some(key))
         }
     }
+}
+
+/// Returns the first key that has a value, by the places of a table that was kept apart from it.
+///
+/// ```
+/// // the keys "a", "b" and "c" with values 5, 6 and 5
+/// let bytes = b"\xC3abc\x01\x02\x85\x86\x85";
+/// let table = KeysByValue::new::<Simple>(rt.alloc(), bytes)?;
+/// let places = table.places().ok_or("no places")?;
+/// let key = first_key_by_places::<Simple>(rt.alloc(), bytes, places, 6)?.ok_or("no key")?;
+/// assert_eq!(rt; key.as_slice(), b"b".as_slice());
+/// ```
+///
+/// Places that are no table of these bytes do no harm, but the result is unspecified. The only error
+/// is a failed allocation.
+pub fn first_key_by_places<K: ZeroTrieWithOptions>(
+    alloc: Global,
+    bytes: &[u8],
+    places: &[u32],
+    value: usize,
+) -> Result<Option<Vec<u8>>, AllocError>
+    ensures { IsTable K.kind bytes.now places.now
+        → (pairs : Pairs) → Lists K.kind bytes.now pairs
+        → IfOk result (λ key. option_map (λ k. k.items) key ≡ first_key_of value pairs) }
+{
+    found(
+        ZeroTrieBuilderOptions::of::<K>(),
+        alloc,
+        bytes,
+        places,
+        value,
+    )
 }
 
 impl<'a> KeysByValue<'a> {
@@ -176,6 +208,19 @@ impl<'a> KeysByValue<'a> {
         ensures { result.now ≡ self.now.bytes }
     {
         self.bytes
+    }
+
+    /// Returns the places, in the order of their values, by which `first_key_by_places` finds keys.
+    /// Returns `None` if look-ups read the pairs.
+    pub fn places(&self) -> Option<&[u32]>
+        ensures table { IfSome result (λ places.
+            IsTable self.now.kind self.now.bytes places.now) }
+        ensures size { self.now.size ≡ option_map_or (λ places. length places.now) result 0 }
+    {
+        match &self.places {
+            Some(places) => Some(places.as_slice()),
+            None => None,
+        }
     }
 
     /// Returns how many places the table has, of four bytes each: the number of pairs, or 0 if

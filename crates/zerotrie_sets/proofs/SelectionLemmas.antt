@@ -1,7 +1,7 @@
 -- What is selected of any number of maps.
-use Rattle.std.proofs.Common.{◌≡◌, ◌≢◌, ◌+◌, ◌<◌, ◌≤◌, ◌⊎◌, inl, inr, ℕ, List, [], ◌∷◌, ◌++◌, map, fold, length, take, drop, get_or, zero, suc, Option, Some, None, Bool, true, false, refl, sym, ap, subst, ◌∙◌, arith, cond, length-append}
-use Rattle.std.specs.Prelude.{◌^◌, is_some, if◌then◌else◌, ◌||◌, ◌↔◌}
-use Rattle.std.specs.List.{list_any, filter_map, reduce}
+use Rattle.std.proofs.Common.{◌≡◌, ◌+◌, ◌<◌, ◌≤◌, ◌⊎◌, inl, inr, ℕ, List, [], ◌∷◌, ◌++◌, map, fold, length, take, drop, get_or, zero, suc, Option, Some, None, Bool, true, false, refl, sym, ap, subst, ◌∙◌, arith, cond, length-append}
+use Rattle.std.specs.Prelude.{is_some, if◌then◌else◌, ◌↔◌}
+use Rattle.std.specs.List.{list_any}
 use Rattle.std.specs.Ordering.{nat_cmp, is_eq, ordering_reverse}
 use Rattle.std.specs.Cmp.Lexicographic.{slice_cmp}
 use Rattle.std.proofs.lemmas.List.Elements.{filter_map-append}
@@ -12,15 +12,15 @@ use Rattle.zerotrie_core.specs.Maps.{Pairs}
 use Rattle.zerotrie_sets.specs.Inputs.{listed}
 use Rattle.zerotrie_sets.specs.ManyInputs.{listed_all}
 use Rattle.zerotrie_sets.specs.declared.input.Input.{Input}
-use Rattle.zerotrie_sets.specs.Merges.{Entries, if_some, value_of, FirstKeyAbove, KeysAscend}
-use Rattle.zerotrie_sets.specs.Rows.{Values, all_joined, values_of, EachAscends, IsMergeAll}
+use Rattle.zerotrie_sets.specs.Merges.{Entries, value_of, FirstKeyAbove, KeysAscend}
+use Rattle.zerotrie_sets.specs.Rows.{Values, all_joined, EachAscends}
 use Rattle.zerotrie_sets.specs.Selections.{present, one_of_two, as_one, is_taken, selected, selected_rows, one_more, IsSmall, HasNoTwo, IsNoOne, IsNoNext, IsRuleError, IsSelection, IsSelectionError, SomeRowErrs}
 use Rattle.zerotrie_sets.specs.declared.selection.Selection.{Selection}
 use Rattle.zerotrie_sets.specs.declared.selection.Rule.{Rule}
 use Rattle.zerotrie_sets.specs.declared.selection.Rule.TheVariants.{Sum, Refuse}
 use Rattle.zerotrie_sets.specs.declared.selection.RuleError.{RuleError}
 use Rattle.zerotrie_sets.specs.declared.selection.RuleError.TheVariants.{SeveralValues, SumTooLarge}
-use Rattle.zerotrie_sets.proofs.MergeLemmas.{Below, Tied, same, other, tied, total, first_above, none_there, at_first, chosen_above, chosen_ascends, value_same, value_other, pairs_ascend}
+use Rattle.zerotrie_sets.proofs.MergeLemmas.{Below, same, other, tied, total, first_above, none_there, at_first, chosen_above, chosen_ascends, value_same, value_other, pairs_ascend}
 use Rattle.zerotrie_sets.proofs.RowLemmas.{rows_of_all}
 
 -- ---- one value of many

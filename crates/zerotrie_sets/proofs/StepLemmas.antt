@@ -1,10 +1,9 @@
 -- A step of a merge of many: the least key that waits is listed in each input that has it.
-use Rattle.std.proofs.Common.{◌≡◌, ℕ, List, [], ◌∷◌, map, length, ◌⊎◌, inl, inr, Option, Some, None, true, false, refl, sym, ap, ◌∙◌, subst, Less, Equal, Greater}
-use Rattle.std.proofs.Common.{suc}
+use Rattle.std.proofs.Common.{◌≡◌, ℕ, List, [], ◌∷◌, map, length, ◌⊎◌, inl, inr, Option, Some, None, true, false, refl, sym, ap, ◌∙◌, subst, Equal, Greater}
+use Rattle.std.proofs.Common.{zero, suc, Bool}
 use Rattle.std.specs.Prelude.{if◌then◌else◌}
 use Rattle.std.specs.Option.{unwrap_or}
 use Rattle.std.specs.Ordering.{nat_cmp, is_lt, is_eq, ordering_reverse}
-use Rattle.std.specs.declared.cmp.Ordering.{Ordering}
 use Rattle.std.specs.Cmp.{tied_itself}
 use Rattle.std.specs.Cmp.Lexicographic.{slice_cmp, nat_list_cmp_total}
 use Rattle.zerotrie_core.specs.Maps.{Pairs}
@@ -12,17 +11,12 @@ use Rattle.zerotrie_core.specs.Listings.{Left}
 use Rattle.zerotrie_sets.specs.Merges.{Entries, joined, chosen, FirstKeyAbove}
 use Rattle.zerotrie_sets.specs.Rows.{Values, nothing, row, all_joined}
 use Rattle.zerotrie_sets.specs.Inputs.{pending, listed}
-use Rattle.zerotrie_sets.specs.ManyInputs.{IsFetched, AllFetched, held_after, after_key, lesser_key, waiting_key, least_key, listed_all, pendings}
+use Rattle.zerotrie_sets.specs.ManyInputs.{IsFetched, AllFetched, NotBelow, IsAbove, AllNotBelow, NoneWaits, IsLeastAt, waits, held_after, after_key, waiting_key, listed_all, pendings}
 use Rattle.zerotrie_sets.specs.declared.input.Input.{Input}
 use Rattle.zerotrie_sets.specs.declared.input.Held.{Held}
 use Rattle.zerotrie_sets.specs.declared.input.Held.TheVariants.{Listed, Waiting, Over}
 use Rattle.zerotrie_sets.proofs.MergeLemmas.{Below, compared, same_key, above_turned, joined_less, joined_equal, joined_greater}
 use Rattle.zerotrie_sets.proofs.MergeLemmas.Compared.{less, equal, greater}
-
--- a key is not below another, if there is one
-abbrev NotBelow : List ℕ → Option (List ℕ) → Type 0
-NotBelow k None = Unit {0}
-NotBelow k (Some l) = is_lt (slice_cmp nat_cmp l k) ≡ false
 
 true_false : true ≡ false → ⊥
 true_false h = cc
@@ -34,46 +28,11 @@ above_not_below k a b below h = elim (compared a k) [
   | greater e ↦ ap is_lt e
 ]
 
--- the lesser of two keys, as they compare
-lesser_second : (a b : List ℕ) → slice_cmp nat_cmp b a ≡ Less → lesser_key (Some a) (Some b) ≡ Some b
-lesser_second a b e = ap (λ o. if is_lt o then Some b else Some a) e
-
-lesser_first : (a b : List ℕ) (o : Ordering) → is_lt o ≡ false → slice_cmp nat_cmp b a ≡ o → lesser_key (Some a) (Some b) ≡ Some a
-lesser_first a b o h e = ap (λ o. if is_lt o then Some b else Some a) e ∙ ap (λ c. if c then Some b else Some a) h
-
-lesser_from : (k : List ℕ) (o w : Option (List ℕ)) → NotBelow k (lesser_key o w) → NotBelow k o × NotBelow k w
-lesser_from k None w h = (tt, h)
-lesser_from k (Some a) None h = (h, tt)
-lesser_from k (Some a) (Some b) h = elim (compared b a) [
-  | less e ↦ let at_b = subst (NotBelow k) (lesser_second a b e) h in (above_not_below k a b e at_b, at_b)
-  | equal e ↦ let at_a = subst (NotBelow k) (lesser_first a b Equal refl e) h in
-      (at_a, subst (λ l. is_lt (slice_cmp nat_cmp l k) ≡ false) (sym (same_key b a e)) at_a)
-  | greater e ↦ let at_a = subst (NotBelow k) (lesser_first a b Greater refl e) h in (at_a, above_not_below k b a (above_turned b a e) at_a)
-]
-
-lesser_one : (k : List ℕ) (o w : Option (List ℕ)) → lesser_key o w ≡ Some k → (o ≡ Some k) ⊎ (w ≡ Some k)
-lesser_one k None w h = inr h
-lesser_one k (Some a) None h = inl h
-lesser_one k (Some a) (Some b) h = elim (compared b a) [
-  | less e ↦ inr (sym (lesser_second a b e) ∙ h)
-  | equal e ↦ inl (sym (lesser_first a b Equal refl e) ∙ h)
-  | greater e ↦ inl (sym (lesser_first a b Greater refl e) ∙ h)
-]
-
 some_none : {A : Type 0} (a : A) → Some a ≡ None → ⊥
 some_none a h = cc
 
 none_some : {A : Type 0} (a : A) → None ≡ Some a → ⊥
 none_some a h = cc
-
-lesser_none : (o w : Option (List ℕ)) → lesser_key o w ≡ None → (o ≡ None) × (w ≡ None)
-lesser_none None w h = (refl, h)
-lesser_none (Some a) None h = absurd (some_none a h)
-lesser_none (Some a) (Some b) h = elim (compared b a) [
-  | less e ↦ absurd (some_none b (sym (lesser_second a b e) ∙ h))
-  | equal e ↦ absurd (some_none a (sym (lesser_first a b Equal refl e) ∙ h))
-  | greater e ↦ absurd (some_none a (sym (lesser_first a b Greater refl e) ∙ h))
-]
 
 -- what becomes of the pairs of one input as the key is listed: its value is taken, or the key is below its first one
 data TakesOrStays (k : List ℕ) (pairs : Pairs) (value : Option ℕ) (after : Pairs) : Type 0 where
@@ -164,47 +123,11 @@ tail_of [] = []
 tail_of (o ∷ values) = values
 
 module _ {S : Type 0} (left : S → Left) (current : S → List ℕ × ℕ) where
-  abbrev AllNotBelow : List ℕ → List (Input S) → Type 0
-  AllNotBelow k [] = Unit {0}
-  AllNotBelow k (i ∷ inputs) = NotBelow k (waiting_key i.held (current i.stream).0) × AllNotBelow k inputs
-
   abbrev HasKey : List ℕ → List (Input S) → Type 0
   HasKey k [] = ⊥
   HasKey k (i ∷ inputs) = (waiting_key i.held (current i.stream).0 ≡ Some k) ⊎ HasKey k inputs
 
-  abbrev NoneWaits : List (Input S) → Type 0
-  NoneWaits [] = Unit {0}
-  NoneWaits (i ∷ inputs) = (waiting_key i.held (current i.stream).0 ≡ None) × NoneWaits inputs
-
-  least_from : (k : List ℕ) (o : Option (List ℕ)) (inputs : List (Input S)) → least_key current o inputs ≡ Some k → NotBelow k o × AllNotBelow k inputs
-  least_from k o [] h = (subst (NotBelow k) (sym h) (ap is_lt (tied_itself nat_list_cmp_total k)), tt)
-  least_from k o (i ∷ inputs) h =
-      let w = waiting_key i.held (current i.stream).0 in
-      let more = least_from k (lesser_key o w) inputs h in
-      let two = lesser_from k o w more.0 in
-      (two.0, (two.1, more.1))
-
-  least_has : (k : List ℕ) (o : Option (List ℕ)) (inputs : List (Input S)) → least_key current o inputs ≡ Some k → (o ≡ Some k) ⊎ HasKey k inputs
-  least_has k o [] h = inl h
-  least_has k o (i ∷ inputs) h =
-      let w = waiting_key i.held (current i.stream).0 in
-      elim (least_has k (lesser_key o w) inputs h) [
-        | inl e ↦ elim (lesser_one k o w e) [
-          | inl first ↦ inl first
-          | inr this ↦ inr (inl this)
-        ]
-        | inr more ↦ inr (inr more)
-      ]
-
-  least_none : (o : Option (List ℕ)) (inputs : List (Input S)) → least_key current o inputs ≡ None → (o ≡ None) × NoneWaits inputs
-  least_none o [] h = (h, tt)
-  least_none o (i ∷ inputs) h =
-      let w = waiting_key i.held (current i.stream).0 in
-      let more = least_none (lesser_key o w) inputs h in
-      let two = lesser_none o w more.0 in
-      (two.0, (two.1, more.1))
-
-  nothing_left : (inputs : List (Input S)) → AllFetched inputs → NoneWaits inputs → all_joined (pendings left current inputs) ≡ []
+  nothing_left : (inputs : List (Input S)) → AllFetched inputs → NoneWaits current inputs → all_joined (pendings left current inputs) ≡ []
   nothing_left [] fetched none = refl
   nothing_left (i ∷ inputs) fetched none =
       let more = nothing_left inputs fetched.1 none.1 in
@@ -221,7 +144,7 @@ module _ {S : Type 0} (left : S → Left) (current : S → List ℕ × ℕ) wher
   same_length k [] = refl
   same_length k (i ∷ inputs) = ap (λ n. suc n) (same_length k inputs)
 
-  of_inputs : (k : List ℕ) (inputs : List (Input S)) → AllFetched inputs → AllNotBelow k inputs
+  of_inputs : (k : List ℕ) (inputs : List (Input S)) → AllFetched inputs → AllNotBelow current k inputs
       → TakesRow k (length (pendings left current inputs)) (all_joined (pendings left current inputs))
       (listed_all current (map (after_key current k) inputs)) (all_joined (pendings left current (map (after_key current k) inputs)))
   of_inputs k [] fetched from = stays_row tt refl refl
@@ -241,27 +164,40 @@ module _ {S : Type 0} (left : S → Left) (current : S → List ℕ × ℕ) wher
   some_listed k (i ∷ inputs) (inl e) h = is_listed k i.held (current i.stream) e (ap head_of h)
   some_listed k (i ∷ inputs) (inr more) h = some_listed k inputs more (ap tail_of h)
 
-  ends : (inputs : List (Input S)) → AllFetched inputs → least_key current None inputs ≡ None → all_joined (pendings left current inputs) ≡ []
-  ends inputs fetched none = nothing_left inputs fetched (least_none None inputs none).1
-
-  steps : (k : List ℕ) (inputs : List (Input S)) → AllFetched inputs → least_key current None inputs ≡ Some k
+  steps : (k : List ℕ) (inputs : List (Input S)) → AllFetched inputs → AllNotBelow current k inputs → HasKey k inputs
       → all_joined (pendings left current inputs)
       ≡ (k, listed_all current (map (after_key current k) inputs)) ∷ all_joined (pendings left current (map (after_key current k) inputs))
-  steps k inputs fetched least =
-      elim (of_inputs k inputs fetched (least_from k None inputs least).1) [
+  steps k inputs fetched from has =
+      elim (of_inputs k inputs fetched from) [
         | takes_row e ↦ e
-        | stays_row above none same ↦ absurd (elim (least_has k None inputs least) [
-          | inl e ↦ none_some k e
-          | inr has ↦ some_listed k inputs has none
-        ])
+        | stays_row above none same ↦ absurd (some_listed k inputs has none)
       ]
 
-  -- the same, once the inputs were fetched and the key was listed
-  pub steps_from : (k : List ℕ) (before : List Pairs) (fetched after : List (Input S)) → AllFetched fetched × (pendings left current fetched ≡ before) → least_key current None fetched ≡ Some k
-      → after ≡ map (after_key current k) fetched → all_joined before ≡ (k, listed_all current after) ∷ all_joined (pendings left current after)
-  steps_from k before fetched after is least listed =
-      subst (λ lists. all_joined lists ≡ (k, listed_all current after) ∷ all_joined (pendings left current after)) is.1
-      (subst (λ inputs. all_joined (pendings left current fetched) ≡ (k, listed_all current inputs) ∷ all_joined (pendings left current inputs)) (sym listed) (steps k fetched is.0 least))
+  not_below : (k : List ℕ) (o : Option (List ℕ)) → IsAbove k o → NotBelow k o
+  not_below k None above = tt
+  not_below k (Some l) above = ap is_lt (turned k l above)
 
-  pub ends_from : (before : List Pairs) (fetched : List (Input S)) → AllFetched fetched × (pendings left current fetched ≡ before) → least_key current None fetched ≡ None → all_joined before ≡ []
-  ends_from before fetched is none = subst (λ lists. all_joined lists ≡ []) is.1 (ends fetched is.0 none)
+  not_itself : (k : List ℕ) (o : Option (List ℕ)) → o ≡ Some k → NotBelow k o
+  not_itself k o e = subst (NotBelow k) (sym e) (ap is_lt (tied_itself nat_list_cmp_total k))
+
+  least_from : (k : List ℕ) (alone : Bool) (at : ℕ) (inputs : List (Input S)) → IsLeastAt current k alone at inputs → AllNotBelow current k inputs
+  least_from k alone at [] is = absurd is
+  least_from k alone zero (i ∷ inputs) is = (not_itself k (waits current i) is.0, is.1.0)
+  least_from k alone (suc at) (i ∷ inputs) is = (not_below k (waits current i) is.0, least_from k alone at inputs is.1)
+
+  least_has : (k : List ℕ) (alone : Bool) (at : ℕ) (inputs : List (Input S)) → IsLeastAt current k alone at inputs → HasKey k inputs
+  least_has k alone at [] is = absurd is
+  least_has k alone zero (i ∷ inputs) is = inl is.0
+  least_has k alone (suc at) (i ∷ inputs) is = inr (least_has k alone at inputs is.1)
+
+  -- the same, once the inputs were fetched and the key was listed
+  pub steps_from : (k : List ℕ) (alone : Bool) (at : ℕ) (before : List Pairs) (fetched after : List (Input S)) → AllFetched fetched × (pendings left current fetched ≡ before)
+      → IsLeastAt current k alone at fetched → after ≡ map (after_key current k) fetched
+      → all_joined before ≡ (k, listed_all current after) ∷ all_joined (pendings left current after)
+  steps_from k alone at before fetched after is least listed =
+      subst (λ lists. all_joined lists ≡ (k, listed_all current after) ∷ all_joined (pendings left current after)) is.1
+      (subst (λ inputs. all_joined (pendings left current fetched) ≡ (k, listed_all current inputs) ∷ all_joined (pendings left current inputs)) (sym listed)
+      (steps k fetched is.0 (least_from k alone at fetched least) (least_has k alone at fetched least)))
+
+  pub ends_from : (before : List Pairs) (fetched : List (Input S)) → AllFetched fetched × (pendings left current fetched ≡ before) → NoneWaits current fetched → all_joined before ≡ []
+  ends_from before fetched is none = subst (λ lists. all_joined lists ≡ []) is.1 (nothing_left fetched is.0 none)

@@ -1,13 +1,11 @@
 -- Streams of pairs and of rows: their states, and the result of a call of `advance`.
-use Rattle.std.specs.Prelude.{◌≡◌, ℕ, ◌+◌, List, [], ◌∷◌, length, Bool, true, false, if◌then◌else◌, Option, Some, None, Result, Ok, Err}
+use Rattle.std.specs.Prelude.{◌≡◌, ℕ, ◌+◌, List, [], ◌∷◌, length, Bool, true, false, if◌then◌else◌, Result, Ok, Err}
 use Rattle.std.specs.List.{slice_get}
 use Rattle.std.specs.Option.{option_map_or}
 use Rattle.zerotrie_core.specs.Maps.{Pairs}
 use Rattle.zerotrie_core.specs.Items.{Items}
 use Rattle.zerotrie_core.specs.Listings.{Left, to_come, over}
 use Rattle.std.specs.declared.alloc.AllocError.{AllocError}
-use Rattle.zerotrie_core.specs.declared.listing.ListError.{ListError}
-use Rattle.zerotrie_core.specs.declared.listing.ListError.TheVariants.{OutOfMemory}
 
 -- the state of a stream: the current pair, and what is left
 pub record Stand : Type 0 where

@@ -1,6 +1,6 @@
 //! Any number of streams merged: a row for each key of any of them.
 
-ghost use Rattle.std.specs.Prelude.{◌≡◌, ◌<◌, length, map, IfOk, IfErr, Some, None, false, if◌then◌else◌};
+ghost use Rattle.std.specs.Prelude.{◌≡◌, ◌<◌, ℕ, List, length, map, IfOk, IfErr, IsTrue, false};
 ghost use Rattle.std.specs.Option.{option_map, option_flatten};
 ghost use Rattle.std.specs.List.{slice_get};
 ghost use Rattle.zerotrie_sets.specs.Streams.{Advances, coming};
@@ -8,7 +8,7 @@ ghost use Rattle.zerotrie_sets.specs.Inputs.{MergesOne};
 ghost use Rattle.zerotrie_sets.specs.Rows.{all_joined, first_of, last_of, EachAscends, IsMergeAll};
 ghost use Rattle.zerotrie_sets.specs.Selections.{present, as_one, selected, IsNoOne, IsRuleError};
 ghost use Rattle.zerotrie_sets.specs.declared.selection.RuleError.{RuleError};
-ghost use Rattle.zerotrie_sets.specs.ManyInputs.{pendings, after_key, least_key, lesser_key, listed_all, AllFetched};
+ghost use Rattle.zerotrie_sets.specs.ManyInputs.{pendings, after_key, key_at, lesser, found_as, IsLeast, IsLeastAt, listed_all, AllFetched};
 
 use crate::input::Input;
 use crate::selection::{Rule, RuleError, Selection};
@@ -32,12 +32,13 @@ use zerotrie_core::PairStream;
 /// assert_eq!(rt; (rows.first(), rows.last()), (Some(1), Some(4)));
 /// ```
 ///
-/// It allocates for the streams at first, and then for the longest key alone. A step costs a
-/// comparison of keys for each stream.
+/// It allocates for the streams at first, and then no more, apart from what the streams do. A step
+/// compares the least key so far with the key of each stream.
 #[derive(Drop)]
 pub struct MergeAll<S: PairStream, A: Allocator = Global> {
     inputs: Vec<Input<S>, A>,
-    key: Vec<u8, A>,
+    // The number of the first input with the current key.
+    at: usize,
     ended: bool,
 }
 
@@ -46,12 +47,12 @@ impl<S: PairStream, A: Allocator> Model for MergeAll<S, A> {
     ghost use Rattle.zerotrie_sets.specs.Rows.{MergingAll, all_joined};
     ghost use Rattle.zerotrie_sets.specs.Selections.{present, as_one, selected, IsNoOne, IsRuleError};
     ghost use Rattle.zerotrie_sets.specs.declared.selection.RuleError.{RuleError};
-    ghost use Rattle.zerotrie_sets.specs.ManyInputs.{pendings, listed_all};
+    ghost use Rattle.zerotrie_sets.specs.ManyInputs.{pendings, key_at, listed_all};
 
     ghost Value = { MergingAll };
 
     ghost view = { λ s. record {
-      current = (s.key.items, listed_all S.current s.inputs.items);
+      current = (key_at S.current s.inputs.items s.at, listed_all S.current s.inputs.items);
       left = coming s.ended (all_joined (pendings S.left S.current s.inputs.items));
     } };
 }
@@ -71,7 +72,7 @@ impl<S: PairStream + Drop, A: Allocator + Copy> MergeAll<S, A> {
         }
         Ok(MergeAll {
             inputs,
-            key: Vec::new(alloc),
+            at: 0,
             ended: false,
         })
     }
@@ -79,15 +80,16 @@ impl<S: PairStream + Drop, A: Allocator + Copy> MergeAll<S, A> {
 
 impl<S: PairStream, A: Allocator> MergeAll<S, A> {
     /// Moves to the next key, and returns whether there is one. An error ends the merge. The only
-    /// error is a failed allocation for a longer key or in a stream.
+    /// error is a failed allocation in a stream: a merge of slices never fails.
     pub fn advance(&mut self) -> Result<bool, AllocError>
-        ensures { Advances self.old.left result self.new.current self.new.left }
+        ensures advances { Advances self.old.left result self.new.current self.new.left }
+        ensures fails { IfErr result (λ _. IsTrue S.can_fail) }
     {
         if self.ended {
             return Ok(false);
         }
         self.ended = true;
-        let found = next_row(&mut self.inputs, &mut self.key)?;
+        let found = next_row(&mut self.inputs, &mut self.at)?;
         self.ended = !found;
         Ok(found)
     }
@@ -97,7 +99,10 @@ impl<S: PairStream, A: Allocator> MergeAll<S, A> {
     pub fn key(&self) -> &[u8]
         ensures { result.now ≡ self.now.current.0 }
     {
-        self.key.as_slice()
+        match self.inputs.get(self.at) {
+            Some(input) => input.stream.key(),
+            None => &[],
+        }
     }
 
     /// Returns the value that a stream has for the current key, if it has the key. The streams are
@@ -211,8 +216,9 @@ fn last_listed<S: PairStream>(inputs: &[Input<S>]) -> Option<usize>
 
 /// Moves each input to its first pair that is still to be listed.
 fn fetch_all<S: PairStream>(inputs: &mut [Input<S>]) -> Result<(), AllocError>
-    ensures { IfOk result (λ _. AllFetched inputs.new
+    ensures fetches { IfOk result (λ _. AllFetched inputs.new
         × (pendings S.left S.current inputs.new ≡ pendings S.left S.current inputs.old)) }
+    ensures fails { IfErr result (λ _. IsTrue S.can_fail) }
 {
     for input in inputs.iter_mut() {
         input.fetch()?;
@@ -220,46 +226,51 @@ fn fetch_all<S: PairStream>(inputs: &mut [Input<S>]) -> Result<(), AllocError>
     Ok(())
 }
 
-/// Returns the lesser of two keys, by their bytes.
-fn lesser_key<'k>(least: Option<&'k [u8]>, waiting: Option<&'k [u8]>) -> Option<&'k [u8]>
-    ensures { option_map (λ k. k.now) result ≡ lesser_key (option_map (λ k. k.now) least.entry)
-        (option_map (λ k. k.now) waiting.entry) }
+/// The least key that waits, and which inputs have it.
+#[derive(Clone, Copy, Debug)]
+struct Least<'k> {
+    /// The number of the first one.
+    at: usize,
+    key: &'k [u8],
+    /// No other input has the key.
+    alone: bool,
+}
+
+/// Returns the lesser of the least key so far and that of an input, if one waits there.
+fn lesser<'k>(least: Option<Least<'k>>, at: usize, waiting: Option<&'k [u8]>) -> Option<Least<'k>>
+    ensures { found_as result
+        ≡ lesser (found_as least.entry) at (option_map (λ k. k.now) waiting.entry) }
 {
-    match (least, waiting) {
-        (Some(key), Some(other)) => match other.cmp(key) {
-            Ordering::Less => waiting,
-            Ordering::Equal | Ordering::Greater => least,
-        },
-        (Some(_key), None) => least,
-        (None, _) => waiting,
+    let Some(key) = waiting else {
+        return least;
+    };
+    let first = Least {
+        at,
+        key,
+        alone: true,
+    };
+    let Some(before) = least else {
+        return Some(first);
+    };
+    match key.cmp(before.key) {
+        Ordering::Less => Some(first),
+        Ordering::Equal => Some(Least {
+            alone: false,
+            ..before
+        }),
+        Ordering::Greater => Some(before),
     }
 }
 
 /// Returns the least key that waits.
-fn least<S: PairStream>(inputs: &[Input<S>]) -> Option<&[u8]>
-    ensures { option_map (λ k. k.now) result ≡ least_key S.current None inputs.now }
+fn find_least<S: PairStream>(inputs: &[Input<S>]) -> Option<Least<'_>>
+    ensures { IsLeast S.current (found_as result) inputs.now }
 {
-    let mut least: Option<&[u8]> = None;
-    for input in inputs {
-        least = lesser_key(least, input.waiting());
+    let mut least: Option<Least<'_>> = None;
+    for at in 0..inputs.len() {
+        least = lesser(least, at, inputs[at].waiting());
     }
     least
-}
-
-/// Copies the least key that waits, and returns whether there is one.
-fn take_least<S: PairStream, A: Allocator>(
-    inputs: &[Input<S>],
-    key: &mut Vec<u8, A>,
-) -> Result<bool, AllocError>
-    ensures { IfOk result (λ found. least_key S.current None inputs.now
-        ≡ (if found then Some key.new.items else None)) }
-{
-    let Some(least) = least(inputs) else {
-        return Ok(false);
-    };
-    key.clear();
-    key.extend_from_slice(least)?;
-    Ok(true)
 }
 
 /// Lists the pairs that wait with this key.
@@ -271,20 +282,36 @@ fn list_all<S: PairStream>(inputs: &mut [Input<S>], key: &[u8])
     }
 }
 
+/// Lists the pairs that wait with the key of the input at a place: that one, and those after it
+/// unless it is alone.
+fn list_least<S: PairStream>(inputs: &mut [Input<S>], at: usize, alone: bool)
+    requires { at < length inputs.old }
+    ensures { (key : List ℕ) → IsLeastAt S.current key alone at inputs.old
+        → (inputs.new ≡ map (after_key S.current key) inputs.old)
+        × (key_at S.current inputs.new at ≡ key) }
+{
+    inputs[at].list();
+    if alone {
+        return;
+    }
+    let (front, others) = inputs.split_at_mut(at + 1);
+    list_all(others, front[at].stream.key());
+}
+
 /// Moves to the next row, and returns whether there is one.
-fn next_row<S: PairStream, A: Allocator>(
-    inputs: &mut [Input<S>],
-    key: &mut Vec<u8, A>,
-) -> Result<bool, AllocError>
-    ensures { IfOk result (MergesOne
+fn next_row<S: PairStream>(inputs: &mut [Input<S>], at: &mut usize) -> Result<bool, AllocError>
+    ensures merges { IfOk result (MergesOne
         (all_joined (pendings S.left S.current inputs.old))
-        (key.new.items, listed_all S.current inputs.new)
+        (key_at S.current inputs.new at.new, listed_all S.current inputs.new)
         (all_joined (pendings S.left S.current inputs.new))) }
+    ensures fails { IfErr result (λ _. IsTrue S.can_fail) }
 {
     fetch_all(inputs)?;
-    if !take_least(inputs, key)? {
+    let Some(least) = find_least(inputs) else {
         return Ok(false);
-    }
-    list_all(inputs, key.as_slice());
+    };
+    let alone = least.alone;
+    *at = least.at;
+    list_least(inputs, *at, alone);
     Ok(true)
 }

@@ -1,0 +1,151 @@
+-- An index that is read at places.
+use Rattle.std.specs.Prelude.{◌≡◌, ℕ, ◌+◌, ◌-◌, ◌*◌, ◌/◌, ◌^◌, ◌<◌, ◌≤◌, [], ◌++◌, List, length, get_or, take, drop, Option, Some, None, suc}
+use Rattle.std.specs.List.{flat_map}
+use Rattle.std.specs.Int.{from_le_bytes, w64}
+use Rattle.std.proofs.Common.{refl, ap, sym, ◌∙◌, arith, subst, length-append}
+use Rattle.std.proofs.lemmas.List.{append_assoc, drop-append-le, drop-drop}
+use Rattle.std.proofs.lemmas.Nat.{from_le_bytes-to_le_bytes_8}
+use Rattle.std.proofs.Math.Seq.{take-add, take-append_seam, drop-append_seam, drop-append-add}
+use Rattle.std.proofs.lemmas.List.Elements.{All-get_or}
+use Rattle.zerotrie_base.specs.Kind.{simple_ascii}
+use Rattle.zerotrie_base.specs.Maps.{Pairs, value_at}
+use Rattle.zerotrie_index.specs.Hash.{eight_at, hash_of}
+use Rattle.zerotrie_index.specs.Layout.{word, place_of, mark_of, AreRecords, IsIndex}
+use Rattle.zerotrie_index.specs.Placed.{IsPart, AreWords, IsAnswer}
+use Rattle.zerotrie_index.proofs.BucketLemmas.{Has, has, one_more}
+use Rattle.zerotrie_index.proofs.WordLemmas.{drop_word, length-words, words_from}
+
+-- ---- what was read
+
+-- sixteen bytes are two words
+two : (part : List ℕ) (a b x y : ℕ) (after : List ℕ) → part ≡ take 16 (word a ++ (word b ++ after)) → a < 2 ^ 64 → b < 2 ^ 64
+    → x ≡ eight_at part 0 → y ≡ eight_at part 8 → (x ≡ a) × (y ≡ b)
+unfolding word eight_at
+two part a b x y after is below under xs ys = (
+  xs ∙ ap (λ p. from_le_bytes w64 p) is ∙ from_le_bytes-to_le_bytes_8 a below,
+  ys ∙ ap (λ p. from_le_bytes w64 (drop 8 p)) is ∙ from_le_bytes-to_le_bytes_8 b under,
+)
+
+pub two_words : (held : Option (List ℕ)) (place : ℕ) (part : List ℕ) (x y : ℕ) → length part ≡ 16 → IsPart held place part
+    → x ≡ eight_at part 0 → y ≡ eight_at part 8 → AreWords held place x y
+two_words None place part x y long is xs ys = tt
+two_words (Some bytes) place part x y long is xs ys = λ a b after below under at.
+    two part a b x y after (is ∙ ap (λ n. take n (drop place bytes)) long ∙ ap (take 16) at) below under xs ys
+
+-- nothing was read
+pub no_part : (held : Option (List ℕ)) (place : ℕ) → IsPart held place []
+no_part None place = tt
+no_part (Some bytes) place = refl
+
+joined : (part more bytes : List ℕ) → part ≡ take (length part) bytes → more ≡ take (length more) (drop (length part) bytes)
+    → part ++ more ≡ take (length (part ++ more)) bytes
+joined part more bytes is and =
+    ap (λ p. p ++ more) is ∙ ap (λ q. take (length part) bytes ++ q) and ∙ sym (take-add (length part) (length more) bytes)
+    ∙ ap (λ n. take n bytes) (sym (length-append part more))
+
+-- what was read behind a part belongs to it
+pub more_part : (held : Option (List ℕ)) (place : ℕ) (part more : List ℕ) → IsPart held place part → IsPart held (place + length part) more → IsPart held place (part ++ more)
+more_part None place part more is and = tt
+more_part (Some bytes) place part more is and = joined part more (drop place bytes) is (and ∙ ap (take (length more)) (sym (drop-drop (length part) place bytes)))
+
+-- ---- where the parts of an index lie
+
+two_entries : (seed count : ℕ) (entries pool : List ℕ) (i : ℕ) → suc i < length entries
+    → drop (16 + 8 * i) (word seed ++ (word count ++ (flat_map word entries ++ pool)))
+    ≡ word (get_or entries i 0) ++ (word (get_or entries (suc i) 0) ++ (drop (8 * suc (suc i)) (flat_map word entries) ++ pool))
+two_entries seed count entries pool i inside =
+    let table = flat_map word entries in
+    let long = length-words entries in
+    ap (λ n. drop n (word seed ++ (word count ++ (table ++ pool)))) (omega arith)
+    ∙ drop_word seed (word count ++ (table ++ pool)) (8 + 8 * i) ∙ drop_word count (table ++ pool) (8 * i)
+    ∙ drop-append-le (8 * i) table pool (omega arith)
+    ∙ ap (λ x. x ++ pool) (words_from entries i (omega arith) ∙ ap (λ x. word (get_or entries i 0) ++ x) (words_from entries (suc i) inside))
+    ∙ append_assoc (word (get_or entries i 0)) (word (get_or entries (suc i) 0) ++ drop (8 * suc (suc i)) table) pool
+    ∙ ap (λ x. word (get_or entries i 0) ++ x) (append_assoc (word (get_or entries (suc i) 0)) (drop (8 * suc (suc i)) table) pool)
+
+records_at : (seed count : ℕ) (entries before records after : List ℕ) (place : ℕ) → place ≡ 16 + 8 * length entries + length before
+    → drop place (word seed ++ (word count ++ (flat_map word entries ++ (before ++ (records ++ after))))) ≡ records ++ after
+records_at seed count entries before records after place is =
+    let table = flat_map word entries in
+    let pool = before ++ (records ++ after) in
+    let long = length-words entries in
+    ap (λ n. drop n (word seed ++ (word count ++ (table ++ pool)))) (is ∙ omega arith)
+    ∙ drop_word seed (word count ++ (table ++ pool)) (8 + (length table + length before)) ∙ drop_word count (table ++ pool) (length table + length before)
+    ∙ drop-append-add table pool (length before) ∙ drop-append_seam before (records ++ after)
+
+-- ---- the answer
+
+-- an index of which its front was read
+abbrev IsFront : (pairs : Pairs) (bytes : List ℕ) → IsIndex pairs bytes → ℕ → ℕ → Type 0
+IsFront pairs bytes is seed count = (seed ≡ is.seed) × (count ≡ length is.buckets)
+
+front : (pairs : Pairs) (bytes : List ℕ) (is : IsIndex pairs bytes) (seed count : ℕ) → AreWords (Some bytes) 0 seed count → IsFront pairs bytes is seed count
+front pairs bytes is seed count read =
+    read is.seed (length is.buckets) (flat_map word is.entries ++ is.pool) is.seed_below (let few = is.few_buckets in omega arith) is.bytes_are
+
+-- more buckets than there can be
+pub many_buckets : (held : Option (List ℕ)) (key : List ℕ) (seed count : ℕ) → AreWords held 0 seed count → 2 ^ 32 ≤ count → IsAnswer held key None
+many_buckets None key seed count read many = tt
+many_buckets (Some bytes) key seed count read many = λ pairs is.
+    absurd (let same = (front pairs bytes is seed count read).1 in let few = is.few_buckets in omega arith)
+
+-- What was read of an index: the hash of the key, and the entries of its bucket and of the next one.
+pub record IsRead (held : Option (List ℕ)) (key : List ℕ) (seed count hash number entry next : ℕ) : Type 0 where
+  pub front : AreWords held 0 seed count
+  pub hashed : hash ≡ hash_of seed key
+  pub small : hash < 2 ^ 64
+  pub placed : number ≡ place_of count hash
+  pub entries : AreWords held (16 + 8 * number) entry next
+
+-- What it has, then, if the bytes are an index.
+record Found (pairs : Pairs) (bytes : List ℕ) (is : IsIndex pairs bytes) (key : List ℕ) (count hash number entry next : ℕ) : Type 0 where
+  has : Has pairs bytes is key number hash
+  counted : count ≡ length is.buckets
+  own : entry ≡ get_or is.entries number 0
+  behind : next ≡ get_or is.entries (suc number) 0
+
+found : (pairs : Pairs) (bytes : List ℕ) (is : IsIndex pairs bytes) (key : List ℕ) (seed count hash number entry next : ℕ)
+    → IsRead (Some bytes) key seed count hash number entry next → Found pairs bytes is key count hash number entry next
+found pairs bytes is key seed count hash number entry next read =
+    let f = front pairs bytes is seed count read.front in
+    let h = has pairs bytes is key seed count number hash f.0 f.1 read.hashed read.small read.placed in
+    let e = read.entries (get_or is.entries number 0) (get_or is.entries (suc number) 0) (drop (8 * suc (suc number)) (flat_map word is.entries) ++ is.pool)
+    (All-get_or (λ x. x < 2 ^ 64) is.entries number 0 h.inside is.entries_below) (All-get_or (λ x. x < 2 ^ 64) is.entries (suc number) 0 h.next_inside is.entries_below)
+    (ap (drop (16 + 8 * number)) is.bytes_are ∙ two_entries is.seed (length is.buckets) is.entries is.pool number h.next_inside) in
+    record { has = h; counted = f.1; own = e.0; behind = e.1 }
+
+-- the key is not marked
+pub unmarked : (held : Option (List ℕ)) (key : List ℕ) (seed count hash number entry next : ℕ) → IsRead held key seed count hash number entry next
+    → mark_of entry hash ≡ 0 → IsAnswer held key None
+unmarked None key seed count hash number entry next read none = tt
+unmarked (Some bytes) key seed count hash number entry next read none = λ pairs is.
+    let f = found pairs bytes is key seed count hash number entry next read in
+    sym (f.has.unmarked (ap (λ x. mark_of x hash) (sym f.own) ∙ none))
+
+-- the bucket of no index ends before it starts
+pub ends_early : (held : Option (List ℕ)) (key : List ℕ) (seed count hash number entry next : ℕ) → IsRead held key seed count hash number entry next
+    → next / 2 ^ 32 < entry / 2 ^ 32 → IsAnswer held key None
+ends_early None key seed count hash number entry next read early = tt
+ends_early (Some bytes) key seed count hash number entry next read early = λ pairs is.
+    let f = found pairs bytes is key seed count hash number entry next read in
+    let b = f.has.bucket in
+    absurd (let from = ap (λ x. x / 2 ^ 32) f.own ∙ b.from in let to = ap (λ x. x / 2 ^ 32) f.behind ∙ b.to in omega arith)
+
+-- the records of the bucket were read
+pub answered : (held : Option (List ℕ)) (key : List ℕ) (seed count hash number entry next place : ℕ) (records : List ℕ) (result : Option ℕ)
+    → IsRead held key seed count hash number entry next → IsPart held place records → place ≡ 16 + 8 * (count + 1) + entry / 2 ^ 32
+    → length records ≡ next / 2 ^ 32 - entry / 2 ^ 32 → ((pairs : Pairs) → AreRecords pairs records → result ≡ value_at simple_ascii pairs key) → IsAnswer held key result
+answered None key seed count hash number entry next place records result read part at long finds = tt
+answered (Some bytes) key seed count hash number entry next place records result read part at long finds = λ pairs is.
+    let f = found pairs bytes is key seed count hash number entry next read in
+    let b = f.has.bucket in
+    let from = ap (λ x. x / 2 ^ 32) f.own ∙ b.from in
+    let to = ap (λ x. x / 2 ^ 32) f.behind ∙ b.to in
+    let more = one_more is.seed (length is.buckets) 0 0 is.buckets is.entries is.pool is.are_buckets in
+    let counted = f.counted in
+    let there : drop place bytes ≡ b.records ++ b.after =
+    ap (drop place) (is.bytes_are ∙ ap (λ p. word is.seed ++ (word (length is.buckets) ++ (flat_map word is.entries ++ p))) b.pool_is)
+    ∙ records_at is.seed (length is.buckets) is.entries b.before b.records b.after place (at ∙ omega arith) in
+    let same : records ≡ b.records =
+    part ∙ ap (take (length records)) there ∙ ap (λ n. take n (b.records ++ b.after)) (omega arith) ∙ take-append_seam b.records b.after in
+    finds (get_or is.buckets number []) (subst (AreRecords (get_or is.buckets number [])) (sym same) b.are) ∙ sym f.has.there
