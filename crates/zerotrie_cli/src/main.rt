@@ -4,7 +4,7 @@
 ghost use Rattle.std.specs.Prelude.{◌≡◌};
 ghost use Rattle.zerotrie_words.specs.Replies.{status_of};
 
-use std::io::{BufWriter, IsTerminal};
+use std::io::{BufWriter, IsTerminal, Write};
 use std::process::ExitCode;
 use std::{env, fs, io};
 use zerotrie_files::{Noted, Store, SystemDisk};
@@ -56,9 +56,9 @@ fn say(rt: &HostRuntime, reply: &Reply<'_>) -> Status {
     }
 }
 
-/// Runs a command over the files and streams of the system.
-fn run_here(rt: &HostRuntime, command: Command<'_>) -> Status {
-    let Ok(output) = BufWriter::new(rt.alloc(), rt.stdout()) else {
+/// Runs a command over the files and streams of the system, and prints to this output.
+fn run_to<W: Write + Drop>(rt: &HostRuntime, command: Command<'_>, output: W) -> Status {
+    let Ok(output) = BufWriter::new(rt.alloc(), output) else {
         return say(rt, &Reply::OutOfMemory);
     };
     run(
@@ -69,6 +69,16 @@ fn run_here(rt: &HostRuntime, command: Command<'_>) -> Status {
         &mut Noted::new(output),
         &mut Noted::new(rt.stderr()),
     )
+}
+
+/// Runs the command of a request over the files and streams of the system. If it is to be quiet, what
+/// it prints is dropped.
+fn run_here(rt: &HostRuntime, request: &Request<'_>, command: Command<'_>) -> Status {
+    if request.is_quiet() {
+        run_to(rt, command, io::sink())
+    } else {
+        run_to(rt, command, rt.stdout())
+    }
 }
 
 /// Returns whether two paths lead to one file, by whatever links.
@@ -114,7 +124,7 @@ fn obey(rt: &HostRuntime, words: &[String]) -> Status {
     match request.command(rt.stderr().is_terminal()) {
         Ok(command) => match refusal_here(rt, &command) {
             Some(reply) => say(rt, &reply),
-            None => run_here(rt, command),
+            None => run_here(rt, &request, command),
         },
         Err(reply) => say(rt, &reply),
     }

@@ -1,5 +1,8 @@
 -- What a build of the pairs answers is what one of the input does.
-use Rattle.std.proofs.Common.{◌≡◌, ℕ, List, Bool, true, false, subst, refl}
+use Rattle.std.proofs.Common.{◌≡◌, ℕ, List, length, Bool, true, false, subst, refl, ◌∙◌, sym}
+use Rattle.std.proofs.lemmas.List.{length-map}
+use Rattle.std.specs.Borrow.{Bor}
+use Rattle.zerotrie_core.specs.Items.{pairs_of}
 use Rattle.std.specs.Prelude.{not}
 use Rattle.std.specs.Prelude.{None, Some}
 use Rattle.zerotrie_core.specs.Maps.{Pairs}
@@ -75,3 +78,7 @@ pub as_they_are : (source : Source) (format : Format) (end : LineEnd) (lower_cas
     → Reads format end input pairs → (given : Pairs) × IsPairs source input given × (pairs ≡ lowered lower_case given)
 as_they_are source format end true input pairs text kept reads = absurd (cc)
 as_they_are source format end false input pairs text kept reads = (pairs, rw text reads, refl)
+
+-- as many items are as many pairs
+pub counted_pairs : (items : List (Bor (List ℕ) × ℕ)) (len : ℕ) → len ≡ length items → len ≡ length (pairs_of items)
+counted_pairs items len is = is ∙ sym (length-map items _)

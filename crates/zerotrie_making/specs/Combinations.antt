@@ -6,6 +6,7 @@ use Rattle.zerotrie_core.specs.Kinds.{kind_of}
 use Rattle.zerotrie_core.specs.Maps.{Pairs, Map}
 use Rattle.zerotrie_core.specs.Texts.{Means}
 use Rattle.zerotrie_core.specs.declared.TrieKind.{TrieKind}
+use Rattle.zerotrie_queries.specs.Recased.{second_pairs}
 use Rattle.zerotrie_sets.specs.Operations.{IsCombined}
 use Rattle.zerotrie_sets.specs.declared.combined.Operation.{Operation}
 use Rattle.zerotrie_making.specs.Kept.{number_of}
@@ -24,18 +25,20 @@ kind_kept None first second = if tag (kind_of first) == tag (kind_of second) the
 abbrev pub plan_of : Option TrieKind → FileForm → FilePlan
 plan_of kind form = record { kind = kind; sorted = false; form = form }
 
--- the fact holds of the pairs of a combination of two maps
-abbrev pub OfBoth : Operation → Map → Map → (Pairs → Type 0) → Type 0
-OfBoth operation first second Fact = (pairs : Pairs) × IsCombined operation (entries first) (entries second) pairs × Fact pairs
+-- the fact holds of the pairs of a combination of two maps, as both kinds have keys
+abbrev pub OfBoth : Operation → TrieKind → TrieKind → Map → Map → (Pairs → Type 0) → Type 0
+OfBoth operation k j first second Fact =
+    (pairs : Pairs) × IsCombined operation (entries first) (second_pairs (kind_of k) (kind_of j) first second) pairs × Fact pairs
 
 -- the file is that of a combination of two maps
-abbrev pub IsFileOfBoth : Operation → Option TrieKind → FileForm → Map → Map → List ℕ → Type 0
-IsFileOfBoth operation kind form first second file = OfBoth operation first second (λ pairs. IsFileOf (plan_of kind form) pairs file)
+abbrev pub IsFileOfBoth : Operation → Option TrieKind → FileForm → TrieKind → TrieKind → Map → Map → List ℕ → Type 0
+IsFileOfBoth operation named form k j first second file =
+    OfBoth operation k j first second (λ pairs. IsFileOf (plan_of (kind_kept named k j) form) pairs file)
 
 -- why no file is made of a combination of two maps: an allocation failed, or a build of its pairs fails
-abbrev pub ExplainsBoth : Operation → Option TrieKind → FileForm → Map → Map → MakeError → Type 0
-ExplainsBoth operation kind form first second e =
-    (e ≡ OutOfMemory) ⊎ OfBoth operation first second (λ pairs. ExplainsOf (plan_of kind form) (number_of None) pairs e)
+abbrev pub ExplainsBoth : Operation → Option TrieKind → FileForm → TrieKind → TrieKind → Map → Map → MakeError → Type 0
+ExplainsBoth operation named form k j first second e = (e ≡ OutOfMemory)
+    ⊎ OfBoth operation k j first second (λ pairs. ExplainsOf (plan_of (kind_kept named k j) form) (number_of None) pairs e)
 
 -- the fact holds of the maps that two tries mean
 abbrev pub OfMeant : Kind → List ℕ → Kind → List ℕ → (Map → Map → Type 0) → Type 0

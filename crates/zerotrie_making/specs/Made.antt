@@ -1,5 +1,5 @@
 -- Which file a plan makes of an input, and why it makes none.
-use Rattle.std.specs.Prelude.{◌≡◌, ◌≢◌, ℕ, List, Bool, true, false, Result, Ok, Err, Some, None}
+use Rattle.std.specs.Prelude.{◌≡◌, ◌≢◌, ℕ, List, length, Bool, true, false, Result, Ok, Err, Some, None}
 use Rattle.zerotrie_core.specs.Kind.{perfect_hash}
 use Rattle.zerotrie_core.specs.Maps.{Pairs}
 use Rattle.zerotrie_core.specs.Routes.{Takes, HasCause, IsBuild}
@@ -18,6 +18,7 @@ use Rattle.zerotrie_making.specs.Sources.{IsPairs, NoPairs}
 use Rattle.zerotrie_making.specs.Plans.{Content, a_trie, an_index, content_of, route_of, kind_for, IsFormOf}
 use Rattle.zerotrie_making.specs.Kept.{kept, number_at}
 use Rattle.zerotrie_making.specs.declared.plan.FilePlan.{FilePlan}
+use Rattle.zerotrie_making.specs.declared.plan.Made.{Made as MadeFile}
 use Rattle.zerotrie_making.specs.declared.plan.Plan.{Plan}
 use Rattle.zerotrie_making.specs.declared.error.NumberedKey.{NumberedKey}
 use Rattle.zerotrie_making.specs.declared.error.Shown.{Shown}
@@ -51,6 +52,19 @@ IsFileOfKept plan pairs file = IsFileOf plan.file (kept plan.read.duplicates pai
 -- the file is that of the pairs that the input is, as far as they are kept
 abbrev pub IsFile : Plan → List ℕ → List ℕ → Type 0
 IsFile plan input file = OfInput plan input (λ pairs. IsFileOfKept plan pairs file)
+
+-- The file is that of the pairs, and they are counted.
+pub record IsMadeOf (plan : FilePlan) (pairs : Pairs) (made : MadeFile) : Type 0 where
+  pub is : IsFileOf plan pairs made.file.items
+  pub counted : made.keys ≡ length pairs
+
+-- the same of those of the pairs that are kept
+abbrev pub IsMadeOfKept : Plan → Pairs → MadeFile → Type 0
+IsMadeOfKept plan pairs made = IsMadeOf plan.file (kept plan.read.duplicates pairs) made
+
+-- the same of the pairs that the input is, as far as they are kept
+abbrev pub IsMade : Plan → List ℕ → MadeFile → Type 0
+IsMade plan input made = OfInput plan input (λ pairs. IsMadeOfKept plan pairs made)
 
 -- the key of the pair at this index, with the number of the pair
 abbrev pub IsKeyAt : (ℕ → ℕ) → Pairs → ℕ → NumberedKey → Type 0

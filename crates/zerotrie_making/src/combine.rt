@@ -3,10 +3,9 @@
 ghost use Rattle.std.specs.Prelude.{◌≡◌, IfOk, IfErr};
 ghost use Rattle.std.specs.FinMap.{entries};
 ghost use Rattle.zerotrie_core.specs.Kinds.{kind_of};
-ghost use Rattle.zerotrie_core.specs.Listings.{to_come};
-ghost use Rattle.zerotrie_core.specs.Maps.{Map, Ascends};
-ghost use Rattle.zerotrie_core.specs.Texts.{Means};
+ghost use Rattle.zerotrie_core.specs.Maps.{Ascends};
 ghost use Rattle.zerotrie_core.specs.WellFormed.{IsWellFormed};
+ghost use Rattle.zerotrie_queries.specs.Recased.{second_pairs};
 ghost use Rattle.zerotrie_sets.specs.Operations.{IsCombined};
 ghost use Rattle.zerotrie_making.specs.Combinations.{IsFileOfBoth, ExplainsBoth, OfMeant, kind_kept};
 
@@ -14,35 +13,27 @@ use crate::error::MakeError;
 use crate::file::make_of;
 use crate::plan::{FileForm, FilePlan};
 use std::alloc::{AllocError, Global};
-use std::ops::Bound;
 use zerotrie_core::{PairStream, TrieKind, TrieRef};
 use zerotrie_lines::Table;
-use zerotrie_queries::stream_sorted;
-use zerotrie_search::laws::sorted_listing_ascends;
-use zerotrie_sets::{Combined, Operation, SortedTrie};
+use zerotrie_queries::{collect, ignore_case, of_sorted, recased, sorted_pairs};
+use zerotrie_sets::{Combined, Operation};
 
-/// Lists all pairs of a trie in the order of bytes.
-fn sorted<'t>(alloc: Global, trie: &'t TrieRef<'_>) -> Result<SortedTrie<'t, 't>, AllocError>
-    requires { IsWellFormed (kind_of trie.now.kind) trie.now.bytes.now }
-    ensures { IfOk result (λ s. (m : Map) → Means (kind_of trie.now.kind) trie.now.bytes.now m
-        → (s.left ≡ to_come (entries m)) × Ascends s.left.pairs) }
+/// Combines the pairs of two streams whose keys ascend.
+fn merged<S: PairStream + Drop, T: PairStream + Drop>(
+    alloc: Global,
+    operation: Operation,
+    first: S,
+    second: T,
+) -> Result<Table, AllocError>
+    requires first { Ascends (S.left first).pairs }
+    requires second { Ascends (T.left second).pairs }
+    ensures { IfOk result (IsCombined operation (S.left first).pairs (T.left second).pairs) }
 {
-    sorted_listing_ascends();
-    stream_sorted(alloc, trie, Bound::Unbounded, Bound::Unbounded)
+    collect(alloc, Combined::new(first, second, operation))
 }
 
-/// Takes all pairs of a stream.
-fn collect<S: PairStream + Drop>(alloc: Global, mut stream: S) -> Result<Table, AllocError>
-    ensures { IfOk result (λ table. table ≡ (S.left stream).pairs) }
-{
-    let mut table = Table::new(alloc);
-    while stream.advance()? {
-        table.push(stream.key(), stream.value())?;
-    }
-    Ok(table)
-}
-
-/// Combines the pairs of two tries.
+/// Combines the pairs of two tries. If both ignore case, keys that differ only in the case of letters
+/// are one key, as the first trie has it.
 fn combine(
     alloc: Global,
     operation: Operation,
@@ -53,11 +44,18 @@ fn combine(
     requires second { IsWellFormed (kind_of second.now.kind) second.now.bytes.now }
     ensures { IfOk result (λ table. OfMeant (kind_of first.now.kind) first.now.bytes.now
         (kind_of second.now.kind) second.now.bytes.now
-        (λ m n. IsCombined operation (entries m) (entries n) table)) }
+        (λ m n. IsCombined operation (entries m)
+        (second_pairs (kind_of first.now.kind) (kind_of second.now.kind) m n) table)) }
 {
-    let first = sorted(alloc, first)?;
-    let second = sorted(alloc, second)?;
-    collect(alloc, Combined::new(first, second, operation))
+    let pairs = sorted_pairs(alloc, first)?;
+    if ignore_case(first.kind, second.kind) {
+        let table = recased(alloc, first, second)?;
+        let items = table.items(alloc)?;
+        merged(alloc, operation, pairs, of_sorted(items.as_slice()))
+    } else {
+        let others = sorted_pairs(alloc, second)?;
+        merged(alloc, operation, pairs, others)
+    }
 }
 
 /// Returns the kind that is asked for: the one that is named, or else the one that both tries have.
@@ -90,11 +88,18 @@ fn kind_kept(named: Option<TrieKind>, first: TrieKind, second: TrieKind) -> Opti
 /// let file = make_combined(rt.alloc(), union, &second, &second, None, FileForm::Tagged)
 ///     .map_err(|_| "refused")?;
 /// assert_eq!(rt; TrieKind::of_tag(file[0]), Some(TrieKind::Hash));
+/// // the key "Ab", and the keys "aB" and "c", which ignore case
+/// let first = TrieRef { kind: TrieKind::Ignore, bytes: b"Ab\x81" };
+/// let second = TrieRef { kind: TrieKind::Ignore, bytes: b"\xC2ac\x02B\x85\x86" };
+/// let file = make_combined(rt.alloc(), union, &first, &second, None, FileForm::Bare)
+///     .map_err(|_| "refused")?;
+/// assert_eq!(rt; file.as_slice(), b"\xC2Ac\x02b\x81\x86".as_slice());
 /// ```
 ///
 /// The kind is the one that is named, or else that of the two tries. If theirs differ, it is the one
-/// that a build of the pairs takes. Keys are equal if their bytes are, also in a kind that ignores
-/// case, where a build is an error if keys that begin alike differ in the case of a letter.
+/// that a build of the pairs takes. Keys are equal if their bytes are; if both tries ignore case, they
+/// are if a look-up takes them as one, and are then as the first trie has them. In the kind that ignores
+/// case a build is an error if keys that begin alike differ in the case of a letter.
 ///
 /// The error is `Keys` if keys show why a build of the pairs fails, `Refused` or `IndexRefused` if it
 /// fails and none do, and `OutOfMemory`. The numbers of keys are those of their pairs in the order of
@@ -111,12 +116,11 @@ pub fn make_combined(
     requires second { IsWellFormed (kind_of second.now.kind) second.now.bytes.now }
     ensures ok { IfOk result (λ file. OfMeant (kind_of first.now.kind) first.now.bytes.now
         (kind_of second.now.kind) second.now.bytes.now
-        (λ m n. IsFileOfBoth operation (kind_kept kind first.now.kind second.now.kind) form
+        (λ m n. IsFileOfBoth operation kind form first.now.kind second.now.kind
         m n file.items)) }
     ensures err { IfErr result (λ e. OfMeant (kind_of first.now.kind) first.now.bytes.now
         (kind_of second.now.kind) second.now.bytes.now
-        (λ m n. ExplainsBoth operation (kind_kept kind first.now.kind second.now.kind) form
-        m n e)) }
+        (λ m n. ExplainsBoth operation kind form first.now.kind second.now.kind m n e)) }
 {
     let table = combine(alloc, operation, first, second)?;
     let items = table.items(alloc)?;

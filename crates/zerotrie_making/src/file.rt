@@ -7,14 +7,14 @@ ghost use Rattle.zerotrie_core.specs.Items.{pairs_of};
 ghost use Rattle.zerotrie_core.specs.Routes.{IsRefusal};
 ghost use Rattle.zerotrie_making.specs.Others.{IsOther};
 ghost use Rattle.zerotrie_making.specs.Plans.{a_trie, an_index, content_of, route_of, IsFormOf};
-ghost use Rattle.zerotrie_making.specs.Made.{IsIndexed, IsBuiltAs, IsFile, IsFileOf, IsFileOfKept, IsRefusedAs, Explains, ExplainsOf, ExplainsKept};
+ghost use Rattle.zerotrie_making.specs.Made.{IsIndexed, IsBuiltAs, IsFileOf, IsMade, IsMadeOf, IsMadeOfKept, IsRefusedAs, Explains, ExplainsOf, ExplainsKept};
 ghost use Rattle.zerotrie_making.specs.Kept.{number_in, number_of};
 
 use crate::duplicates::{Duplicates, Kept, firsts, lasts};
 use crate::error::{MakeError, show};
 use crate::input::{items_in, read_input};
 use crate::others::other_file;
-use crate::plan::{FileForm, FilePlan, Plan};
+use crate::plan::{FileForm, FilePlan, Made, Plan};
 use crate::tries::{bytes_of, index_bytes_of, kind_for, why_refused, why_unindexed};
 use std::alloc::{AllocError, Global};
 use zerotrie_core::{TrieKind, ZeroTrieBuildError};
@@ -173,15 +173,33 @@ pub(crate) fn make_of(
     Ok(file_of(alloc, plan.form, kind, bytes)?)
 }
 
+/// Makes the file of the pairs, and counts them.
+#[tactic(auto, using(crate::proofs::MadeLemmas::counted_pairs))]
+fn make_counted(
+    alloc: Global,
+    plan: FilePlan,
+    numbers: Option<&[usize]>,
+    items: &[(&[u8], usize)],
+) -> Result<Made, MakeError>
+    requires { IfSome numbers (λ numbers. length numbers.now ≡ length items.now) }
+    ensures ok { IfOk result (IsMadeOf plan (pairs_of items.now)) }
+    ensures err { IfErr result (λ e. ExplainsOf plan (number_of numbers.entry)
+        (pairs_of items.now) e) }
+{
+    Ok(Made {
+        file: make_of(alloc, plan, numbers, items)?,
+        keys: items.len(),
+    })
+}
+
 /// Makes the file of pairs that are kept.
-fn make_kept(alloc: Global, plan: FilePlan, kept: Kept<'_>) -> Result<Vec<u8>, MakeError>
+fn make_kept(alloc: Global, plan: FilePlan, kept: Kept<'_>) -> Result<Made, MakeError>
     requires { length kept.numbers.items ≡ length kept.items.items }
-    ensures ok { IfOk result (λ file.
-        IsFileOf plan (pairs_of kept.entry.items.items) file.items) }
+    ensures ok { IfOk result (IsMadeOf plan (pairs_of kept.entry.items.items)) }
     ensures err { IfErr result (λ e. ExplainsOf plan (number_in kept.entry.numbers.items)
         (pairs_of kept.entry.items.items) e) }
 {
-    make_of(
+    make_counted(
         alloc,
         plan,
         Some(kept.numbers.as_slice()),
@@ -190,12 +208,12 @@ fn make_kept(alloc: Global, plan: FilePlan, kept: Kept<'_>) -> Result<Vec<u8>, M
 }
 
 /// Makes the file of those of the pairs that are kept.
-fn make_from(alloc: Global, plan: Plan, items: &[(&[u8], usize)]) -> Result<Vec<u8>, MakeError>
-    ensures ok { IfOk result (λ file. IsFileOfKept plan (pairs_of items.now) file.items) }
+fn make_from(alloc: Global, plan: Plan, items: &[(&[u8], usize)]) -> Result<Made, MakeError>
+    ensures ok { IfOk result (IsMadeOfKept plan (pairs_of items.now)) }
     ensures err { IfErr result (λ e. ExplainsKept plan (pairs_of items.now) e) }
 {
     match plan.read.duplicates {
-        Duplicates::Refuse => make_of(alloc, plan.file, None, items),
+        Duplicates::Refuse => make_counted(alloc, plan.file, None, items),
         Duplicates::First => make_kept(alloc, plan.file, firsts(alloc, items)?),
         Duplicates::Last => make_kept(alloc, plan.file, lasts(alloc, items)?),
     }
@@ -203,9 +221,9 @@ fn make_from(alloc: Global, plan: Plan, items: &[(&[u8], usize)]) -> Result<Vec<
 
 /// Makes the file of the pairs of an input that is no other file. It takes the input. If keys must be
 /// copied from it, it is freed before the build.
-fn make_text(alloc: Global, plan: Plan, input: Vec<u8>) -> Result<Vec<u8>, MakeError>
+fn make_text(alloc: Global, plan: Plan, input: Vec<u8>) -> Result<Made, MakeError>
     requires { IsOther input.items None }
-    ensures ok { IfOk result (λ file. IsFile plan input.items file.items) }
+    ensures ok { IfOk result (IsMade plan input.items) }
     ensures err { IfErr result (λ e. Explains plan input.items e) }
 {
     if let Some(items) = items_in(alloc, plan.read, input.as_slice())? {
@@ -217,7 +235,7 @@ fn make_text(alloc: Global, plan: Plan, input: Vec<u8>) -> Result<Vec<u8>, MakeE
     make_from(alloc, plan, items.as_slice())
 }
 
-/// Makes the file of the pairs of an input.
+/// Makes the file of the pairs of an input, and counts its keys.
 ///
 /// ```
 /// let read = ReadPlan {
@@ -227,8 +245,9 @@ fn make_text(alloc: Global, plan: Plan, input: Vec<u8>) -> Result<Vec<u8>, MakeE
 /// };
 /// let file = FilePlan { kind: None, sorted: false, form: FileForm::Tagged };
 /// let input = Vec::from_slice(rt.alloc(), b"adef\t33\nad\t22\n")?;
-/// let trie = make(rt.alloc(), Plan { read, file }, input).map_err(|_| "refused")?;
-/// assert_eq!(rt; trie.as_slice(), b"\x00ad\x90\x06ef\x90\x11".as_slice());
+/// let made = make(rt.alloc(), Plan { read, file }, input).map_err(|_| "refused")?;
+/// assert_eq!(rt; made.file.as_slice(), b"\x00ad\x90\x06ef\x90\x11".as_slice());
+/// assert_eq!(rt; made.keys, 2);
 /// let read = ReadPlan { source: Source::Text(Format::Lines, LineEnd::CrLf), ..read };
 /// let input = Vec::from_slice(rt.alloc(), b"\xFF\xFEa\0\n\0")?;
 /// let why = MakeError::NotText(OtherFile::Utf16);
@@ -239,8 +258,8 @@ fn make_text(alloc: Global, plan: Plan, input: Vec<u8>) -> Result<Vec<u8>, MakeE
 /// `NotText` if the input is another file, `Line`, `NotJson`, `NotPairs` or `NotPair` if it is no
 /// pairs, `Keys` if keys show why a build of the pairs fails, `Refused` or `IndexRefused` if it fails
 /// and none do, and `OutOfMemory`.
-pub fn make(alloc: Global, plan: Plan, input: Vec<u8>) -> Result<Vec<u8>, MakeError>
-    ensures ok { IfOk result (λ file. IsFile plan input.items file.items) }
+pub fn make(alloc: Global, plan: Plan, input: Vec<u8>) -> Result<Made, MakeError>
+    ensures ok { IfOk result (IsMade plan input.items) }
     ensures err { IfErr result (λ e. Explains plan input.items e) }
 {
     match other_file(input.as_slice()) {

@@ -19,4 +19,4 @@ pub use duplicates::Duplicates;
 pub use error::{MakeError, NoPair, NumberedKey, Shown};
 pub use file::make;
 pub use others::OtherFile;
-pub use plan::{FileForm, FilePlan, Plan, ReadPlan, Source};
+pub use plan::{FileForm, FilePlan, Made, Plan, ReadPlan, Source};

@@ -62,3 +62,12 @@ pub struct Plan {
     /// What file is made of them.
     pub file: FilePlan,
 }
+
+/// The file that is made of pairs.
+#[derive(PartialEq, Eq, Debug, Drop)]
+pub struct Made {
+    /// The bytes of the file.
+    pub file: Vec<u8>,
+    /// How many keys it has.
+    pub keys: usize,
+}

@@ -1,5 +1,5 @@
 -- The pairs that are chosen.
-use Rattle.std.proofs.Common.{◌≡◌, ℕ, suc, ◌≤◌, List, [], ◌∷◌, Bool, true, false, cond, not, length, refl, ap, ◌∙◌, arith, subst, Option, Some, None, Result, Ok, Err, IfOk, IfSome, IfNone, OnErr}
+use Rattle.std.proofs.Common.{◌≡◌, ℕ, suc, ◌≤◌, List, [], ◌∷◌, Bool, true, false, cond, not, length, refl, sym, ap, ◌∙◌, arith, subst, Option, Some, None, Result, Ok, Err, IfOk, IfSome, IfNone, OnErr}
 use Rattle.std.specs.Prelude.{◌&&◌, ◌==◌}
 use Rattle.std.specs.Io.KnownBytes.{Appends}
 use Rattle.std.proofs.lemmas.Bool.{ne_eqb}
@@ -72,21 +72,43 @@ module _ (pick : Pairs → Pairs) (kind : TrieKind) (bytes : List ℕ) where
       → (pairs : Pairs) → Lists (kind_of kind) bytes pairs → IsFirstNoText (limited limit (pick pairs)) key
   no_text limit seen key s is = λ pairs lists. subst (λ l. IsFirstNoText (limited limit l) key) (s pairs lists) is
 
--- what is picked alike is listed alike
+-- what is picked alike of the pairs that bytes list is listed alike
+module _ (p q : Pairs → Pairs) (kind : TrieKind) (bytes : List ℕ) (same : (pairs : Pairs) → Lists (kind_of kind) bytes pairs → p pairs ≡ q pairs) where
+  pub all_of : (form : Form) (limit : Option ℕ) (old new : Option (List ℕ)) → AreListed form p limit kind bytes old new → AreListed form q limit kind bytes old new
+  all_of form limit old new h = λ pairs lists. subst (λ l. ArePrinted form (limited limit l) old new) (same pairs lists) (h pairs lists)
+
+  pub part_of : (form : Form) (limit : Option ℕ) (old new : Option (List ℕ)) → AreListedInPart form p limit kind bytes old new → AreListedInPart form q limit kind bytes old new
+  part_of form limit old new h = λ pairs lists. subst (λ l. AppendsPart old new (listed form (limited limit l))) (same pairs lists) (h pairs lists)
+
+  pub none_of : (form : Form) (limit : Option ℕ) (key : List ℕ) → AreNoText form p limit kind bytes key → AreNoText form q limit kind bytes key
+  none_of form limit key h = (h.0, λ pairs lists. subst (λ l. IsFirstNoText (limited limit l) key) (same pairs lists) (h.1 pairs lists))
+
+-- so is what is picked alike of all pairs
 module _ (p q : Pairs → Pairs) (same : (pairs : Pairs) → p pairs ≡ q pairs) where
   pub all_alike : (form : Form) (limit : Option ℕ) (kind : TrieKind) (bytes : List ℕ) (old new : Option (List ℕ)) → AreListed form p limit kind bytes old new → AreListed form q limit kind bytes old new
-  all_alike form limit kind bytes old new h = λ pairs lists. subst (λ l. ArePrinted form (limited limit l) old new) (same pairs) (h pairs lists)
+  all_alike form limit kind bytes old new h = all_of p q kind bytes (λ pairs lists. same pairs) form limit old new h
 
   pub part_alike : (form : Form) (limit : Option ℕ) (kind : TrieKind) (bytes : List ℕ) (old new : Option (List ℕ)) → AreListedInPart form p limit kind bytes old new → AreListedInPart form q limit kind bytes old new
-  part_alike form limit kind bytes old new h = λ pairs lists. subst (λ l. AppendsPart old new (listed form (limited limit l))) (same pairs) (h pairs lists)
+  part_alike form limit kind bytes old new h = part_of p q kind bytes (λ pairs lists. same pairs) form limit old new h
 
   pub none_alike : (form : Form) (limit : Option ℕ) (kind : TrieKind) (bytes key : List ℕ) → AreNoText form p limit kind bytes key → AreNoText form q limit kind bytes key
-  none_alike form limit kind bytes key h = (h.0, λ pairs lists. subst (λ l. IsFirstNoText (limited limit l) key) (same pairs) (h.1 pairs lists))
+  none_alike form limit kind bytes key h = none_of p q kind bytes (λ pairs lists. same pairs) form limit key h
 
 -- keys that are accepted alike are picked alike
 pub accepted_alike : (p q : List ℕ → Bool) → ((key : List ℕ) → p key ≡ q key) → (pairs : Pairs) → accepted p pairs ≡ accepted q pairs
 accepted_alike p q same [] = refl
 accepted_alike p q same (e ∷ pairs) = rw (same e.0) (ap (λ l. cond (q e.0) (e ∷ l) l) (accepted_alike p q same pairs))
+
+-- of the pairs within bounds those are accepted that are accepted of all, if each accepted key is within
+pub accepted_within : (p q : List ℕ → Bool) (pairs : Pairs) → ((key : List ℕ) → p key ≡ true → q key ≡ true) → accepted p (accepted q pairs) ≡ accepted p pairs
+accepted_within p q [] h = refl
+accepted_within p q (e ∷ pairs) h = go (p e.0) (q e.0) refl refl (accepted_within p q pairs h)
+  where
+    go : (a b : Bool) → p e.0 ≡ a → q e.0 ≡ b → accepted p (accepted q pairs) ≡ accepted p pairs → accepted p (cond b (e ∷ accepted q pairs) (accepted q pairs)) ≡ cond a (e ∷ accepted p pairs) (accepted p pairs)
+    go true true is inside rest = rw is (ap (λ l. e ∷ l) rest)
+    go false true is inside rest = rw is rest
+    go true false is inside rest = absurd (let no : false ≡ true = sym inside ∙ h e.0 is in cc)
+    go false false is inside rest = rest
 
 -- all keys begin with no byte
 free_prefix : (kind : TrieKind) (prefix key : List ℕ) → prefix ≡ [] → begins_with (kind_of kind) prefix key ≡ true
@@ -100,24 +122,23 @@ and_true true b c p q = rw (p, q) refl
 and_true false b c p q = refl
 
 -- without a prefix and a range the keys are chosen that the automaton accepts
-pub alone : (kind : TrieKind) (c : Choice) (accepts : List ℕ → Bool) → c.prefix.now ≡ [] → ((key : List ℕ) → is_in c.range key ≡ true) → ((key : List ℕ) → accepts key ≡ is_matched c.automaton key)
+pub alone : (kind : TrieKind) (c : Choice) (accepts : List ℕ → Bool) → c.prefix.now ≡ [] → ((key : List ℕ) → is_in kind c.range key ≡ true) → ((key : List ℕ) → accepts key ≡ is_matched kind c.sought key)
     → (key : List ℕ) → accepts key ≡ is_chosen kind c key
-alone kind c accepts none all is key = is key ∙ true_and (begins_with (kind_of kind) c.prefix.now key) (is_in c.range key) (is_matched c.automaton key) (free_prefix kind c.prefix.now key none) (all key)
+alone kind c accepts none all is key = is key ∙ true_and (begins_with (kind_of kind) c.prefix.now key) (is_in kind c.range key) (is_matched kind c.sought key) (free_prefix kind c.prefix.now key none) (all key)
 
-pub by_automaton_alone : (kind : TrieKind) (c : Choice) (accepts : List ℕ → Bool) → c.prefix.now ≡ [] → ((key : List ℕ) → is_in c.range key ≡ true) → ((key : List ℕ) → accepts key ≡ is_matched c.automaton key)
+pub by_automaton_alone : (kind : TrieKind) (c : Choice) (accepts : List ℕ → Bool) → c.prefix.now ≡ [] → ((key : List ℕ) → is_in kind c.range key ≡ true) → ((key : List ℕ) → accepts key ≡ is_matched kind c.sought key)
     → (pairs : Pairs) → accepted accepts pairs ≡ chosen kind c pairs
 by_automaton_alone kind c accepts none all is = accepted_alike accepts (is_chosen kind c) (alone kind c accepts none all is)
 
 -- with all conditions
-pub by_all : (kind : TrieKind) (c : Choice) (accepts : List ℕ → Bool) → ((key : List ℕ) → accepts key ≡ is_matched c.automaton key)
-    → (pairs : Pairs) → accepted (λ key. (begins_with (kind_of kind) c.prefix.now key && is_in c.range key) && accepts key) pairs ≡ chosen kind c pairs
-by_all kind c accepts is = accepted_alike (λ key. (begins_with (kind_of kind) c.prefix.now key && is_in c.range key) && accepts key) (is_chosen kind c)
-    (λ key. ap (λ b. (begins_with (kind_of kind) c.prefix.now key && is_in c.range key) && b) (is key))
+pub by_all : (kind : TrieKind) (c : Choice) (inside accepts : List ℕ → Bool) → ((key : List ℕ) → inside key ≡ is_in kind c.range key) → ((key : List ℕ) → accepts key ≡ is_matched kind c.sought key)
+    → (key : List ℕ) → ((begins_with (kind_of kind) c.prefix.now key && inside key) && accepts key) ≡ is_chosen kind c key
+by_all kind c inside accepts range is key = rw (range key, is key) refl
 
 -- and with a prefix alone
-pub by_prefix_alone : (kind : TrieKind) (c : Choice) → c.automaton ≡ None → ((key : List ℕ) → is_in c.range key ≡ true) → (pairs : Pairs) → beginning (kind_of kind) c.prefix.now pairs ≡ chosen kind c pairs
+pub by_prefix_alone : (kind : TrieKind) (c : Choice) → c.sought ≡ None → ((key : List ℕ) → is_in kind c.range key ≡ true) → (pairs : Pairs) → beginning (kind_of kind) c.prefix.now pairs ≡ chosen kind c pairs
 by_prefix_alone kind c none all = accepted_alike (begins_with (kind_of kind) c.prefix.now) (is_chosen kind c)
-    (λ key. and_true (begins_with (kind_of kind) c.prefix.now key) (is_in c.range key) (is_matched c.automaton key) (all key) (rw none refl))
+    (λ key. and_true (begins_with (kind_of kind) c.prefix.now key) (is_in kind c.range key) (is_matched kind c.sought key) (all key) (rw none refl))
 
 -- a prefix is at its end if it has no byte left
 pub ends_here : (kind : TrieKind) (left : List ℕ) → (length left == 0) ≡ begins_left kind (Some left) []

@@ -1,21 +1,22 @@
 -- The lines of what changed.
 use Rattle.std.proofs.Common.{◌≡◌, ℕ, ◌<◌, List, [], ◌∷◌, Bool, true, false, length, refl, sym, ◌∙◌, ap, subst, arith, Option, Result, Ok, Err}
 use Rattle.std.proofs.lemmas.Bool.{eq-eqb, ne_eqb}
-use Rattle.std.specs.Prelude.{◌==◌, ◌↔◌, ◌&&◌, filter, OnOk, IfOk}
+use Rattle.std.specs.Prelude.{◌==◌, ◌↔◌, ◌&&◌, OnOk, IfOk}
 use Rattle.std.specs.FinMap.{entries}
 use Rattle.std.specs.Io.KnownBytes.{Appends}
-use Rattle.std.specs.declared.ops.Bound.TheVariants.{Unbounded}
+use Rattle.zerotrie_core.specs.Kind.{Kind}
 use Rattle.zerotrie_core.specs.Maps.{Pairs, Map, Ascends}
 use Rattle.zerotrie_files.specs.Parts.{AppendsPart}
-use Rattle.zerotrie_search.specs.Sorted.{within}
 use Rattle.zerotrie_search.specs.SortedLaws.{SortedAscends}
-use Rattle.zerotrie_sets.specs.Changes.{changes, IsDiff}
-use Rattle.zerotrie_sets.specs.Laws.{DiffsAreOfMaps, NoChange}
+use Rattle.zerotrie_sets.specs.Changes.{changes}
+use Rattle.zerotrie_sets.specs.Laws.{CombinedAreMaps, DiffsAreOfMaps, NoChange}
 use Rattle.zerotrie_sets.specs.Merges.{Entries}
 use Rattle.zerotrie_sets.specs.declared.diff.Change.{Change}
 use Rattle.zerotrie_sets.specs.declared.diff.Change.TheVariants.{Added, Removed, Changed}
 use Rattle.zerotrie_queries.specs.Diffs.{change_line, change_lines, AreTold, AreToldInPart}
+use Rattle.zerotrie_queries.specs.Recased.{second_pairs}
 use Rattle.zerotrie_queries.proofs.PartLemmas.{part_none}
+use Rattle.zerotrie_queries.proofs.RecasedLemmas.{entries_ascend, second_ascends}
 
 -- a line has bytes
 pub some_line : (key : List ℕ) (c : Change) → 0 < length (change_line key c)
@@ -60,46 +61,33 @@ more_left true true lines now initial left is none e fewer = (
 more_left true false lines now initial left is none e fewer = (λ t. absurd (cc), λ o f i. let zero = ap length (is refl ∙ i) in omega (arith, zero, fewer))
 more_left false empty lines now initial left is none e fewer = (λ t. absurd (cc), λ o f i. o refl i)
 
-all_kept : (pairs : Pairs) → filter (λ e. true) pairs ≡ pairs
-all_kept [] = refl
-all_kept (e ∷ pairs) = ap (λ more. e ∷ more) (all_kept pairs)
+pub all_told : (first second : Pairs) (items : Entries Change) (a b : Option (List ℕ)) (same : Bool) → DiffsAreOfMaps → NoChange → Ascends first → Ascends second
+    → items ≡ changes first second → Appends a b (change_lines items) → same ≡ true ↔ items ≡ [] → AreTold first second a b same
+all_told first second items a b same diffs none one two is wrote equal = record {
+  changes = changes first second;
+  is = diffs first second one two;
+  printed = subst (λ l. Appends a b (change_lines l)) is wrote;
+  equal = (λ t. (none first second).0 (sym is ∙ equal.0 t), λ e. equal.1 (is ∙ (none first second).1 e));
+}
 
--- all pairs of a map are between no bounds
-pub within_all : (m : Map) → within Unbounded Unbounded m ≡ entries m
-within_all m = all_kept (entries m)
-
--- the changes of the sorted pairs of two maps are those of the maps
-diff_of : (m n : Map) → SortedAscends → DiffsAreOfMaps → IsDiff (entries m) (entries n) (changes (entries m) (entries n))
-diff_of m n ascends diffs = diffs (entries m) (entries n) (subst (λ ps. Ascends ps) (within_all m) (ascends Unbounded Unbounded m)) (subst (λ ps. Ascends ps) (within_all n) (ascends Unbounded Unbounded n))
-
-pub all_told : (m n : Map) (first second : Pairs) (items : Entries Change) (a b : Option (List ℕ)) (same : Bool) → SortedAscends → DiffsAreOfMaps → NoChange → first ≡ within Unbounded Unbounded m → second ≡ within Unbounded Unbounded n
-    → items ≡ changes first second → Appends a b (change_lines items) → same ≡ true ↔ items ≡ [] → AreTold m n a b same
-all_told m n first second items a b same ascends diffs none p q is wrote equal =
-    let all : items ≡ changes (entries m) (entries n) = is ∙ ap (λ ps. changes ps second) (p ∙ within_all m) ∙ ap (changes (entries m)) (q ∙ within_all n) in
-    record {
-      changes = changes (entries m) (entries n);
-      is = diff_of m n ascends diffs;
-      printed = subst (λ l. Appends a b (change_lines l)) all wrote;
-      equal = (λ t. (none (entries m) (entries n)).0 (sym all ∙ equal.0 t), λ e. equal.1 (all ∙ (none (entries m) (entries n)).1 e));
-    }
-
-pub part_told : (m n : Map) (first second : Pairs) (items : Entries Change) (a b : Option (List ℕ)) → SortedAscends → DiffsAreOfMaps → first ≡ within Unbounded Unbounded m → second ≡ within Unbounded Unbounded n
-    → items ≡ changes first second → AppendsPart a b (change_lines items) → AreToldInPart m n a b
-part_told m n first second items a b ascends diffs p q is wrote =
-    let all : items ≡ changes (entries m) (entries n) = is ∙ ap (λ ps. changes ps second) (p ∙ within_all m) ∙ ap (changes (entries m)) (q ∙ within_all n) in
-    record {
-      changes = changes (entries m) (entries n);
-      is = diff_of m n ascends diffs;
-      printed = subst (λ l. AppendsPart a b (change_lines l)) all wrote;
-    }
+pub part_told : (first second : Pairs) (items : Entries Change) (a b : Option (List ℕ)) → DiffsAreOfMaps → Ascends first → Ascends second
+    → items ≡ changes first second → AppendsPart a b (change_lines items) → AreToldInPart first second a b
+part_told first second items a b diffs one two is wrote = record {
+  changes = changes first second;
+  is = diffs first second one two;
+  printed = subst (λ l. AppendsPart a b (change_lines l)) is wrote;
+}
 
 -- nothing was told so far
-pub none_told : (m n : Map) (a : Option (List ℕ)) → SortedAscends → DiffsAreOfMaps → AreToldInPart m n a a
-none_told m n a ascends diffs = record {
-  changes = changes (entries m) (entries n);
-  is = diff_of m n ascends diffs;
-  printed = part_none a (change_lines (changes (entries m) (entries n)));
-}
+pub none_told : (k j : Kind) (m n : Map) (a : Option (List ℕ)) → SortedAscends → DiffsAreOfMaps → CombinedAreMaps → AreToldInPart (entries m) (second_pairs k j m n) a a
+none_told k j m n a ascends diffs combined =
+    let first = entries m in
+    let second = second_pairs k j m n in
+    record {
+      changes = changes first second;
+      is = diffs first second (entries_ascend ascends m) (second_ascends ascends combined k j m n);
+      printed = part_none a (change_lines (changes first second));
+    }
 
 -- what follows from two clauses of a result
 pub ok_both : {E P : Type 0} {Q R : Bool → Type 0} (r : Result Bool E) → ((same : Bool) → P → Q same → R same) → OnOk r P → IfOk r Q → IfOk r R

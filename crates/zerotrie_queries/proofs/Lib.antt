@@ -12,4 +12,7 @@ mod LongestLemmas
 mod FrontLemmas
 mod LimitLemmas
 mod SortedLemmas
+pub mod RecasedLemmas
 mod DiffLemmas
+mod FoldLemmas
+mod WordLemmas

@@ -9,7 +9,7 @@ use Rattle.std.specs.Cmp.{nat_cmp_is}
 use Rattle.std.specs.Cmp.Lexicographic.{slice_cmp}
 use Rattle.std.specs.Range.Bound.{bound_map, bounds_contain, is_up_to_end}
 use Rattle.std.specs.declared.ops.Bound.{Bound}
-use Rattle.std.specs.declared.ops.Bound.TheVariants.{Included, Excluded}
+use Rattle.std.specs.declared.ops.Bound.TheVariants.{Included, Excluded, Unbounded}
 use Rattle.std.proofs.lemmas.Bool.{cases_eq, ne_eqb, eq-eqb}
 use Rattle.zerotrie_base.proofs.CanonicalLemmas.Bounds.{entries_count}
 use Rattle.zerotrie_core.specs.Kind.{Kind, same_byte}
@@ -24,22 +24,12 @@ use Rattle.zerotrie_search.specs.Searches.{accepted}
 use Rattle.zerotrie_search.specs.Sets.{by_bytes}
 use Rattle.zerotrie_search.specs.Sorted.{within}
 use Rattle.zerotrie_search.proofs.PathLemmas.{lists_few}
-use Rattle.zerotrie_queries.specs.Chosen.{chosen, is_chosen, is_in, is_matched}
+use Rattle.zerotrie_queries.specs.Chosen.{chosen, is_chosen, is_in, is_matched, IsFolded}
 use Rattle.zerotrie_queries.specs.Sorted.{picked, below_some, AreWithin}
 use Rattle.zerotrie_queries.specs.declared.question.Order.TheVariants.{ByBytes}
 use Rattle.zerotrie_queries.specs.declared.question.Choice.{Choice}
-use Rattle.zerotrie_queries.proofs.ChoiceLemmas.{accepted_alike, few_accepted}
-
--- of the pairs within bounds those are accepted that are accepted of all, if each accepted key is within
-pub accepted_within : (p q : List ℕ → Bool) (pairs : Pairs) → ((key : List ℕ) → p key ≡ true → q key ≡ true) → accepted p (accepted q pairs) ≡ accepted p pairs
-accepted_within p q [] h = refl
-accepted_within p q (e ∷ pairs) h = go (p e.0) (q e.0) refl refl (accepted_within p q pairs h)
-  where
-    go : (a b : Bool) → p e.0 ≡ a → q e.0 ≡ b → accepted p (accepted q pairs) ≡ accepted p pairs → accepted p (cond b (e ∷ accepted q pairs) (accepted q pairs)) ≡ cond a (e ∷ accepted p pairs) (accepted p pairs)
-    go true true is inside rest = rw is (ap (λ l. e ∷ l) rest)
-    go false true is inside rest = rw is rest
-    go true false is inside rest = absurd (let no : false ≡ true = sym inside ∙ h e.0 is in cc)
-    go false false is inside rest = rest
+use Rattle.zerotrie_queries.proofs.ChoiceLemmas.{accepted_alike, accepted_within, few_accepted}
+use Rattle.zerotrie_queries.proofs.FoldLemmas.{exact_key, in_range}
 
 -- the pairs that are chosen between bounds are all that are chosen, if each key that is chosen is between them
 pub chosen_within : (kind : TrieKind) (c : Choice) (from to : Bound (List ℕ)) (m : Map) → AreWithin kind c from to → accepted (is_chosen kind c) (within from to m) ≡ chosen kind c (entries m)
@@ -139,13 +129,19 @@ pub prefix_within : (kind : TrieKind) (c : Choice) (above : Option (List ℕ)) �
     → IfSome above (λ bound. (key : List ℕ) → is_some (after_run c.prefix.now key) ≡ true → slice_cmp nat_cmp key bound ≡ Less)
     → AreWithin kind c (Included c.prefix.now) (below_some above)
 prefix_within kind c above exact h key is =
-    let begins = (both_parts (begins_with (kind_of kind) c.prefix.now key) (is_in c.range key) (is_matched c.automaton key) is).0 in
+    let begins = (both_parts (begins_with (kind_of kind) c.prefix.now key) (is_in kind c.range key) (is_matched kind c.sought key) is).0 in
     let run = as_run kind exact c.prefix.now key begins in
     both (is_le (slice_cmp nat_cmp c.prefix.now key)) (is_up_to_end by_bytes (below_some above) key) (run_from c.prefix.now key run) (ends c.prefix.now key above h run)
 
 -- they are in the range
-pub range_within : (kind : TrieKind) (c : Choice) → AreWithin kind c (bound_map (λ b. b.now) c.range.from) (bound_map (λ b. b.now) c.range.to)
-range_within kind c key is = (both_parts (begins_with (kind_of kind) c.prefix.now key) (is_in c.range key) (is_matched c.automaton key) is).1
+pub range_within : (kind : TrieKind) (c : Choice) → kind ≢ Ignore → IsFolded kind c → AreWithin kind c (bound_map (λ b. b.now) c.range.from) (bound_map (λ b. b.now) c.range.to)
+range_within kind c exact h key is =
+    let inside = (both_parts (begins_with (kind_of kind) c.prefix.now key) (is_in kind c.range key) (is_matched kind c.sought key) is).1 in
+    subst (λ k. bounds_contain by_bytes (bound_map (λ b. b.now) c.range.from) (bound_map (λ b. b.now) c.range.to) k ≡ true) (exact_key kind exact key) (in_range kind c h key ∙ inside)
+
+-- without bounds all keys are
+pub all_within : (kind : TrieKind) (c : Choice) → AreWithin kind c Unbounded Unbounded
+all_within kind c key is = refl
 
 -- what a sorted listing lists is what is picked of the pairs that the bytes list
 pub picked_sorted : (kind : TrieKind) (c : Choice) (accepts : List ℕ → Bool) → ((key : List ℕ) → accepts key ≡ is_chosen kind c key) → (from to : Bound (List ℕ)) (bytes : List ℕ) (left : Left) → length bytes < 2 ^ 64 → AreWithin kind c from to

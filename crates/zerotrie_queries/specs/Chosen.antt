@@ -1,33 +1,122 @@
 -- The pairs that are chosen of a trie.
-use Rattle.std.specs.Prelude.{ℕ, List, Bool, true, false, ◌&&◌, Option, Some, None}
+use Rattle.std.specs.Prelude.{◌≡◌, ℕ, List, Bool, true, false, ◌&&◌, ◌==◌, Option, Some, None, [], length, nat_le, unwrap_or, if◌then◌else◌}
+use Rattle.std.proofs.Common.{zero, suc}
 use Rattle.std.specs.Range.Bound.{bound_map, bounds_contain}
+use Rattle.std.specs.Option.{option_map}
+use Rattle.std.specs.Str.{chars, is_utf8}
+use Rattle.std.specs.declared.ops.Bound.{Bound}
 use Rattle.zerotrie_core.specs.Maps.{Pairs, begins_with}
 use Rattle.zerotrie_core.specs.Kinds.{kind_of}
 use Rattle.zerotrie_core.specs.Listings.{Left}
 use Rattle.zerotrie_core.specs.declared.TrieKind.{TrieKind}
-use Rattle.zerotrie_search.specs.Automata.{any_accepts}
+use Rattle.zerotrie_index.specs.Tries.{folded_key}
+use Rattle.zerotrie_search.specs.Automata.{finds}
 use Rattle.zerotrie_search.specs.Searches.{accepted}
 use Rattle.zerotrie_search.specs.Sets.{by_bytes}
-use Rattle.zerotrie_search.specs.declared.any.AnyAutomaton.{AnyAutomaton}
+use Rattle.zerotrie_search.specs.Globs as globs
+use Rattle.zerotrie_search.specs.declared.TheConstants.{WORD_LIMIT}
+use Rattle.zerotrie_search.specs.declared.any.SearchBy.{SearchBy}
+use Rattle.zerotrie_search.specs.declared.any.SearchBy.TheVariants as by
 use Rattle.zerotrie_search.specs.declared.range.KeyRange.{KeyRange}
+use Rattle.zerotrie_queries.specs.declared.folding.FoldedWords.{FoldedWords}
 use Rattle.zerotrie_queries.specs.declared.question.Choice.{Choice}
+use Rattle.zerotrie_queries.specs.declared.question.Sought.{Sought}
+
+-- whether a word is one of its sort: a pattern that is not malformed, text, and not too long
+abbrev pub is_pattern : List ℕ → Bool
+is_pattern letters = (length (globs.no_item letters) == 0) && nat_le (length (globs.items letters)) WORD_LIMIT
+
+abbrev pub is_short : (most edits : ℕ) → List ℕ → Bool
+is_short most edits letters = nat_le (length letters) WORD_LIMIT && nat_le edits most
+
+abbrev pub is_word : SearchBy → List ℕ → Bool
+is_word by.Prefix word = true
+is_word by.Glob word = is_pattern word
+is_word by.GlobChars word = is_utf8 word && is_pattern (chars word)
+is_word by.Subsequence word = true
+is_word (by.Fuzzy edits) word = is_short 254 edits word
+is_word (by.FuzzyChars edits) word = is_utf8 word && is_short 254 edits (chars word)
+is_word (by.Swaps edits) word = is_short 7 edits word
+is_word (by.SwapsChars edits) word = is_utf8 word && is_short 7 edits (chars word)
+
+-- a bound, as the kind compares bytes
+abbrev pub folded_bound : TrieKind → Bound (List ℕ) → Bound (List ℕ)
+folded_bound kind bound = bound_map (folded_key (kind_of kind)) bound
 
 -- whether a key is between the bounds of a range
-abbrev pub is_in : KeyRange → List ℕ → Bool
-is_in r key = bounds_contain by_bytes (bound_map (λ b. b.now) r.from) (bound_map (λ b. b.now) r.to) key
+abbrev pub is_in : TrieKind → KeyRange → List ℕ → Bool
+is_in kind r key = bounds_contain by_bytes (folded_bound kind (bound_map (λ b. b.now) r.from)) (folded_bound kind (bound_map (λ b. b.now) r.to)) (folded_key (kind_of kind) key)
 
--- whether an automaton accepts it, if there is one
-abbrev pub is_matched : Option AnyAutomaton → List ℕ → Bool
-is_matched None key = true
-is_matched (Some automaton) key = any_accepts automaton key
+-- whether a word finds it, if there is one
+abbrev pub is_matched : TrieKind → Option Sought → List ℕ → Bool
+is_matched kind None key = true
+is_matched kind (Some s) key = is_word s.by (folded_key (kind_of kind) s.word.now) && finds s.by (folded_key (kind_of kind) s.word.now) (folded_key (kind_of kind) key)
 
 -- whether it is chosen
 abbrev pub is_chosen : TrieKind → Choice → List ℕ → Bool
-is_chosen kind c key = (begins_with (kind_of kind) c.prefix.now key && is_in c.range key) && is_matched c.automaton key
+is_chosen kind c key = (begins_with (kind_of kind) c.prefix.now key && is_in kind c.range key) && is_matched kind c.sought key
+
+-- the word by which keys are sought, or no bytes
+abbrev pub word_in : Choice → List ℕ
+word_in c = unwrap_or (option_map (λ s. s.word.now) c.sought) []
+
+-- A choice whose bounds and word are as the kind compares them.
+pub record IsFolded (kind : TrieKind) (c : Choice) : Type 0 where
+  pub from : folded_bound kind (bound_map (λ b. b.now) c.range.from) ≡ bound_map (λ b. b.now) c.range.from
+  pub to : folded_bound kind (bound_map (λ b. b.now) c.range.to) ≡ bound_map (λ b. b.now) c.range.to
+  pub word : option_map (λ s. folded_key (kind_of kind) s.word.now) c.sought ≡ option_map (λ s. s.word.now) c.sought
+
+-- The words of a choice, as the kind compares them.
+pub record AreWordsOf (kind : TrieKind) (c : Choice) (words : FoldedWords) : Type 0 where
+  pub prefix : words.prefix.items ≡ folded_key (kind_of kind) c.prefix.now
+  pub from : bound_map (λ v. v.items) words.from ≡ folded_bound kind (bound_map (λ b. b.now) c.range.from)
+  pub to : bound_map (λ v. v.items) words.to ≡ folded_bound kind (bound_map (λ b. b.now) c.range.to)
+  pub word : words.word.items ≡ folded_key (kind_of kind) (word_in c)
+
+-- A choice has them in place of those of another one.
+pub record HasWords (words : FoldedWords) (c with_words : Choice) : Type 0 where
+  pub prefix : with_words.prefix.now ≡ words.prefix.items
+  pub from : bound_map (λ b. b.now) with_words.range.from ≡ bound_map (λ v. v.items) words.from
+  pub to : bound_map (λ b. b.now) with_words.range.to ≡ bound_map (λ v. v.items) words.to
+  pub by : option_map (λ s. s.by) with_words.sought ≡ option_map (λ s. s.by) c.sought
+  pub word : option_map (λ s. s.word.now) with_words.sought ≡ option_map (λ _. words.word.items) c.sought
+
+-- how many edits are allowed, if keys are sought by edits
+abbrev pub edits_by : SearchBy → ℕ
+edits_by by.Prefix = 0
+edits_by by.Glob = 0
+edits_by by.GlobChars = 0
+edits_by by.Subsequence = 0
+edits_by (by.Swaps edits) = edits
+edits_by (by.SwapsChars edits) = edits
+edits_by (by.Fuzzy edits) = edits
+edits_by (by.FuzzyChars edits) = edits
+
+abbrev pub edits_of : Choice → ℕ
+edits_of c = unwrap_or (option_map (λ s. edits_by s.by) c.sought) 0
+
+-- the same with other edits
+abbrev pub by_edits : ℕ → SearchBy → SearchBy
+by_edits e by.Prefix = by.Prefix
+by_edits e by.Glob = by.Glob
+by_edits e by.GlobChars = by.GlobChars
+by_edits e by.Subsequence = by.Subsequence
+by_edits e (by.Swaps edits) = by.Swaps e
+by_edits e (by.SwapsChars edits) = by.SwapsChars e
+by_edits e (by.Fuzzy edits) = by.Fuzzy e
+by_edits e (by.FuzzyChars edits) = by.FuzzyChars e
+
+abbrev pub at_edits : ℕ → Choice → Choice
+at_edits e c = record { prefix = c.prefix; range = c.range; sought = option_map {U = Sought} (λ s. record { by = by_edits e s.by; word = s.word }) c.sought }
 
 -- the pairs whose keys are chosen, in their order
 abbrev pub chosen : TrieKind → Choice → Pairs → Pairs
 chosen kind c pairs = accepted (is_chosen kind c) pairs
+
+-- the first that are any of the pairs that are chosen with this many edits, with one more, and so on
+abbrev pub closest : TrieKind → Choice → Pairs → ℕ → ℕ → Pairs
+closest kind c pairs e zero = chosen kind (at_edits e c) pairs
+closest kind c pairs e (suc n) = if length (chosen kind (at_edits e c) pairs) == 0 then closest kind c pairs (suc e) n else chosen kind (at_edits e c) pairs
 
 -- what is left of a prefix begins what follows in a key, if all before was as it
 abbrev pub begins_left : TrieKind → Option (List ℕ) → List ℕ → Bool

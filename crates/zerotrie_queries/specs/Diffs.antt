@@ -3,7 +3,7 @@ use Rattle.std.specs.Prelude.{◌≡◌, ◌↔◌, ℕ, List, [], ◌∷◌, �
 use Rattle.std.specs.FinMap.{entries}
 use Rattle.std.specs.Io.KnownBytes.{Appends}
 use Rattle.zerotrie_core.specs.Kinds.{kind_of}
-use Rattle.zerotrie_core.specs.Maps.{Map}
+use Rattle.zerotrie_core.specs.Maps.{Map, Pairs}
 use Rattle.zerotrie_core.specs.Texts.{Means}
 use Rattle.zerotrie_core.specs.declared.TrieKind.{TrieKind}
 use Rattle.zerotrie_files.specs.Parts.{AppendsPart}
@@ -12,6 +12,7 @@ use Rattle.zerotrie_lines.specs.Lines.{tsv_line}
 use Rattle.zerotrie_sets.specs.Changes.{IsDiff}
 use Rattle.zerotrie_sets.specs.Merges.{Entries}
 use Rattle.zerotrie_sets.specs.declared.diff.Change.{Change}
+use Rattle.zerotrie_queries.specs.Recased.{second_pairs}
 use Rattle.zerotrie_sets.specs.declared.diff.Change.TheVariants.{Added, Removed, Changed}
 
 -- the line of a key that changed: a sign, the key, and its value, or its values before and after
@@ -24,22 +25,22 @@ abbrev pub change_lines : Entries Change → List ℕ
 change_lines [] = []
 change_lines (c ∷ changes) = change_line c.0 c.1 ++ change_lines changes
 
--- What was printed are the lines of exactly the keys that changed from one map to another, and how they did. Whether there are none.
-pub record AreTold (first second : Map) (old new : Option (List ℕ)) (same : Bool) : Type 0 where
+-- What was printed are the lines of exactly the keys that changed from some pairs to others, and how they did. Whether there are none.
+pub record AreTold (first second : Pairs) (old new : Option (List ℕ)) (same : Bool) : Type 0 where
   pub changes : Entries Change
-  pub is : IsDiff (entries first) (entries second) changes
+  pub is : IsDiff first second changes
   pub printed : Appends old new (change_lines changes)
-  pub equal : same ≡ true ↔ entries first ≡ entries second
+  pub equal : same ≡ true ↔ first ≡ second
 
 -- A beginning of these lines was printed.
-pub record AreToldInPart (first second : Map) (old new : Option (List ℕ)) : Type 0 where
+pub record AreToldInPart (first second : Pairs) (old new : Option (List ℕ)) : Type 0 where
   pub changes : Entries Change
-  pub is : IsDiff (entries first) (entries second) changes
+  pub is : IsDiff first second changes
   pub printed : AppendsPart old new (change_lines changes)
 
--- bytes of two kinds were compared
+-- bytes of two kinds were compared, as both kinds have keys
 abbrev pub AreCompared : TrieKind → List ℕ → TrieKind → List ℕ → (old new : Option (List ℕ)) → Bool → Type 0
-AreCompared kind bytes other others old new same = (m n : Map) → Means (kind_of kind) bytes m → Means (kind_of other) others n → AreTold m n old new same
+AreCompared kind bytes other others old new same = (m n : Map) → Means (kind_of kind) bytes m → Means (kind_of other) others n → AreTold (entries m) (second_pairs (kind_of kind) (kind_of other) m n) old new same
 
 abbrev pub AreComparedInPart : TrieKind → List ℕ → TrieKind → List ℕ → (old new : Option (List ℕ)) → Type 0
-AreComparedInPart kind bytes other others old new = (m n : Map) → Means (kind_of kind) bytes m → Means (kind_of other) others n → AreToldInPart m n old new
+AreComparedInPart kind bytes other others old new = (m n : Map) → Means (kind_of kind) bytes m → Means (kind_of other) others n → AreToldInPart (entries m) (second_pairs (kind_of kind) (kind_of other) m n) old new

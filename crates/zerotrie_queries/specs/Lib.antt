@@ -5,6 +5,7 @@ pub mod Printed
 pub mod Chosen
 pub mod Sorted
 pub mod Listed
+pub mod Recased
 pub mod Diffs
 pub mod Finders
 pub mod Answers

@@ -7,19 +7,16 @@ use Rattle.std.specs.declared.ops.Bound.TheVariants.{Excluded, Unbounded}
 use Rattle.zerotrie_core.specs.Maps.{Pairs, map_of}
 use Rattle.zerotrie_core.specs.declared.TrieKind.{TrieKind}
 use Rattle.zerotrie_search.specs.Sets.{by_bytes}
-use Rattle.zerotrie_queries.specs.Chosen.{chosen, is_chosen}
+use Rattle.zerotrie_queries.specs.Chosen.{chosen, closest, edits_of, is_chosen}
 use Rattle.zerotrie_queries.specs.declared.question.Choice.{Choice}
 use Rattle.zerotrie_queries.specs.declared.question.Order.{Order}
-use Rattle.zerotrie_queries.specs.declared.question.Order.TheVariants.{Stored, ByBytes}
+use Rattle.zerotrie_queries.specs.declared.question.Order.TheVariants.{Stored, ByBytes, Closest}
 
--- pairs that a trie lists, in an order: as it lists them, or as their keys ascend by their bytes
-abbrev pub in_order : Order → Pairs → Pairs
-in_order Stored pairs = pairs
-in_order ByBytes pairs = entries (map_of pairs)
-
--- the pairs whose keys are chosen, in an order
+-- the pairs whose keys are chosen, in an order: as a trie lists them, or as their keys ascend by their bytes
 abbrev pub picked : Order → TrieKind → Choice → Pairs → Pairs
-picked order kind choice pairs = chosen kind choice (in_order order pairs)
+picked Stored kind c pairs = chosen kind c pairs
+picked ByBytes kind c pairs = chosen kind c (entries (map_of pairs))
+picked Closest kind c pairs = closest kind c (entries (map_of pairs)) 0 (edits_of c)
 
 -- each key that is chosen is between two bounds
 abbrev pub AreWithin : TrieKind → Choice → (from to : Bound (List ℕ)) → Type 0

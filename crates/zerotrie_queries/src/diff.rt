@@ -3,23 +3,24 @@
 ghost use Rattle.std.specs.Prelude.{◌≡◌, ◌↔◌, ◌++◌, ◌<◌, [], length, true, false, OnOk, OnErr, IfOk};
 ghost use Rattle.std.specs.Io.KnownBytes.{Appends};
 ghost use Rattle.zerotrie_core.specs.Kinds.{kind_of};
+ghost use Rattle.zerotrie_core.specs.Maps.{Ascends};
 ghost use Rattle.zerotrie_core.specs.WellFormed.{IsWellFormed};
 ghost use Rattle.zerotrie_files.specs.Faults.{IsNoted};
 ghost use Rattle.zerotrie_files.specs.Parts.{AppendsPart};
 ghost use Rattle.zerotrie_lines.specs.Lines.{tsv_line};
-ghost use Rattle.zerotrie_queries.specs.Diffs.{change_line, change_lines, AreCompared, AreComparedInPart};
+ghost use Rattle.zerotrie_queries.specs.Diffs.{change_line, change_lines, AreCompared, AreComparedInPart, AreTold, AreToldInPart};
 ghost use Rattle.zerotrie_sets.specs.declared.diff.Change.TheVariants.{Changed};
 
-use crate::sorted::stream_sorted;
+use crate::any_case::{ignore_case, of_sorted, recased};
+use crate::sorted::sorted_pairs;
 use std::alloc::{AllocError, Global};
 use std::io;
 use std::io::Write;
-use std::ops::Bound;
 use zerotrie_core::{PairStream, TrieRef};
 use zerotrie_files::Noted;
 use zerotrie_lines::{write_escaped, write_number, write_pair};
 use zerotrie_search::laws::sorted_listing_ascends;
-use zerotrie_sets::laws::{diffs_are_of_maps, no_change};
+use zerotrie_sets::laws::{combined_are_maps, diffs_are_of_maps, no_change};
 use zerotrie_sets::{Change, Diff};
 
 /// The least number of bytes that one write has, but for the last.
@@ -109,12 +110,35 @@ fn write_changes<S: PairStream, T: PairStream, W: Write>(
     }
 }
 
+/// Writes a line for each key that changed from one listing to another, and returns whether they have
+/// the same pairs. If it fails, a beginning of the lines was written.
+fn write_merged<S: PairStream + Drop, T: PairStream + Drop, W: Write>(
+    alloc: Global,
+    first: S,
+    second: T,
+    output: &mut Noted<W>,
+) -> io::Result<bool>
+    requires first { Ascends (S.left first).pairs }
+    requires second { Ascends (T.left second).pairs }
+    ensures all { IfOk result (AreTold (S.left first).pairs (T.left second).pairs
+        (W.contents output.old.inner) (W.contents output.new.inner)) }
+    ensures part { OnErr result (AreToldInPart (S.left first).pairs (T.left second).pairs
+        (W.contents output.old.inner) (W.contents output.new.inner)) }
+    ensures noted { IsNoted result output.old.failed output.new.failed }
+{
+    diffs_are_of_maps();
+    no_change();
+    let mut diff = Diff::new(first, second);
+    write_changes(alloc, &mut diff, output)
+}
+
 /// Writes a line for each key that changed from one trie to another, in the order of the keys'
 /// bytes, and returns whether they have the same pairs. The kinds of the two may differ.
 ///
 /// A line is `+`, the key and its value if only the new trie has the key; `-`, the key and its
 /// value if only the old one has it; or `~`, the key, and the old and the new value. Tabs are
-/// between, and keys are written with escapes.
+/// between, and keys are written with escapes. If both tries ignore case, so does this: a key that
+/// both have is written as the old trie has it.
 ///
 /// ```
 /// let old = TrieRef { kind: TrieKind::Simple, bytes: b"a\x81" };
@@ -122,9 +146,15 @@ fn write_changes<S: PairStream, T: PairStream, W: Write>(
 /// let mut output = Noted::new(Vec::new(rt.alloc()));
 /// assert!(rt; !write_diff(rt.alloc(), &old, &new, &mut output)?);
 /// assert_eq!(rt; output.get_ref().as_slice(), b"~\ta\t1\t5\n+\tab\t6\n".as_slice());
+/// let old = TrieRef { kind: TrieKind::Ignore, bytes: b"Ab\x81" };
+/// let new = TrieRef { kind: TrieKind::Ignore, bytes: b"aB\x85" };
+/// let mut output = Noted::new(Vec::new(rt.alloc()));
+/// assert!(rt; !write_diff(rt.alloc(), &old, &new, &mut output)?);
+/// assert_eq!(rt; output.get_ref().as_slice(), b"~\tAb\t1\t5\n".as_slice());
 /// ```
 ///
-/// It allocates for the longest keys alone. If it fails, a beginning of the lines was written.
+/// It allocates for the longest keys alone, and for the new trie's pairs if both ignore case. If it
+/// fails, a beginning of the lines was written.
 pub fn write_diff<W: Write>(
     alloc: Global,
     old: &TrieRef<'_>,
@@ -142,10 +172,15 @@ pub fn write_diff<W: Write>(
     ensures noted { IsNoted result output.old.failed output.new.failed }
 {
     sorted_listing_ascends();
+    combined_are_maps();
     diffs_are_of_maps();
-    no_change();
-    let first = stream_sorted(alloc, old, Bound::Unbounded, Bound::Unbounded)?;
-    let second = stream_sorted(alloc, new, Bound::Unbounded, Bound::Unbounded)?;
-    let mut diff = Diff::new(first, second);
-    write_changes(alloc, &mut diff, output)
+    let first = sorted_pairs(alloc, old)?;
+    if ignore_case(old.kind, new.kind) {
+        let table = recased(alloc, old, new)?;
+        let items = table.items(alloc)?;
+        write_merged(alloc, first, of_sorted(items.as_slice()), output)
+    } else {
+        let second = sorted_pairs(alloc, new)?;
+        write_merged(alloc, first, second, output)
+    }
 }

@@ -6,10 +6,12 @@
 //! nodes.
 #![tactic(auto)]
 
+mod any_case;
 pub mod code;
 mod diff;
 mod file;
 mod first_pairs;
+mod folding;
 mod json_text;
 mod listing;
 mod lookups;
@@ -21,14 +23,15 @@ mod sorted;
 mod text;
 mod views;
 
+pub use any_case::{collect, ignore_case, of_sorted, recased};
 pub use code::{Language, is_name, write_trie_code};
 pub use diff::write_diff;
 pub use file::{OpenError, of_tagged, open, open_unchecked};
 pub use listing::{ListError, write_list};
 pub use lookups::write_answers;
 pub use print::{Form, Style};
-pub use question::{Asked, Choice, Finder, Order, Query, Spelling};
+pub use question::{Asked, Choice, Finder, Order, Query, Sought, Spelling};
 pub use reports::{Branches, Report, ReportForm, write_trie_report};
-pub use sorted::stream_sorted;
+pub use sorted::sorted_pairs;
 pub use text::looks_like_text;
 pub use views::{View, write_trie_view};

@@ -1,14 +1,18 @@
 //! The pairs of a trie, printed as they come.
 
-ghost use Rattle.std.specs.Prelude.{◌≡◌, ◌≢◌, ℕ, List, [], None, true, IfOk, IfErr, IfSome, IfNone, OnOk, OnErr};
-ghost use Rattle.zerotrie_core.specs.Maps.{beginning};
+ghost use Rattle.std.specs.Prelude.{◌≡◌, ◌==◌, length, not, ◌≢◌, ℕ, List, [], None, true, IfOk, IfErr, IfSome, IfNone, OnOk, OnErr};
+ghost use Rattle.std.specs.FinMap.{entries};
+ghost use Rattle.zerotrie_core.specs.Maps.{Map, beginning};
+ghost use Rattle.zerotrie_core.specs.Texts.{Means};
+ghost use Rattle.zerotrie_core.specs.WellFormed.{IsWellFormed};
 ghost use Rattle.zerotrie_core.specs.Kinds.{kind_of};
 ghost use Rattle.zerotrie_search.specs.Searches.{accepted};
 ghost use Rattle.std.specs.Range.Bound.{bound_map};
+ghost use Rattle.zerotrie_core.specs.declared.TrieKind.{TrieKind};
 ghost use Rattle.zerotrie_core.specs.declared.TrieKind.TheVariants.{Ignore};
-ghost use Rattle.zerotrie_queries.specs.Chosen.{chosen, is_chosen, is_in, is_matched};
+ghost use Rattle.zerotrie_queries.specs.Chosen.{at_edits, chosen, closest, edits_of, is_chosen, is_in, is_matched, IsFolded};
 ghost use Rattle.zerotrie_queries.specs.Sorted.{AreWithin, picked};
-ghost use Rattle.zerotrie_queries.specs.declared.question.Order.TheVariants.{ByBytes};
+ghost use Rattle.zerotrie_queries.specs.declared.question.Order.TheVariants.{ByBytes, Closest};
 ghost use Rattle.zerotrie_queries.specs.Listed.{AreListed, AreListedInPart, AreNoText, AreUnlisted, IsListingNoted};
 ghost use Rattle.zerotrie_files.specs.Faults.{IsNoted};
 ghost use Rattle.zerotrie_queries.specs.declared.listing.ListError.TheVariants.{Failed};
@@ -16,18 +20,19 @@ ghost use Rattle.zerotrie_queries.specs.declared.listing.ListError.TheVariants.{
 mod forms;
 mod json_object;
 
+use crate::folding::FoldedWords;
 use crate::listing::forms::write_first;
 use crate::prefix::KindPrefix;
 use crate::print::Form;
 use crate::question::{Choice, Order};
 use crate::sorted::{above_prefix, stream_chosen, upper_bound};
-use std::alloc::Global;
+use std::alloc::{AllocError, Global};
 use std::io;
 use std::io::Write;
 use std::ops::Bound;
-use zerotrie_core::{Trie, TrieKind, TrieRef};
+use zerotrie_core::{PairStream, Trie, TrieKind, TrieRef};
 use zerotrie_files::Noted;
-use zerotrie_search::{Automaton, Both, KeyRange, Search, StartsWith, by_automaton};
+use zerotrie_search::{Automaton, Both, ByKind, KeyRange, Not, Search, StartsWith, by_automaton};
 
 /// Why pairs are not listed, or not all of them.
 #[derive(Debug, Drop)]
@@ -98,7 +103,7 @@ fn write_accepted<T: Automaton + Copy + Drop, W: Write>(
 
 /// Returns whether a range has no bounds.
 fn is_unbounded(range: KeyRange<'_>) -> bool
-    ensures { result ≡ true → (key : List ℕ) → is_in range.entry key ≡ true }
+    ensures { result ≡ true → (kind : TrieKind) → (key : List ℕ) → is_in kind range.entry key ≡ true }
 {
     match (range.from, range.to) {
         (Bound::Unbounded, Bound::Unbounded) => true,
@@ -110,7 +115,8 @@ fn is_unbounded(range: KeyRange<'_>) -> bool
 /// Returns whether a choice has no condition but that of its automaton.
 fn is_free(choice: Choice<'_>) -> bool
     ensures prefix { result ≡ true → choice.entry.prefix.now ≡ [] }
-    ensures range { result ≡ true → (key : List ℕ) → is_in choice.entry.range key ≡ true }
+    ensures range { result ≡ true → (kind : TrieKind) → (key : List ℕ)
+        → is_in kind choice.entry.range key ≡ true }
 {
     choice.prefix.is_empty() && is_unbounded(choice.range)
 }
@@ -126,7 +132,8 @@ fn write_with_all<T: Automaton + Copy + Drop, W: Write>(
     limit: Option<usize>,
     output: &mut Noted<W>,
 ) -> io::Result<Option<Vec<u8>>>
-    requires { (key : List ℕ) → T.accepts automaton key ≡ is_matched choice.automaton key }
+    requires folded { IsFolded trie.now.kind choice }
+    requires matched { (key : List ℕ) → T.accepts automaton key ≡ is_matched trie.now.kind choice.sought key }
     ensures all { IfOk result (λ key. IfNone key (AreListed form (chosen trie.now.kind choice.entry)
         limit trie.now.kind trie.now.bytes.now (W.contents output.old.inner)
         (W.contents output.new.inner))) }
@@ -142,7 +149,8 @@ fn write_with_all<T: Automaton + Copy + Drop, W: Write>(
         kind: trie.kind,
         prefix: choice.prefix,
     };
-    let all = Both(Both(prefix, choice.range), automaton);
+    let range = ByKind(trie.kind, choice.range);
+    let all = Both(Both(prefix, range), automaton);
     write_accepted(alloc, trie, form, all, limit, output)
 }
 
@@ -157,7 +165,8 @@ fn write_matched<T: Automaton + Copy + Drop, W: Write>(
     limit: Option<usize>,
     output: &mut Noted<W>,
 ) -> io::Result<Option<Vec<u8>>>
-    requires { (key : List ℕ) → T.accepts automaton key ≡ is_matched choice.automaton key }
+    requires folded { IsFolded trie.now.kind choice }
+    requires matched { (key : List ℕ) → T.accepts automaton key ≡ is_matched trie.now.kind choice.sought key }
     ensures all { IfOk result (λ key. IfNone key (AreListed form (chosen trie.now.kind choice.entry)
         limit trie.now.kind trie.now.bytes.now (W.contents output.old.inner)
         (W.contents output.new.inner))) }
@@ -177,7 +186,7 @@ fn write_matched<T: Automaton + Copy + Drop, W: Write>(
 }
 
 /// Writes the first pairs whose keys are chosen, in the order of the trie. The choice has no
-/// automaton.
+/// word by which keys are sought.
 fn write_unmatched<W: Write>(
     alloc: Global,
     trie: &TrieRef<'_>,
@@ -186,7 +195,8 @@ fn write_unmatched<W: Write>(
     limit: Option<usize>,
     output: &mut Noted<W>,
 ) -> io::Result<Option<Vec<u8>>>
-    requires { choice.automaton ≡ None }
+    requires folded { IsFolded trie.now.kind choice }
+    requires none { choice.sought ≡ None }
     ensures all { IfOk result (λ key. IfNone key (AreListed form (chosen trie.now.kind choice.entry)
         limit trie.now.kind trie.now.bytes.now (W.contents output.old.inner)
         (W.contents output.new.inner))) }
@@ -207,6 +217,7 @@ fn write_unmatched<W: Write>(
 }
 
 /// Writes the first pairs whose keys are chosen, in the order of the trie.
+#[tactic(auto, using(crate::proofs::FoldLemmas::found_folded, crate::proofs::FoldLemmas::none_found))]
 fn write_stored<W: Write>(
     alloc: Global,
     trie: &TrieRef<'_>,
@@ -215,6 +226,7 @@ fn write_stored<W: Write>(
     limit: Option<usize>,
     output: &mut Noted<W>,
 ) -> io::Result<Option<Vec<u8>>>
+    requires { IsFolded trie.now.kind choice }
     ensures all { IfOk result (λ key. IfNone key (AreListed form (chosen trie.now.kind choice.entry)
         limit trie.now.kind trie.now.bytes.now (W.contents output.old.inner)
         (W.contents output.new.inner))) }
@@ -226,12 +238,17 @@ fn write_stored<W: Write>(
         (W.contents output.new.inner)) }
     ensures noted { IsNoted result output.old.failed output.new.failed }
 {
-    match choice.automaton {
-        None => write_unmatched(alloc, trie, form, choice, limit, output),
-        Some(any) => by_automaton!(any, automaton => {
-            write_matched(alloc, trie, form, choice, automaton, limit, output)
-        }),
-    }
+    let Some(sought) = choice.sought else {
+        return write_unmatched(alloc, trie, form, choice, limit, output);
+    };
+    let Some(any) = sought.automaton() else {
+        let no_key = Not(StartsWith(b""));
+        return write_matched(alloc, trie, form, choice, no_key, limit, output);
+    };
+    let kind = trie.kind;
+    by_automaton!(any, automaton => {
+        write_matched(alloc, trie, form, choice, ByKind(kind, automaton), limit, output)
+    })
 }
 
 /// Writes the first pairs that an automaton accepts, in the order of their bytes. It accepts just the
@@ -283,9 +300,10 @@ fn write_matched_between<T: Automaton + Copy + Drop, W: Write>(
     to: Bound<&[u8]>,
     output: &mut Noted<W>,
 ) -> io::Result<Option<Vec<u8>>>
+    requires folded { IsFolded trie.now.kind choice }
     requires within { AreWithin trie.now.kind choice (bound_map (λ b. b.now) from)
         (bound_map (λ b. b.now) to) }
-    requires matched { (key : List ℕ) → T.accepts automaton key ≡ is_matched choice.automaton key }
+    requires matched { (key : List ℕ) → T.accepts automaton key ≡ is_matched trie.now.kind choice.sought key }
     ensures all { IfOk result (λ key. IfNone key (AreListed form
         (picked ByBytes trie.now.kind choice.entry) limit trie.now.kind trie.now.bytes.now
         (W.contents output.old.inner) (W.contents output.new.inner))) }
@@ -306,12 +324,14 @@ fn write_matched_between<T: Automaton + Copy + Drop, W: Write>(
         kind: trie.kind,
         prefix: choice.prefix,
     };
-    let chosen = Both(Both(prefix, choice.range), automaton);
+    let range = ByKind(trie.kind, choice.range);
+    let chosen = Both(Both(prefix, range), automaton);
     write_accepted_between(alloc, trie, form, choice, chosen, limit, from, to, output)
 }
 
 /// Writes the first pairs whose keys are chosen, in the order of their bytes. All of these keys are
 /// between the bounds.
+#[tactic(auto, using(crate::proofs::FoldLemmas::found_folded, crate::proofs::FoldLemmas::none_found))]
 fn write_between<W: Write>(
     alloc: Global,
     trie: &TrieRef<'_>,
@@ -322,7 +342,8 @@ fn write_between<W: Write>(
     to: Bound<&[u8]>,
     output: &mut Noted<W>,
 ) -> io::Result<Option<Vec<u8>>>
-    requires { AreWithin trie.now.kind choice (bound_map (λ b. b.now) from)
+    requires folded { IsFolded trie.now.kind choice }
+    requires within { AreWithin trie.now.kind choice (bound_map (λ b. b.now) from)
         (bound_map (λ b. b.now) to) }
     ensures all { IfOk result (λ key. IfNone key (AreListed form
         (picked ByBytes trie.now.kind choice.entry) limit trie.now.kind trie.now.bytes.now
@@ -335,15 +356,19 @@ fn write_between<W: Write>(
         (W.contents output.new.inner)) }
     ensures noted { IsNoted result output.old.failed output.new.failed }
 {
-    match choice.automaton {
-        None => {
-            let any_key = StartsWith(b"");
-            write_matched_between(alloc, trie, form, choice, any_key, limit, from, to, output)
-        }
-        Some(any) => by_automaton!(any, automaton => {
-            write_matched_between(alloc, trie, form, choice, automaton, limit, from, to, output)
-        }),
-    }
+    let Some(sought) = choice.sought else {
+        let any_key = StartsWith(b"");
+        return write_matched_between(alloc, trie, form, choice, any_key, limit, from, to, output);
+    };
+    let Some(any) = sought.automaton() else {
+        let no_key = Not(StartsWith(b""));
+        return write_matched_between(alloc, trie, form, choice, no_key, limit, from, to, output);
+    };
+    let kind = trie.kind;
+    by_automaton!(any, automaton => {
+        let automaton = ByKind(kind, automaton);
+        write_matched_between(alloc, trie, form, choice, automaton, limit, from, to, output)
+    })
 }
 
 /// Writes the first pairs whose keys are chosen, in the order of their bytes. It reads the part of the
@@ -356,7 +381,8 @@ fn write_sorted_prefix<W: Write>(
     limit: Option<usize>,
     output: &mut Noted<W>,
 ) -> io::Result<Option<Vec<u8>>>
-    requires { trie.now.kind ≢ Ignore }
+    requires folded { IsFolded trie.now.kind choice }
+    requires exact { trie.now.kind ≢ Ignore }
     ensures all { IfOk result (λ key. IfNone key (AreListed form
         (picked ByBytes trie.now.kind choice.entry) limit trie.now.kind trie.now.bytes.now
         (W.contents output.old.inner) (W.contents output.new.inner))) }
@@ -375,7 +401,7 @@ fn write_sorted_prefix<W: Write>(
 }
 
 /// Writes the first pairs whose keys are chosen, in the order of their bytes.
-#[tactic(auto, using(crate::proofs::SortedLemmas::range_within))]
+#[tactic(auto, using(crate::proofs::SortedLemmas::range_within, crate::proofs::SortedLemmas::all_within))]
 fn write_sorted<W: Write>(
     alloc: Global,
     trie: &TrieRef<'_>,
@@ -384,6 +410,7 @@ fn write_sorted<W: Write>(
     limit: Option<usize>,
     output: &mut Noted<W>,
 ) -> io::Result<Option<Vec<u8>>>
+    requires { IsFolded trie.now.kind choice }
     ensures all { IfOk result (λ key. IfNone key (AreListed form
         (picked ByBytes trie.now.kind choice.entry) limit trie.now.kind trie.now.bytes.now
         (W.contents output.old.inner) (W.contents output.new.inner))) }
@@ -398,13 +425,183 @@ fn write_sorted<W: Write>(
     let from = choice.range.from;
     let to = choice.range.to;
     match (trie.kind, is_unbounded(choice.range)) {
+        (TrieKind::Ignore, _) => {
+            let (from, to) = (Bound::Unbounded, Bound::Unbounded);
+            write_between(alloc, trie, form, choice, limit, from, to, output)
+        }
         (TrieKind::Simple | TrieKind::Hash | TrieKind::Ext, true) => {
             write_sorted_prefix(alloc, trie, form, choice, limit, output)
         }
-        (TrieKind::Ignore, _) | (TrieKind::Simple | TrieKind::Hash | TrieKind::Ext, false) => {
+        (TrieKind::Simple | TrieKind::Hash | TrieKind::Ext, false) => {
             write_between(alloc, trie, form, choice, limit, from, to, output)
         }
     }
+}
+
+/// Returns whether a stream has a pair.
+fn has_pair<P: PairStream + Drop>(mut pairs: P) -> Result<bool, AllocError>
+    ensures { IfOk result (λ found. (length (P.left pairs).pairs == 0) ≡ not found) }
+{
+    pairs.advance()
+}
+
+/// Returns whether a trie has a pair whose key an automaton accepts.
+fn has_accepted<T: Automaton + Drop>(
+    alloc: Global,
+    trie: &TrieRef<'_>,
+    automaton: T,
+) -> Result<bool, AllocError>
+    requires { IsWellFormed (kind_of trie.now.kind) trie.now.bytes.now }
+    ensures { IfOk result (λ found. (m : Map) → Means (kind_of trie.now.kind) trie.now.bytes.now m
+        → (length (accepted (T.accepts automaton) (entries m)) == 0) ≡ not found) }
+{
+    let (from, to) = (Bound::Unbounded, Bound::Unbounded);
+    let pairs = stream_chosen(alloc, trie, automaton, from, to)?;
+    has_pair(pairs)
+}
+
+/// Returns whether a trie has a pair whose key is chosen. The automaton accepts what the word of the choice
+/// finds.
+fn has_matched<T: Automaton + Drop>(
+    alloc: Global,
+    trie: &TrieRef<'_>,
+    choice: Choice<'_>,
+    automaton: T,
+) -> Result<bool, AllocError>
+    requires valid { IsWellFormed (kind_of trie.now.kind) trie.now.bytes.now }
+    requires folded { IsFolded trie.now.kind choice }
+    requires matched { (key : List ℕ)
+        → T.accepts automaton key ≡ is_matched trie.now.kind choice.sought key }
+    ensures { IfOk result (λ found. (m : Map) → Means (kind_of trie.now.kind) trie.now.bytes.now m
+        → (length (chosen trie.now.kind choice.entry (entries m)) == 0) ≡ not found) }
+{
+    let prefix = KindPrefix {
+        kind: trie.kind,
+        prefix: choice.prefix,
+    };
+    let range = ByKind(trie.kind, choice.range);
+    has_accepted(alloc, trie, Both(Both(prefix, range), automaton))
+}
+
+/// Returns whether a trie has a pair whose key is chosen.
+#[tactic(auto, using(crate::proofs::FoldLemmas::found_folded, crate::proofs::FoldLemmas::none_found))]
+fn has_chosen(alloc: Global, trie: &TrieRef<'_>, choice: Choice<'_>) -> Result<bool, AllocError>
+    requires valid { IsWellFormed (kind_of trie.now.kind) trie.now.bytes.now }
+    requires folded { IsFolded trie.now.kind choice }
+    ensures { IfOk result (λ found. (m : Map) → Means (kind_of trie.now.kind) trie.now.bytes.now m
+        → (length (chosen trie.now.kind choice.entry (entries m)) == 0) ≡ not found) }
+{
+    let Some(sought) = choice.sought else {
+        return has_matched(alloc, trie, choice, StartsWith(b""));
+    };
+    let Some(any) = sought.automaton() else {
+        return has_matched(alloc, trie, choice, Not(StartsWith(b"")));
+    };
+    let kind = trie.kind;
+    by_automaton!(any, automaton => has_matched(alloc, trie, choice, ByKind(kind, automaton)))
+}
+
+/// Returns the fewest edits of the word of a choice with which a pair is chosen, or as many as it allows if
+/// none is.
+#[tactic(auto, using(crate::proofs::FoldLemmas::folded_at))]
+fn fewest_edits(alloc: Global, trie: &TrieRef<'_>, choice: Choice<'_>) -> Result<u32, AllocError>
+    requires valid { IsWellFormed (kind_of trie.now.kind) trie.now.bytes.now }
+    requires folded { IsFolded trie.now.kind choice }
+    ensures { IfOk result (λ e. (m : Map) → Means (kind_of trie.now.kind) trie.now.bytes.now m
+        → closest trie.now.kind choice.entry (entries m) 0 (edits_of choice.entry)
+        ≡ chosen trie.now.kind (at_edits e choice.entry) (entries m)) }
+{
+    for edits in 0..choice.edits() {
+        if has_chosen(alloc, trie, choice.with_edits(edits))? {
+            return Ok(edits);
+        }
+    }
+    Ok(choice.edits())
+}
+
+/// Writes the first pairs that the fewest edits of the word find, in the order of their bytes.
+#[tactic(auto, using(crate::proofs::FoldLemmas::folded_at))]
+fn write_closest<W: Write>(
+    alloc: Global,
+    trie: &TrieRef<'_>,
+    form: Form,
+    choice: Choice<'_>,
+    limit: Option<usize>,
+    output: &mut Noted<W>,
+) -> io::Result<Option<Vec<u8>>>
+    requires { IsFolded trie.now.kind choice }
+    ensures all { IfOk result (λ key. IfNone key (AreListed form
+        (picked Closest trie.now.kind choice.entry) limit trie.now.kind trie.now.bytes.now
+        (W.contents output.old.inner) (W.contents output.new.inner))) }
+    ensures none { IfOk result (λ key. IfSome key (λ k. AreNoText form
+        (picked Closest trie.now.kind choice.entry) limit trie.now.kind trie.now.bytes.now k.items
+        × (output.new ≡ output.old))) }
+    ensures part { OnErr result (AreListedInPart form (picked Closest trie.now.kind choice.entry)
+        limit trie.now.kind trie.now.bytes.now (W.contents output.old.inner)
+        (W.contents output.new.inner)) }
+    ensures noted { IsNoted result output.old.failed output.new.failed }
+{
+    if !trie.is_well_formed() {
+        return Ok(None);
+    }
+    let edits = fewest_edits(alloc, trie, choice)?;
+    write_sorted(alloc, trie, form, choice.with_edits(edits), limit, output)
+}
+
+/// Writes the first pairs whose keys are chosen, in an order.
+fn write_ordered<W: Write>(
+    alloc: Global,
+    trie: &TrieRef<'_>,
+    form: Form,
+    choice: Choice<'_>,
+    order: Order,
+    limit: Option<usize>,
+    output: &mut Noted<W>,
+) -> io::Result<Option<Vec<u8>>>
+    requires { IsFolded trie.now.kind choice }
+    ensures all { IfOk result (λ key. IfNone key (AreListed form
+        (picked order trie.now.kind choice.entry) limit trie.now.kind trie.now.bytes.now
+        (W.contents output.old.inner) (W.contents output.new.inner))) }
+    ensures none { IfOk result (λ key. IfSome key (λ k. AreNoText form
+        (picked order trie.now.kind choice.entry) limit trie.now.kind trie.now.bytes.now k.items
+        × (output.new ≡ output.old))) }
+    ensures part { OnErr result (AreListedInPart form (picked order trie.now.kind choice.entry)
+        limit trie.now.kind trie.now.bytes.now (W.contents output.old.inner)
+        (W.contents output.new.inner)) }
+    ensures noted { IsNoted result output.old.failed output.new.failed }
+{
+    match order {
+        Order::Stored => write_stored(alloc, trie, form, choice, limit, output),
+        Order::ByBytes => write_sorted(alloc, trie, form, choice, limit, output),
+        Order::Closest => write_closest(alloc, trie, form, choice, limit, output),
+    }
+}
+
+/// Writes the first pairs whose keys are chosen, in an order. It copies the words of the choice, as the
+/// kind compares them.
+fn write_chosen<W: Write>(
+    alloc: Global,
+    trie: &TrieRef<'_>,
+    form: Form,
+    choice: Choice<'_>,
+    order: Order,
+    limit: Option<usize>,
+    output: &mut Noted<W>,
+) -> io::Result<Option<Vec<u8>>>
+    ensures all { IfOk result (λ key. IfNone key (AreListed form
+        (picked order trie.now.kind choice.entry) limit trie.now.kind trie.now.bytes.now
+        (W.contents output.old.inner) (W.contents output.new.inner))) }
+    ensures none { IfOk result (λ key. IfSome key (λ k. AreNoText form
+        (picked order trie.now.kind choice.entry) limit trie.now.kind trie.now.bytes.now k.items
+        × (output.new ≡ output.old))) }
+    ensures part { OnErr result (AreListedInPart form (picked order trie.now.kind choice.entry)
+        limit trie.now.kind trie.now.bytes.now (W.contents output.old.inner)
+        (W.contents output.new.inner)) }
+    ensures noted { IsNoted result output.old.failed output.new.failed }
+{
+    let words = FoldedWords::new(alloc, trie.kind, choice)?;
+    let folded = words.in_place_of(choice);
+    write_ordered(alloc, trie, form, folded, order, limit, output)
 }
 
 /// Writes the first pairs whose keys are chosen, in an order: at most as many as the limit says, or
@@ -434,11 +631,7 @@ pub fn write_list<W: Write>(
         (W.contents output.new.inner)) }
     ensures noted { IsListingNoted result output.old.failed output.new.failed }
 {
-    let no_text = match order {
-        Order::Stored => write_stored(alloc, trie, form, choice, limit, output)?,
-        Order::ByBytes => write_sorted(alloc, trie, form, choice, limit, output)?,
-    };
-    match no_text {
+    match write_chosen(alloc, trie, form, choice, order, limit, output)? {
         None => Ok(()),
         Some(key) => Err(ListError::NotText(key)),
     }

@@ -1,11 +1,13 @@
 //! What a file is asked: which keys are looked up in what, and which pairs are listed.
 
-ghost use Rattle.std.specs.Prelude.{◌≡◌};
+ghost use Rattle.std.specs.Prelude.{◌≡◌, true, false, IfSome, IfNone};
+ghost use Rattle.zerotrie_search.specs.Automata.{any_accepts, finds};
+ghost use Rattle.zerotrie_queries.specs.Chosen.{at_edits, by_edits, edits_by, edits_of, is_word};
 ghost use Rattle.zerotrie_queries.specs.Finders.{asks_keys};
 
 use zerotrie_core::TrieRef;
 use zerotrie_reverse::KeysByValue;
-use zerotrie_search::{AnyAutomaton, KeyRange};
+use zerotrie_search::{AnyAutomaton, KeyRange, SearchBy};
 
 /// What keys and values are looked up in: a trie, the bytes of an index, or a table of a trie.
 #[derive(Clone, Copy, Debug)]
@@ -64,15 +66,98 @@ pub struct Query {
     pub spelling: Spelling,
 }
 
-/// Which keys a listing has: those that hold all of this.
+/// A word by which keys are sought. If it is none of its sort, as a malformed pattern, it finds no key.
+#[derive(Clone, Copy, Debug)]
+pub struct Sought<'a> {
+    /// How the word says which keys it finds.
+    pub by: SearchBy,
+    /// The word.
+    pub word: &'a [u8],
+}
+
+impl<'a> Sought<'a> {
+    /// Returns the automaton of the keys that the word finds, or `None` if the word is none of its sort.
+    #[tactic(auto, using(crate::proofs::WordLemmas::word_faultless, crate::proofs::WordLemmas::word_error))]
+    pub(crate) fn automaton(self) -> Option<AnyAutomaton<'a>>
+        ensures some { IfSome result (λ any. (is_word self.entry.by self.entry.word.now ≡ true)
+            × (any_accepts any ≡ finds self.entry.by self.entry.word.now)) }
+        ensures none { IfNone result (is_word self.entry.by self.entry.word.now ≡ false) }
+    {
+        match AnyAutomaton::new(self.by, self.word) {
+            Ok(automaton) => Some(automaton),
+            Err(_) => None,
+        }
+    }
+
+    /// Returns how many edits are allowed, and 0 if keys are not sought by edits.
+    fn edits(self) -> u32
+        ensures { result ≡ edits_by self.entry.by }
+    {
+        match self.by {
+            SearchBy::Fuzzy(edits)
+            | SearchBy::FuzzyChars(edits)
+            | SearchBy::Swaps(edits)
+            | SearchBy::SwapsChars(edits) => edits,
+            SearchBy::Prefix | SearchBy::Glob | SearchBy::GlobChars | SearchBy::Subsequence => 0,
+        }
+    }
+
+    /// Returns the same word with other edits.
+    fn with_edits(self, edits: u32) -> Self
+        ensures by { result.by ≡ by_edits edits self.entry.by }
+        ensures word { result.word ≡ self.entry.word }
+    {
+        let by = match self.by {
+            SearchBy::Fuzzy(_) => SearchBy::Fuzzy(edits),
+            SearchBy::FuzzyChars(_) => SearchBy::FuzzyChars(edits),
+            SearchBy::Swaps(_) => SearchBy::Swaps(edits),
+            SearchBy::SwapsChars(_) => SearchBy::SwapsChars(edits),
+            SearchBy::Prefix | SearchBy::Glob | SearchBy::GlobChars | SearchBy::Subsequence =>
+                self.by,
+        };
+        Sought {
+            by,
+            word: self.word,
+        }
+    }
+}
+
+/// Which keys a listing has: those that hold all of this. In a trie that ignores case, keys, bounds and
+/// the word are compared in lower case.
 #[derive(Clone, Copy, Debug)]
 pub struct Choice<'a> {
-    /// They begin with these bytes, as the kind compares bytes.
+    /// They begin with these bytes.
     pub prefix: &'a [u8],
     /// They are between these bounds, by their bytes.
     pub range: KeyRange<'a>,
-    /// This automaton accepts them, if there is one.
-    pub automaton: Option<AnyAutomaton<'a>>,
+    /// This word finds them, if there is one.
+    pub sought: Option<Sought<'a>>,
+}
+
+impl<'a> Choice<'a> {
+    /// Returns how many edits of its word are allowed, and 0 if keys are not sought by edits.
+    pub(crate) fn edits(self) -> u32
+        ensures { result ≡ edits_of self.entry }
+    {
+        match self.sought {
+            Some(sought) => sought.edits(),
+            None => 0,
+        }
+    }
+
+    /// Returns the same choice with other edits of its word.
+    pub(crate) fn with_edits(self, edits: u32) -> Self
+        ensures { result ≡ at_edits edits self.entry }
+    {
+        Choice {
+            prefix: self.prefix,
+            range: self.range,
+            sought: match self.sought {
+                Some(sought) => Some(sought.with_edits(edits)),
+                None => None,
+            },
+        }
+    }
 }
 
 /// The order of a listing.
@@ -82,4 +167,7 @@ pub enum Order {
     Stored,
     /// That of the bytes of the keys.
     ByBytes,
+    /// That of bytes, and only the pairs that the fewest edits of the word find, of those that its edits
+    /// do. If keys are not sought by edits, all pairs.
+    Closest,
 }

@@ -1,6 +1,7 @@
 //! The pairs of a trie in the order of their keys' bytes.
 
 ghost use Rattle.std.specs.Prelude.{◌≡◌, ◌<◌, ◌^◌, ◌+◌, ◌++◌, ◌∷◌, [], ℕ, List, length, take, slice_index, true, is_some, IfOk, IfSome};
+ghost use Rattle.std.specs.FinMap.{entries};
 ghost use Rattle.std.specs.Option.{option_map};
 ghost use Rattle.std.specs.Range.Bound.{bound_map};
 ghost use Rattle.std.specs.Ordering.{nat_cmp};
@@ -8,7 +9,7 @@ ghost use Rattle.std.specs.Cmp.Lexicographic.{slice_cmp};
 ghost use Rattle.std.specs.declared.cmp.Ordering.TheVariants.{Less};
 ghost use Rattle.zerotrie_core.specs.Kinds.{kind_of};
 ghost use Rattle.zerotrie_core.specs.Listings.{to_come};
-ghost use Rattle.zerotrie_core.specs.Maps.{Map, after_run};
+ghost use Rattle.zerotrie_core.specs.Maps.{Map, Ascends, after_run};
 ghost use Rattle.zerotrie_core.specs.Texts.{Means};
 ghost use Rattle.zerotrie_core.specs.WellFormed.{IsWellFormed};
 ghost use Rattle.zerotrie_search.specs.Searches.{accepted};
@@ -19,6 +20,7 @@ use std::alloc::{AllocError, Global};
 use std::marker::Model;
 use std::ops::Bound;
 use zerotrie_core::{PairStream, TrieRef};
+use zerotrie_search::laws::sorted_listing_ascends;
 use zerotrie_search::{Automaton, Search, ZeroTrieSortedSearch};
 use zerotrie_sets::SortedTrie;
 
@@ -124,7 +126,7 @@ pub(crate) fn upper_bound(above: &Option<Vec<u8>>) -> Bound<&[u8]>
 /// Lists all pairs between two bounds in the order of their keys' bytes.
 ///
 /// An error means that an allocation failed.
-pub fn stream_sorted<'t, 'p>(
+pub(crate) fn stream_sorted<'t, 'p>(
     alloc: Global,
     trie: &'t TrieRef<'_>,
     from: Bound<&[u8]>,
@@ -138,6 +140,21 @@ pub fn stream_sorted<'t, 'p>(
 {
     let pairs = trie.stream_sorted(alloc, from, to)?;
     Ok(SortedTrie::new(pairs))
+}
+
+/// Lists all pairs of a trie in the order of their keys' bytes.
+///
+/// An error means that an allocation failed.
+pub fn sorted_pairs<'t>(
+    alloc: Global,
+    trie: &'t TrieRef<'_>,
+) -> Result<SortedTrie<'t, 't>, AllocError>
+    requires { IsWellFormed (kind_of trie.now.kind) trie.now.bytes.now }
+    ensures { IfOk result (λ s. (m : Map) → Means (kind_of trie.now.kind) trie.now.bytes.now m
+        → (s.left ≡ to_come (entries m)) × Ascends s.left.pairs) }
+{
+    sorted_listing_ascends();
+    stream_sorted(alloc, trie, Bound::Unbounded, Bound::Unbounded)
 }
 
 /// Lists the pairs between two bounds whose keys an automaton accepts, in the order of their bytes.

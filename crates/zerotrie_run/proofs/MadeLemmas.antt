@@ -18,7 +18,9 @@ use Rattle.zerotrie_files.specs.Disks.{Story, Known}
 use Rattle.zerotrie_files.specs.Stores.{WasReplaced}
 use Rattle.zerotrie_making.specs.Kept.{kept}
 use Rattle.zerotrie_making.specs.Plans.{content_of, an_index, kind_for, IsFormOf}
-use Rattle.zerotrie_making.specs.Made.{IsBuiltAs}
+use Rattle.zerotrie_making.specs.Made.{IsBuiltAs, IsFile, IsMade}
+use Rattle.zerotrie_making.specs.declared.plan.Made.{Made}
+use Rattle.zerotrie_making.specs.declared.plan.Plan.{Plan}
 use Rattle.zerotrie_making.specs.declared.plan.FileForm.{FileForm}
 use Rattle.zerotrie_making.specs.declared.plan.FileForm.TheVariants as form
 use Rattle.zerotrie_run.specs.Runs.{World, Content, IsRead, IsWritten, OpensFor}
@@ -29,6 +31,10 @@ use Rattle.zerotrie_run.specs.declared.command.TrieFile.{TrieFile}
 use Rattle.zerotrie_run.specs.declared.command.Place.{Place}
 use Rattle.zerotrie_run.specs.declared.command.Place.TheVariants.{File, Stream}
 use Rattle.zerotrie_run.proofs.FileLemmas.{named, held_once, holds_of, no_trie, opens_of, opened}
+
+-- a file that is made of an input, and counted, is made of it
+pub file_of_made : (plan : Plan) (input : List ℕ) (made : Made) → IsMade plan input made → IsFile plan input made.file.items
+file_of_made plan input made h = (h.0, h.1, h.2, h.3.is)
 
 -- what was written to a place is read of it
 pub read_back : (place : Place) (stdin : Option (List ℕ)) (bytes got : List ℕ) (before after : World) (held files : Story) → before.files ≡ Some held → after.files ≡ Some files

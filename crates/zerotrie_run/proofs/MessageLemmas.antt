@@ -1,15 +1,13 @@
 -- What stands in a text, while more is added to it.
-use Rattle.std.proofs.Common.{◌≡◌, ℕ, ◌≤◌, arith, inl, inr, List, [], ◌∷◌, ◌++◌, length, take, Option, Bool, false, Result, Ok, Err, OnOk, IfOk, Vec, codes, decimal, sym, ◌∙◌, ap, append_assoc, append-nil, subst}
+use Rattle.std.proofs.Common.{◌≡◌, ℕ, ◌≤◌, arith, inl, inr, List, [], ◌∷◌, ◌++◌, length, take, Bool, Result, Ok, Err, OnOk, IfOk, Vec, codes, decimal, sym, ◌∙◌, ap, append_assoc, append-nil, subst}
 use Rattle.std.proofs.lemmas.List.{take_all}
 use Rattle.std.specs.Global.{Global}
-use Rattle.std.specs.Io.KnownBytes.{Appends}
-use Rattle.std.proofs.KnownBytes.{Appends-trans}
 use Rattle.zerotrie_making.specs.declared.error.Shown.{Shown}
 use Rattle.zerotrie_making.specs.declared.error.NoPair.{NoPair}
 use Rattle.zerotrie_making.specs.declared.error.NoPair.TheVariants as bad_pair
 use Rattle.zerotrie_making.specs.declared.error.MakeError.{MakeError}
 use Rattle.zerotrie_making.specs.declared.error.MakeError.TheVariants.{NotText, Line, NotJson, NotPairs, NotPair, Keys, Refused, IndexRefused, OutOfMemory}
-use Rattle.zerotrie_run.specs.Told.{told_step}
+use Rattle.zerotrie_run.specs.Told.{told_made}
 use Rattle.zerotrie_run.specs.declared.messages.pairs.PairUnit.{PairUnit}
 use Rattle.zerotrie_run.specs.declared.command.Place.{Place}
 use Rattle.zerotrie_run.specs.declared.ask.AskError.{AskError}
@@ -119,21 +117,13 @@ pub pairs_after : {E : Type 0} (r : Result (Unit {0}) E) (unit : List ℕ) (s : 
 pairs_after (Ok u) unit s a b h e = pairs_on unit s a b h e
 pairs_after (Err e) unit s a b h x = tt
 
--- two texts that are told, one after the other
-pub tell_then : (f g h : Bool) (a b c : Option (List ℕ)) (v w : List ℕ) → (g ≡ false → (f ≡ false) × Appends a b v) → (h ≡ false → (g ≡ false) × Appends b c w) → h ≡ false
-    → (f ≡ false) × Appends a c (v ++ w)
-tell_then f g h a b c v w p q ok = let two = q ok in let one = p two.0 in (one.0, Appends-trans a b c v w one.1 two.1)
-
 pub says_after : {E : Type 0} (r : Result (Unit {0}) E) (a b words : List ℕ) → Says a words → OnOk r (Extends a b) → OnOk r (Says b words)
 says_after (Ok u) a b words h e = says_on a b words h e
 says_after (Err e) a b words h x = tt
 
--- a step that is told of a place and a length is told of those that are the same
-pub step_is : (told : Bool) (text place name step : List ℕ) (len n : ℕ) → text ≡ told_step told place step len → place ≡ name → len ≡ n → text ≡ told_step told name step n
-step_is told text place name step len n is p l = subst (λ m. text ≡ told_step told name step m) l (subst (λ q. text ≡ told_step told q step len) p is)
-
-pub join_three : (r m w a b d : List ℕ) → r ≡ a → m ≡ b → w ≡ d → r ++ (m ++ w) ≡ a ++ (b ++ d)
-join_three r m w a b d one two three = ap (λ x. x ++ (m ++ w)) one ∙ ap (λ x. a ++ (x ++ w)) two ∙ ap (λ x. a ++ (b ++ x)) three
+-- what is told of a place and a length is told of those that are the same
+pub made_is : (told : Bool) (text words place name : List ℕ) (keys len n : ℕ) → text ≡ words → words ≡ told_made told place keys len → place ≡ name → len ≡ n → text ≡ told_made told name keys n
+made_is told text words place name keys len n same is p l = same ∙ subst (λ m. words ≡ told_made told name keys m) l (subst (λ q. words ≡ told_made told q keys len) p is)
 
 pub keys_after : {E : Type 0} (r : Result (Unit {0}) E) (s : Shown) (text : List ℕ) → OnOk r (Says text (told_key s.first.key.items)) → OnOk r (Says text (told_key s.second.key.items)) → OnOk r (SaysKeys s text)
 keys_after (Ok u) s text one two = (λ _. one, λ _ _. two)

@@ -9,7 +9,7 @@ use Rattle.zerotrie_queries.specs.Files.{Holds}
 use Rattle.zerotrie_queries.specs.Texts.{looks_like_text}
 use Rattle.zerotrie_queries.specs.declared.file.OpenError.{OpenError}
 use Rattle.zerotrie_queries.specs.declared.file.OpenError.TheVariants as unopened
-use Rattle.zerotrie_making.specs.Combinations.{IsFileOfBoth, ExplainsBoth, kind_kept}
+use Rattle.zerotrie_making.specs.Combinations.{IsFileOfBoth, ExplainsBoth}
 use Rattle.zerotrie_making.specs.declared.error.MakeError.{MakeError}
 use Rattle.zerotrie_run.specs.Runs.{World, AreOneStream, IsFreshAt, IsKept, IsRead, IsSparedAt, IsThere, IsUnopened, IsUnopenedBy, IsWritten, HasNoTrie, Untouched, build_refusal}
 use Rattle.zerotrie_run.specs.Statuses.{made_refusal}
@@ -53,7 +53,7 @@ OfFiles c input files Fact = (held : List ℕ) × (other : List ℕ) × AreRead 
 
 -- the new file is that of the combination: of the kind that is named, or else of the one that both tries have
 abbrev pub IsOfMaps : Combine → List ℕ → TrieKind → TrieKind → Map → Map → Type 0
-IsOfMaps c file k j m n = IsFileOfBoth c.operation (kind_kept c.kind k j) c.form m n file
+IsOfMaps c file k j m n = IsFileOfBoth c.operation c.kind c.form k j m n file
 
 -- The file was made of the two files' maps, and written.
 pub record IsCombination (c : Combine) (input : Option (List ℕ)) (before after : World) : Type 0 where
@@ -69,7 +69,7 @@ pub record IsUnwrittenCombination (c : Combine) (input : Option (List ℕ)) (bef
 
 -- why no file is made of two tries
 abbrev pub ExplainsMaps : Combine → MakeError → TrieKind → TrieKind → Map → Map → Type 0
-ExplainsMaps c e k j m n = ExplainsBoth c.operation (kind_kept c.kind k j) c.form m n e
+ExplainsMaps c e k j m n = ExplainsBoth c.operation c.kind c.form k j m n e
 
 -- no file is made of the maps of the two files, for a reason with this status, and nothing was touched
 abbrev pub IsRefusedCombination : Combine → Option (List ℕ) → World → World → Status → Type 0

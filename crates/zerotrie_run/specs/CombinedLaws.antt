@@ -19,7 +19,7 @@ use Rattle.zerotrie_run.specs.declared.status.Status.TheVariants.{Taken, BadUsag
 abbrev pub CombinedOpens : Type 0
 CombinedOpens = (c : Combine) (input : Option (List ℕ)) (before after : World) (held files : Story) → before.files ≡ Some held → after.files ≡ Some files
     → (made : IsCombination c input before after) (file : TrieFile) (stdin : Option (List ℕ)) → (c.to ≡ Stream → ⊥) → file.place ≡ c.to
-    → OfFiles c input before.files (λ k j m n. OfBoth c.operation m n (λ pairs. IsNamedAsMade c.form (kind_for (kind_kept c.kind k j) pairs) file.bare
+    → OfFiles c input before.files (λ k j m n. OfBoth c.operation k j m n (λ pairs. IsNamedAsMade c.form (kind_for (kind_kept c.kind k j) pairs) file.bare
     → OpensAsMade file stdin after.files c.form (kind_for (kind_kept c.kind k j) pairs) pairs made.file))
 
 -- both files have tries

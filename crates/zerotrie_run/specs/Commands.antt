@@ -31,12 +31,12 @@ LeavesInput (commands.Ask file question) status = LeavesInputOf file question (S
 LeavesInput (commands.Diff diff) status = (status ≡ BadUsage) ⊎ AreFiles diff.old diff.new
 LeavesInput (commands.Combine c) status = (status ≡ BadUsage) ⊎ AreFiles c.first c.second
 
--- whether the steps of a command are told
-abbrev pub tells_steps : Command → Bool
-tells_steps (commands.Build build) = build.progress
-tells_steps (commands.Ask file question) = false
-tells_steps (commands.Diff diff) = false
-tells_steps (commands.Combine c) = false
+-- whether what a command made is told
+abbrev pub tells_made : Command → Bool
+tells_made (commands.Build build) = build.progress
+tells_made (commands.Ask file question) = false
+tells_made (commands.Diff diff) = false
+tells_made (commands.Combine c) = false
 
 -- how a command ends, what it printed, and what it left in files
 abbrev pub Runs : Command → Option (List ℕ) → World → World → Status → Type 0

@@ -1,5 +1,5 @@
 -- What messages on standard error say.
-use Rattle.std.specs.Prelude.{◌≡◌, ◌≢◌, ◌⊎◌, ◌<◌, ℕ, List, [], ◌∷◌, ◌++◌, Bool, true, false, take, codes, decimal}
+use Rattle.std.specs.Prelude.{◌≡◌, ◌≢◌, ◌⊎◌, ◌<◌, ◌/◌, ◌%◌, ◌==◌, ℕ, List, [], ◌∷◌, ◌++◌, Bool, true, false, take, codes, decimal, nat_lt, if◌then◌else◌}
 use Rattle.zerotrie_core.specs.declared.ZeroTrieBuildError.TheVariants as cause
 use Rattle.zerotrie_core.specs.Faults.{rule_text}
 use Rattle.zerotrie_any.specs.declared.bytes.TagError.{TagError}
@@ -178,6 +178,20 @@ TellsCombine c (combine.Unopened side e) text = IsLineOn (source_name (place_of 
 TellsCombine c (combine.NoTrie side why is_text) text = IsLineOn (source_name (place_of c side)) text × TellsNoTrie why is_text text
 TellsCombine c (combine.NotBuilt e) text = TellsBuild (target_name c.to) (target_name c.to) unit.Pair e text
 
--- what is told of a step of a build: its place, what was done there, and to how many bytes
-abbrev pub step_line : List ℕ → List ℕ → ℕ → List ℕ
-step_line place step len = codes "zerotrie: " ++ (place ++ (codes ": " ++ (step ++ (codes " " ++ (decimal len ++ codes " bytes\n")))))
+-- tenths of a unit
+abbrev pub tenths_text : ℕ → List ℕ → List ℕ
+tenths_text tenths unit = decimal (tenths / 10) ++ (codes "." ++ (decimal (tenths % 10) ++ unit))
+
+-- a size: bytes, or a greater unit with one digit behind the point, which is not rounded up
+abbrev pub size_text : ℕ → List ℕ
+size_text len =
+    if nat_lt len 1000 then decimal len ++ codes " bytes" else if nat_lt len 1000000 then tenths_text (len / 100) (codes " kB")
+    else if nat_lt len 1000000000 then tenths_text (len / 100000) (codes " MB") else tenths_text (len / 100000000) (codes " GB")
+
+-- the word after a number of keys
+abbrev pub key_word : ℕ → List ℕ
+key_word keys = if keys == 1 then codes "key" else codes "keys"
+
+-- what is told of a file that was made: its place, how many keys it has, and its size
+abbrev pub made_line : List ℕ → ℕ → ℕ → List ℕ
+made_line place keys len = ((codes "zerotrie: " ++ (place ++ (codes ": " ++ (decimal keys ++ (codes " " ++ (key_word keys ++ codes ", ")))))) ++ size_text len) ++ (10 ∷ [])

@@ -4,11 +4,12 @@ use Rattle.std.specs.Io.KnownBytes.{Appends}
 use Rattle.zerotrie_files.specs.Disks.{Story}
 use Rattle.zerotrie_queries.specs.declared.file.OpenError.{OpenError}
 use Rattle.zerotrie_queries.specs.Texts.{looks_like_text}
-use Rattle.zerotrie_making.specs.Made.{IsFile}
+use Rattle.zerotrie_making.specs.Made.{IsMade}
 use Rattle.zerotrie_making.specs.Made as made
 use Rattle.zerotrie_making.specs.declared.error.MakeError.{MakeError}
+use Rattle.zerotrie_making.specs.declared.plan.Made.{Made}
 use Rattle.zerotrie_run.specs.Statuses.{made_refusal}
-use Rattle.zerotrie_run.specs.Messages.{IsLine, IsLineOn, Says, TellsMade, TellsNoTrie, source_name, target_name, step_line, told_key, unit_of}
+use Rattle.zerotrie_run.specs.Messages.{IsLine, IsLineOn, Says, TellsMade, TellsNoTrie, made_line, source_name, target_name, told_key, unit_of}
 use Rattle.zerotrie_run.specs.Runs.{IsRead, IsThere, IsUnopened, IsUnprinted, HasNumberToo}
 use Rattle.zerotrie_run.specs.Diffs.{IsFileOf, NotesNumbers}
 use Rattle.zerotrie_run.specs.declared.command.Diff.{Diff}
@@ -86,22 +87,15 @@ abbrev pub NotesNumber : TrieFile → Option (List ℕ) → Option Story → (ol
 NotesNumber file input files old new = (held : List ℕ) × IsRead file.place input files held
     × (HasNumberToo file.bare held → (text : List ℕ) × IsLineOn (source_name file.place) text × Appends old new text)
 
--- a step is told or not
-abbrev pub told_step : Bool → List ℕ → List ℕ → ℕ → List ℕ
-told_step true place step len = step_line place step len
-told_step false place step len = []
+-- a file that was made is told or not
+abbrev pub told_made : Bool → List ℕ → ℕ → ℕ → List ℕ
+told_made true place keys len = made_line place keys len
+told_made false place keys len = []
 
--- the steps of a build: how many bytes were read, made and written
-abbrev pub steps_told : Build → List ℕ → List ℕ → List ℕ
-steps_told build all file =
-    told_step build.progress (source_name build.from) (codes "read") (length all)
-    ++ (told_step build.progress (target_name build.to) (codes "made") (length file)
-    ++ told_step build.progress (target_name build.to) (codes "wrote") (length file))
-
--- they are told
-abbrev pub TellsSteps : Build → Option (List ℕ) → Option Story → (old new : Option (List ℕ)) → Type 0
-TellsSteps build input files old new = (all : List ℕ) × IsRead build.from input files all × (file : List ℕ) × IsFile build.plan all file
-    × Appends old new (steps_told build all file)
+-- what a build made is told, if that was asked for: how many keys the file has, and how long it is
+abbrev pub TellsDone : Build → Option (List ℕ) → Option Story → (old new : Option (List ℕ)) → Type 0
+TellsDone build input files old new = (all : List ℕ) × IsRead build.from input files all × (file : Made) × IsMade build.plan all file
+    × Appends old new (told_made build.progress (target_name build.to) file.keys (length file.file.items))
 
 -- a line tells why a file that was read has no trie, by its first fault
 abbrev pub TellsUnopened : TrieFile → Option (List ℕ) → Option Story → (old new : Option (List ℕ)) → Type 0
@@ -148,7 +142,7 @@ IsTold command input files old new Closed = Unit {0}
 
 -- what a run that succeeds tells
 abbrev pub Notes : Command → Option (List ℕ) → Option Story → (old new : Option (List ℕ)) → Type 0
-Notes (commands.Build build) input files old new = TellsSteps build input files old new
+Notes (commands.Build build) input files old new = TellsDone build input files old new
 Notes (commands.Ask file question) input files old new = NotesNumber file input files old new
 Notes (commands.Diff diff) input files old new = NotesNumbers diff input files old new
 Notes (commands.Combine c) input files old new = new ≡ old

@@ -6,13 +6,13 @@ ghost use Rattle.zerotrie_run.specs.Failures.{BuildFailed, ReadFailed, WriteFail
 ghost use Rattle.zerotrie_run.specs.Runs.{world, IsFreshAt, IsMade, IsNotBegun, EndsBuild, HandsOn, build_fails, build_refusal};
 ghost use Rattle.std.specs.Io.Buffered.{writer_contents};
 ghost use Rattle.zerotrie_making.specs.declared.error.MakeError.TheVariants.{OutOfMemory};
-ghost use Rattle.zerotrie_run.specs.Told.{HasCause, TellsMore, TellsSteps};
+ghost use Rattle.zerotrie_run.specs.Told.{HasCause, TellsMore, TellsDone};
 ghost use Rattle.zerotrie_run.specs.declared.build.BuildError.TheVariants.{NotMade};
 ghost use Rattle.zerotrie_run.specs.declared.command.Place.TheVariants.{Stream};
 
 use crate::command::{Build, Place};
-use crate::messages::build::step_text;
-use crate::messages::line::{source_name, target_name, tell};
+use crate::messages::build::made_text;
+use crate::messages::line::{target_name, tell};
 use crate::place::{read_place, write_place};
 use crate::status::Status;
 use std::alloc::{AllocError, Global};
@@ -57,8 +57,9 @@ impl From<AllocError> for BuildError {
     }
 }
 
-/// Makes a file of pairs, and writes it to its place. It reports each step as it ends, if that was
-/// asked for.
+/// Makes a file of pairs, and writes it to its place. It reports that at the end, if that was asked
+/// for.
+#[tactic(auto, using(crate::proofs::MadeLemmas::file_of_made))]
 fn make_file<D: Disk, R: Read, W: Write + Drop, M: Write>(
     alloc: Global,
     build: Build<'_>,
@@ -77,8 +78,8 @@ fn make_file<D: Disk, R: Read, W: Write + Drop, M: Write>(
     ensures handed { OnOk result (HandsOn output.old.inner output.new.inner) }
     ensures why { IfErr result (HasCause build.entry (R.remaining input.old.inner)
         (D.story files.old.disk)) }
-    ensures steps { OnOk result (messages.new.failed ≡ false
-        → TellsSteps build.entry (R.remaining input.old.inner) (D.story files.old.disk)
+    ensures done { OnOk result (messages.new.failed ≡ false
+        → TellsDone build.entry (R.remaining input.old.inner) (D.story files.old.disk)
         (M.contents messages.old.inner) (M.contents messages.new.inner)) }
     ensures tells { messages.new.failed ≡ false
         → TellsMore (M.contents messages.old.inner) (M.contents messages.new.inner) }
@@ -93,25 +94,15 @@ fn make_file<D: Disk, R: Read, W: Write + Drop, M: Write>(
         Ok(held) => held,
         Err(error) => return Err(BuildError::Unread(error)),
     };
-    let read = step_text(
-        alloc,
-        build.progress,
-        source_name(build.from),
-        "read",
-        held.len(),
-    )?;
-    tell(messages, read.as_slice());
-    let file = match make(alloc, build.plan, held) {
-        Ok(file) => file,
+    let made = match make(alloc, build.plan, held) {
+        Ok(made) => made,
         Err(error) => return Err(BuildError::NotMade(error)),
     };
     let place = target_name(build.to);
-    let made = step_text(alloc, build.progress, place, "made", file.len())?;
-    let written = step_text(alloc, build.progress, place, "wrote", file.len())?;
-    tell(messages, made.as_slice());
-    match write_place(alloc, build.to, file.as_slice(), files, output) {
+    let done = made_text(alloc, build.progress, place, made.keys, made.file.len())?;
+    match write_place(alloc, build.to, made.file.as_slice(), files, output) {
         Ok(()) => {
-            tell(messages, written.as_slice());
+            tell(messages, done.as_slice());
             Ok(())
         }
         Err(error) => Err(BuildError::Unwritten(error)),
@@ -143,7 +134,7 @@ pub fn spare<D: Disk>(
 }
 
 /// Makes a file of pairs, and writes it to its place, unless there is a file already that is to be left
-/// as it is. It reports each step as it ends, if that was asked for.
+/// as it is. It reports that at the end, if that was asked for.
 pub fn build<D: Disk, R: Read, W: Write + Drop, M: Write>(
     alloc: Global,
     build: Build<'_>,
@@ -164,8 +155,8 @@ pub fn build<D: Disk, R: Read, W: Write + Drop, M: Write>(
     ensures handed { OnOk result (HandsOn output.old.inner output.new.inner) }
     ensures why { IfErr result (HasCause build.entry (R.remaining input.old.inner)
         (D.story files.old.disk)) }
-    ensures steps { OnOk result (messages.new.failed ≡ false
-        → TellsSteps build.entry (R.remaining input.old.inner) (D.story files.old.disk)
+    ensures done { OnOk result (messages.new.failed ≡ false
+        → TellsDone build.entry (R.remaining input.old.inner) (D.story files.old.disk)
         (M.contents messages.old.inner) (M.contents messages.new.inner)) }
     ensures tells { messages.new.failed ≡ false
         → TellsMore (M.contents messages.old.inner) (M.contents messages.new.inner) }

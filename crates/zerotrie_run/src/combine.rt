@@ -4,7 +4,7 @@ ghost use Rattle.std.specs.Prelude.{◌≡◌, ◌<◌, ◌⊎◌, false, true, 
 ghost use Rattle.std.specs.Io.Buffered.{writer_contents};
 ghost use Rattle.zerotrie_files.specs.Notes.{NothingFailed, SameReads};
 ghost use Rattle.zerotrie_run.specs.Failures.{CombineFailed, ReadFailed, WasClosed, WriteFailed};
-ghost use Rattle.zerotrie_run.specs.Commands.{Runs, TellsNumber, ReadsTwice, LeavesInput, tells_steps};
+ghost use Rattle.zerotrie_run.specs.Commands.{Runs, TellsNumber, ReadsTwice, LeavesInput, tells_made};
 ghost use Rattle.zerotrie_run.specs.Runs.{world, AreFiles, AreOneStream, HandsOn, IsFreshAt, OpensBy};
 ghost use Rattle.zerotrie_run.specs.Combined.{AreRead, EndsCombine, HasCombineCause, IsCombination, IsOfMaps, IsUncombined, IsUnopenedSide, IsUnread, OfHeld, combine_fails, combine_refusal};
 ghost use Rattle.zerotrie_run.specs.Statuses.{number_of};
@@ -218,7 +218,7 @@ pub fn run_combine<D: Disk, R: Read, W: Write + Drop, M: Write>(
     ensures notes { (result ≡ Done) ⊎ (result ≡ Absent) → messages.new.failed ≡ false
         → Notes (commands.Combine both.entry) (R.remaining input.old.inner)
         (D.story files.old.disk) (M.contents messages.old.inner) (M.contents messages.new.inner) }
-    ensures quiet { tells_steps (commands.Combine both.entry) ≡ false
+    ensures quiet { tells_made (commands.Combine both.entry) ≡ false
         → (TellsNumber (commands.Combine both.entry) (R.remaining input.old.inner)
         (D.story files.old.disk) → ⊥)
         → (result ≡ Done) ⊎ (result ≡ Absent) → messages.new ≡ messages.old }

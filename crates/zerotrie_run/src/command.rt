@@ -107,7 +107,7 @@ pub struct Build<'a> {
     pub plan: Plan,
     /// Whether a file that is there already is left as it is, and the build refused.
     pub no_clobber: bool,
-    /// Whether each step is told as it ends.
+    /// Whether it is told at the end how many keys the file has, and how long it is.
     pub progress: bool,
 }
 

@@ -6,7 +6,7 @@ ghost use Rattle.zerotrie_core.specs.Kinds.{kind_of};
 ghost use Rattle.zerotrie_core.specs.WellFormed.{IsWellFormed};
 ghost use Rattle.zerotrie_files.specs.Notes.{NothingFailed, SameReads};
 ghost use Rattle.zerotrie_run.specs.Failures.{AskFailed, ReadFailed, WasClosed, WriteFailed};
-ghost use Rattle.zerotrie_run.specs.Commands.{Runs, TellsNumber, ReadsTwice, LeavesInput, tells_steps};
+ghost use Rattle.zerotrie_run.specs.Commands.{Runs, TellsNumber, ReadsTwice, LeavesInput, tells_made};
 ghost use Rattle.zerotrie_run.specs.Diffs.{old_file, new_file, IsEitherDoubtful, IsDiffed, EndsDiff, diff_fails, diff_refusal, TellsIfDoubtful, NotesNumbers, IsUnread, HasNoTrieIn, AreHeldCompared, AreUncompared};
 ghost use Rattle.zerotrie_run.specs.Runs.{AreFiles, AreOneStream, HandsOn, IsDoubtful, IsRead, Opens, ask_refusal, world};
 ghost use Rattle.zerotrie_run.specs.Statuses.{number_of};
@@ -246,7 +246,7 @@ pub fn run_diff<D: Disk, R: Read, W: Write + Drop, M: Write>(
     ensures notes { (result ≡ Done) ⊎ (result ≡ Absent) → messages.new.failed ≡ false
         → Notes (commands.Diff diff.entry) (R.remaining input.old.inner) (D.story files.old.disk)
         (M.contents messages.old.inner) (M.contents messages.new.inner) }
-    ensures quiet { tells_steps (commands.Diff diff.entry) ≡ false
+    ensures quiet { tells_made (commands.Diff diff.entry) ≡ false
         → (TellsNumber (commands.Diff diff.entry) (R.remaining input.old.inner)
         (D.story files.old.disk) → ⊥)
         → (result ≡ Done) ⊎ (result ≡ Absent) → messages.new ≡ messages.old }

@@ -6,7 +6,7 @@ ghost use Rattle.std.specs.Io.Buffered.{writer_contents};
 ghost use Rattle.zerotrie_files.specs.Notes.{NothingFailed};
 ghost use Rattle.zerotrie_run.specs.Runs.{HandsOn, world};
 ghost use Rattle.zerotrie_run.specs.Failures.{ReadFailed, WasClosed, WriteFailed};
-ghost use Rattle.zerotrie_run.specs.Commands.{Runs, TellsNumber, ReadsTwice, LeavesInput, tells_steps};
+ghost use Rattle.zerotrie_run.specs.Commands.{Runs, TellsNumber, ReadsTwice, LeavesInput, tells_made};
 ghost use Rattle.zerotrie_run.specs.Statuses.{failure_of, number_of};
 ghost use Rattle.zerotrie_run.specs.Told.{IsTold, Notes, ended, last_text};
 ghost use Rattle.zerotrie_run.specs.declared.status.Status.TheVariants.{Done, Absent, BadUsage, Unread, Unwritten, Closed};
@@ -101,7 +101,7 @@ pub(crate) fn end<M: Write>(
 /// note. A message that can't be written changes nothing.
 ///
 /// After success, or if a key is absent or pairs differ, the buffer is flushed if it was empty
-/// before. The only messages are then the steps of a build, if they were asked for, and a warning
+/// before. The only messages are then what a build made, if that was asked for, and a warning
 /// for a file that is read as bare bytes and begins with the number of a kind. If the file and the
 /// keys, or two files, are both standard input, the usage is bad. Standard input is not read unless
 /// the command needs it; keys are not read from it if nothing in the file answers.
@@ -133,7 +133,7 @@ pub fn run<D: Disk, R: Read, W: Write + Drop, M: Write>(
     ensures notes { (result ≡ Done) ⊎ (result ≡ Absent) → messages.new.failed ≡ false
         → Notes command.entry (R.remaining input.old.inner) (D.story files.old.disk)
         (M.contents messages.old.inner) (M.contents messages.new.inner) }
-    ensures quiet { tells_steps command.entry ≡ false
+    ensures quiet { tells_made command.entry ≡ false
         → (TellsNumber command.entry (R.remaining input.old.inner) (D.story files.old.disk) → ⊥)
         → (result ≡ Done) ⊎ (result ≡ Absent) → messages.new ≡ messages.old }
     ensures usage { ReadsTwice command.entry → result ≡ BadUsage }

@@ -62,7 +62,7 @@ const PLAN: Plan = Plan {
     file: TAGGED,
 };
 
-/// A build of the file `names.trie`, without a word on its steps.
+/// A build of the file `names.trie`, without a word on what it made.
 const BUILD: Build<'static> = Build {
     from: Place::File("names.tsv"),
     to: Place::File("names.trie"),
@@ -151,8 +151,7 @@ const BUILDS: [Row; 4] = [
         }),
         status: Status::Done,
         printed: b"",
-        told: b"zerotrie: names.tsv: read 21 bytes\nzerotrie: names.trie: made 18 bytes\n\
-            zerotrie: names.trie: wrote 18 bytes\n",
+        told: b"zerotrie: names.trie: 3 keys, 18 bytes\n",
         left: ("names.trie", TRIE),
     },
 ];
@@ -375,7 +374,7 @@ const ALL: Choice<'static> = Choice {
         from: Bound::Unbounded,
         to: Bound::Unbounded,
     },
-    automaton: None,
+    sought: None,
 };
 
 const THERE: &[&[u8]] = &[b"bar"];
@@ -738,7 +737,7 @@ const EITHER: Combine<'static> = Combine {
 const BOTH: &[u8] = b"\x00\xC2ab\x01\x85\x87";
 
 /// Files that are made of two others, and one that is not.
-const COMBINED: [Row; 9] = [
+const COMBINED: [Row; 12] = [
     Row {
         files: &[("one", b"\x00a\x85"), ("two", b"\x00\xC2ab\x01\x86\x87")],
         command: Command::Combine(EITHER),
@@ -776,6 +775,36 @@ const COMBINED: [Row; 9] = [
         printed: b"",
         told: b"",
         left: ("names.trie", b"\x08ETag\x85"),
+    },
+    Row {
+        files: &[("one", b"\x08ETag\x85"), ("two", b"\x08etag\x86")],
+        command: Command::Combine(Combine {
+            operation: Operation::Intersection(Keep::Last),
+            ..EITHER
+        }),
+        status: Status::Done,
+        printed: b"",
+        told: b"",
+        left: ("names.trie", b"\x08ETag\x86"),
+    },
+    Row {
+        files: &[
+            ("one", b"\x08ETag\x85"),
+            ("two", b"\x08\xC2ae\x01\x81tag\x86"),
+        ],
+        command: Command::Combine(EITHER),
+        status: Status::Done,
+        printed: b"",
+        told: b"",
+        left: ("names.trie", b"\x08\xC2aE\x01\x81Tag\x85"),
+    },
+    Row {
+        files: &[("one", b"\x08ETag\x85"), ("two", b"\x08etagX\x86")],
+        command: Command::Combine(EITHER),
+        status: Status::Refused,
+        printed: b"",
+        told: b"zerotrie: names.trie: pairs 1 and 2: their keys begin alike but for the case of a letter; take --kind simple, or bring keys into lower case by build --lower-case: ETag and etagX\n",
+        left: ("one", b"\x08ETag\x85"),
     },
     Row {
         files: &[("one", b"\x08ETag\x85"), ("two", b"\x07ETag\x86")],

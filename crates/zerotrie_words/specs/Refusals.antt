@@ -1,7 +1,6 @@
 -- Why the words of a command are refused.
 use Rattle.std.specs.Prelude.{◌≡◌, ◌≢◌, ◌⊎◌, ◌<◌, ◌≤◌, ◌^◌, ◌+◌, ℕ, List, [], ◌∷◌, Option, Some, None, Bool, true, false, codes, eqb, length, unwrap_or}
 use Rattle.std.specs.List.{starts_with}
-use Rattle.std.specs.Str.{chars}
 use Rattle.clap.specs.declared.parser.matches.ArgMatches.{ArgMatches}
 use Rattle.zerotrie_core.specs.Kinds.{kind_name}
 use Rattle.zerotrie_core.specs.declared.TrieKind.{TrieKind}
@@ -11,8 +10,10 @@ use Rattle.zerotrie_queries.specs.code.Texts.{usual_name}
 use Rattle.zerotrie_queries.specs.declared.code.Language.{Language}
 use Rattle.zerotrie_queries.specs.declared.code.Language.TheVariants as lang
 use Rattle.zerotrie_queries.specs.declared.print.Form.{Form}
-use Rattle.zerotrie_search.specs.Globs as glob
-use Rattle.zerotrie_words.specs.Words.{HasNoHyphen, IsEdits, IsFlag, IsForm, IsFormat, IsNumberOf, duplicates_word, end_word, flag_of, form_by, form_word, format_word, is_alone, language_word, word_of, SeeksNothing}
+use Rattle.zerotrie_search.specs.Automata.{IsWordError}
+use Rattle.zerotrie_search.specs.declared.any.SearchBy.{SearchBy}
+use Rattle.zerotrie_search.specs.declared.any.WordError.{WordError}
+use Rattle.zerotrie_words.specs.Words.{HasNoHyphen, IsFlag, IsForm, IsFormat, IsNumberOf, duplicates_word, end_word, flag_of, form_by, form_word, format_word, is_alone, language_word, word_of, IsFoundBy, SeeksNothing}
 use Rattle.zerotrie_words.specs.declared.input.Input.{Input}
 use Rattle.zerotrie_words.specs.declared.input.Input.TheVariants as input
 use Rattle.zerotrie_words.specs.declared.task.Topic.{Topic}
@@ -77,6 +78,13 @@ IsNoContent matches = IsNoKind (word_of matches (codes "kind")) ⊎ (ExcludeEach
 abbrev pub IsNoPlan : ArgMatches → Type 0
 IsNoPlan matches = IsNoContent matches ⊎ (IsNoInput matches ⊎ IsNoChoice (word_of matches (codes "duplicates")))
 
+-- flags say both that a build reports what it made and that it doesn't
+abbrev pub IsNoProgress : Option (List ℕ) → Option (List ℕ) → Type 0
+IsNoProgress progress quiet = IsFlag progress true × IsFlag quiet true
+
+abbrev pub IsNoBuild : ArgMatches → Type 0
+IsNoBuild matches = IsNoPlan matches ⊎ IsNoProgress (flag_of matches (codes "progress")) (flag_of matches (codes "quiet"))
+
 -- a format is named of pairs that are only to be counted, or the word is no format
 abbrev pub IsNoFormOf : Bool → Option (List ℕ) → Type 0
 IsNoFormOf true word = word ≢ None
@@ -109,13 +117,9 @@ abbrev pub IsNoLanguage : ArgMatches → Type 0
 IsNoLanguage matches = (word_of matches (codes "lang") ≡ None)
     ⊎ ((alone : Bool) × IsFlag (flag_of matches (codes "alone")) alone × ((language : Language) → word_of matches (codes "lang") ≡ Some (language_word language) → is_alone language ≢ alone))
 
--- a pattern is none, or too long
-abbrev pub IsNoGlob : List ℕ → Type 0
-IsNoGlob word = (glob.no_item word ≢ []) ⊎ (63 < length (glob.items word))
-
--- a word is too long to be near, or the edits are too many
-abbrev pub IsTooFar : List ℕ → ℕ → Type 0
-IsTooFar word edits = (63 < length (chars word)) ⊎ (edits ≡ 255)
+-- a word is none of its sort
+abbrev pub IsNoWord : SearchBy → List ℕ → Type 0
+IsNoWord by word = (e : WordError) × IsWordError by word e
 
 -- how many of the words are there, of which a search has one at most
 abbrev pub given : Option (List ℕ) → ℕ
@@ -125,16 +129,20 @@ given (Some word) = 1
 abbrev pub sought_count : ArgMatches → ℕ
 sought_count matches = given (word_of matches (codes "glob")) + given (word_of matches (codes "fuzzy")) + given (word_of matches (codes "subsequence"))
 
--- the words are no automaton: they ask for more than one, edits are named for another one, or a word is wrong
-abbrev pub IsNoAutomaton : ArgMatches → Type 0
-IsNoAutomaton matches = (2 ≤ sought_count matches) ⊎ (((word_of matches (codes "fuzzy") ≡ None) × (word_of matches (codes "edits") ≢ None))
-    ⊎ (((pattern : List ℕ) × (word_of matches (codes "glob") ≡ Some pattern) × IsNoGlob pattern)
-    ⊎ (HasNoNumber 8 (word_of matches (codes "edits"))
-    ⊎ ((word : List ℕ) × (edits : ℕ) × (word_of matches (codes "fuzzy") ≡ Some word) × IsEdits (word_of matches (codes "edits")) edits × IsTooFar word edits))))
+-- an option is there whose word is not
+abbrev pub IsUseless : ArgMatches → Type 0
+IsUseless matches = ((word_of matches (codes "edits") ≢ None) × (word_of matches (codes "fuzzy") ≡ None))
+    ⊎ ((IsFlag (flag_of matches (codes "no-transpose")) true × (word_of matches (codes "fuzzy") ≡ None))
+    ⊎ (IsFlag (flag_of matches (codes "bytes")) true × (word_of matches (codes "glob") ≡ None) × (word_of matches (codes "fuzzy") ≡ None)))
 
--- the words are no search: they ask for nothing, or are no automaton
+-- the words are not one by which keys are sought: there is more than one, a word is none of its sort, or an option is of no use
+abbrev pub IsNoSought : ArgMatches → Type 0
+IsNoSought matches = (2 ≤ sought_count matches) ⊎ (IsUseless matches ⊎ (HasNoNumber 8 (word_of matches (codes "edits"))
+    ⊎ ((word : List ℕ) × (by : SearchBy) × IsFoundBy matches word by × IsNoWord by word)))
+
+-- the words are no search: they ask for nothing, or keys are not sought by them
 abbrev pub IsNoSearch : ArgMatches → Type 0
-IsNoSearch matches = SeeksNothing matches ⊎ IsNoAutomaton matches
+IsNoSearch matches = SeeksNothing matches ⊎ IsNoSought matches
 
 -- the words are no code: no language, or a name that is none or is taken
 abbrev pub IsTaken : Language → List ℕ → Type 0

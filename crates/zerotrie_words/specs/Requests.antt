@@ -1,5 +1,5 @@
 -- The command that the words of a command line ask for.
-use Rattle.std.specs.Prelude.{◌≡◌, ◌≢◌, ◌⊎◌, ℕ, List, Option, None, Bool, codes}
+use Rattle.std.specs.Prelude.{◌≡◌, ◌≢◌, ◌⊎◌, ℕ, List, Option, None, Bool, false, codes}
 use Rattle.clap.specs.declared.parser.matches.ArgMatches.{ArgMatches}
 use Rattle.zerotrie_sets.specs.declared.combined.Operation.{Operation}
 use Rattle.zerotrie_run.specs.declared.command.Build.{Build}
@@ -10,18 +10,18 @@ use Rattle.zerotrie_run.specs.declared.command.Diff.{Diff}
 use Rattle.zerotrie_run.specs.declared.command.Place.{Place}
 use Rattle.zerotrie_run.specs.declared.command.Place.TheVariants.{File, Stream}
 use Rattle.zerotrie_words.specs.Diffs.{IsDiff}
-use Rattle.zerotrie_words.specs.Refusals.{IsNoContent, IsNoKind, IsNoPlan, IsNoQuestion}
+use Rattle.zerotrie_words.specs.Refusals.{IsNoBuild, IsNoContent, IsNoKind, IsNoQuestion}
 use Rattle.zerotrie_words.specs.Words.{AreTogether, IsAsk, IsFlag, IsForm, IsKind, IsPlan, IsProgress, IsSource, IsTarget, flag_of, given_words, word_of}
 use Rattle.zerotrie_words.specs.declared.task.Task.{Task}
 use Rattle.zerotrie_words.specs.declared.task.Task.TheVariants as task
 
--- The build that the words ask for. Steps are told also if messages go to a terminal.
+-- The build that the words ask for. What it made is told also if messages go to a terminal.
 pub record IsBuild (matches : ArgMatches) (to_terminal : Bool) (build : Build) : Type 0 where
   pub from : IsSource (word_of matches (codes "IN")) build.from
   pub to : IsTarget (word_of matches (codes "output")) build.to
   pub plan : IsPlan matches build.plan
   pub no_clobber : IsFlag (flag_of matches (codes "no-clobber")) build.no_clobber
-  pub progress : IsProgress to_terminal (flag_of matches (codes "progress")) build.progress
+  pub progress : IsProgress to_terminal (flag_of matches (codes "progress")) (flag_of matches (codes "quiet")) build.progress
 
 -- The combination that they ask for.
 pub record IsCombination (matches : ArgMatches) (operation : Operation) (both : Combine) : Type 0 where
@@ -59,9 +59,16 @@ IsCommand matches texts to_terminal (task.Ask topic) c = IsAsk matches topic tex
 IsCommand matches texts to_terminal task.Diff c = (diff : Diff) × IsDiff matches diff × (c ≡ command.Diff diff)
 IsCommand matches texts to_terminal (task.Combine operation) c = (both : Combine) × IsCombination matches operation both × (c ≡ command.Combine both)
 
+-- whether nothing is printed of what a task finds: by the flag of a comparison
+abbrev pub IsQuiet : Task → ArgMatches → Bool → Type 0
+IsQuiet task.Build matches quiet = quiet ≡ false
+IsQuiet (task.Ask topic) matches quiet = quiet ≡ false
+IsQuiet task.Diff matches quiet = IsFlag (flag_of matches (codes "quiet")) quiet
+IsQuiet (task.Combine operation) matches quiet = quiet ≡ false
+
 -- the words of a task are no command, or a build would replace its own input
 abbrev pub IsNoCommand : ArgMatches → Option (List (List ℕ)) → Task → Type 0
-IsNoCommand matches texts task.Build = IsNoPlan matches ⊎ ((from : Place) × (to : Place) × IsSource (word_of matches (codes "IN")) from × IsTarget (word_of matches (codes "output")) to × AreOneFile from to)
+IsNoCommand matches texts task.Build = IsNoBuild matches ⊎ ((from : Place) × (to : Place) × IsSource (word_of matches (codes "IN")) from × IsTarget (word_of matches (codes "output")) to × AreOneFile from to)
 IsNoCommand matches texts (task.Ask topic) = IsNoKind (word_of matches (codes "bare")) ⊎ IsNoQuestion matches topic texts
 IsNoCommand matches texts task.Diff = IsNoKind (word_of matches (codes "bare"))
 IsNoCommand matches texts (task.Combine operation) = IsNoContent matches

@@ -32,11 +32,13 @@ use Rattle.zerotrie_queries.specs.declared.question.Query.{Query}
 use Rattle.zerotrie_queries.specs.declared.reports.ReportForm.{ReportForm}
 use Rattle.zerotrie_queries.specs.declared.reports.ReportForm.TheVariants as report
 use Rattle.zerotrie_queries.specs.declared.question.Choice.{Choice}
+use Rattle.zerotrie_queries.specs.declared.question.Sought.{Sought}
 use Rattle.zerotrie_queries.specs.declared.question.Order.{Order}
 use Rattle.zerotrie_queries.specs.declared.question.Order.TheVariants as order
-use Rattle.zerotrie_search.specs.Words.{letters_of}
-use Rattle.zerotrie_search.specs.declared.any.AnyAutomaton.{AnyAutomaton}
-use Rattle.zerotrie_search.specs.declared.any.AnyAutomaton.TheVariants as any
+use Rattle.zerotrie_search.specs.Automata.{IsWordError}
+use Rattle.zerotrie_search.specs.declared.any.SearchBy.{SearchBy}
+use Rattle.zerotrie_search.specs.declared.any.SearchBy.TheVariants as by
+use Rattle.zerotrie_search.specs.declared.any.WordError.{WordError}
 use Rattle.zerotrie_search.specs.declared.range.KeyRange.{KeyRange}
 use Rattle.zerotrie_queries.specs.declared.views.View.{View}
 use Rattle.zerotrie_queries.specs.declared.print.Form.{Form}
@@ -194,6 +196,16 @@ order_by false false = order.Stored
 abbrev pub IsOrder : Option (List ℕ) → Option (List ℕ) → Order → Type 0
 IsOrder count sorted o = (c : Bool) × (s : Bool) × IsFlag count c × IsFlag sorted s × (o ≡ order_by c s)
 
+-- the order of a search: of keys that are near a word, and without a number of edits, only those of the fewest edits
+abbrev pub search_order : (fuzzy edits : Option (List ℕ)) → Order → Order
+search_order None edits o = o
+search_order (Some word) None o = order.Closest
+search_order (Some word) (Some edits) o = o
+
+abbrev pub IsSearchOrder : ArgMatches → Order → Type 0
+IsSearchOrder matches o = (listed : Order) × IsOrder (flag_of matches (codes "count")) (flag_of matches (codes "sorted")) listed
+    × (o ≡ search_order (word_of matches (codes "fuzzy")) (word_of matches (codes "edits")) listed)
+
 -- the decimal number of a word, which may begin with a plus
 abbrev pub IsNumberOf : List ℕ → ℕ → Type 0
 IsNumberOf word n = IsNumeral 10 (without_leading_plus word) × (n ≡ digits_value 10 (without_leading_plus word))
@@ -299,10 +311,15 @@ pub record IsPlan (matches : ArgMatches) (plan : Plan) : Type 0 where
   pub form : IsForm (flag_of matches (codes "tagged")) (flag_of matches (codes "bare")) (flag_of matches (codes "index")) plan.file.form
   pub together : AreTogether plan.file.form plan.file.kind
 
--- whether steps are reported: if messages go to a terminal, and else by the flag
-abbrev pub IsProgress : Bool → Option (List ℕ) → Bool → Type 0
-IsProgress true word progress = progress ≡ true
-IsProgress false word progress = IsFlag word progress
+-- whether a build reports what it made: if messages go to a terminal, unless one flag says that it does, or the other that it doesn't
+abbrev pub progress_by : Bool → Bool → Bool → Option Bool
+progress_by to_terminal false false = Some to_terminal
+progress_by to_terminal true false = Some true
+progress_by to_terminal false true = Some false
+progress_by to_terminal true true = None
+
+abbrev pub IsProgress : Bool → Option (List ℕ) → Option (List ℕ) → Bool → Type 0
+IsProgress to_terminal progress quiet told = (p : Bool) × (q : Bool) × IsFlag progress p × IsFlag quiet q × (progress_by to_terminal p q ≡ Some told)
 
 -- the words of an argument, of all its uses
 abbrev pub words_of : ArgMatches → List ℕ → Option (List (List ℕ))
@@ -361,9 +378,9 @@ pub record IsFile (matches : ArgMatches) (about : Topic) (file : TrieFile) : Typ
   pub bare : IsKind (word_of matches (codes "bare")) file.bare
   pub check : IsCheck about (flag_of matches (codes "no-check")) file.check
 
--- how many edits are allowed: the number of the word, or one
+-- how many edits a word allows, or two
 abbrev pub IsEdits : Option (List ℕ) → ℕ → Type 0
-IsEdits None edits = edits ≡ 1
+IsEdits None edits = edits ≡ 2
 IsEdits (Some word) edits = IsNumberOf word edits
 
 -- a range from a key on, if its word is there, and below another
@@ -384,32 +401,61 @@ IsRange matches r = IsFrom (word_of matches (codes "from")) r.from × IsBelow (w
 abbrev pub HasNoRange : ArgMatches → Type 0
 HasNoRange matches = (word_of matches (codes "from") ≡ None) × (word_of matches (codes "below") ≡ None)
 
--- no number of edits is there
-abbrev pub HasNoEdits : ArgMatches → Type 0
-HasNoEdits matches = word_of matches (codes "edits") ≡ None
-
 -- the bytes that keys begin with, by their word
 abbrev pub IsFront : ArgMatches → List ℕ → Type 0
 IsFront matches prefix = prefix ≡ unwrap_or (word_of matches (codes "prefix")) []
 
--- which automaton has to accept keys, by the word of its option; the others are not there, nor are edits but of a fuzzy search
-abbrev pub IsSoughtBy : ArgMatches → Option AnyAutomaton → Type 0
-IsSoughtBy matches None = (word_of matches (codes "glob") ≡ None) × (word_of matches (codes "fuzzy") ≡ None) × (word_of matches (codes "subsequence") ≡ None) × HasNoEdits matches
-IsSoughtBy matches (Some (any.Prefix s)) = ⊥
-IsSoughtBy matches (Some (any.Range r)) = ⊥
-IsSoughtBy matches (Some (any.Glob g)) = (word_of matches (codes "glob") ≡ Some g.pattern.now) × (word_of matches (codes "fuzzy") ≡ None) × (word_of matches (codes "subsequence") ≡ None)
-    × HasNoEdits matches
-IsSoughtBy matches (Some (any.Subsequence s)) = (word_of matches (codes "subsequence") ≡ Some s.0.now) × (word_of matches (codes "glob") ≡ None) × (word_of matches (codes "fuzzy") ≡ None)
-    × HasNoEdits matches
-IsSoughtBy matches (Some (any.Fuzzy l)) = ⊥
-IsSoughtBy matches (Some (any.FuzzyChars l)) = (word : List ℕ) × (word_of matches (codes "fuzzy") ≡ Some word) × (letters_of l.word ≡ chars word) × IsEdits (word_of matches (codes "edits")) l.edits
-    × (word_of matches (codes "glob") ≡ None) × (word_of matches (codes "subsequence") ≡ None)
+-- how the word of `glob` finds keys: by characters, or by bytes with a flag
+abbrev pub glob_by : Bool → SearchBy
+glob_by false = by.GlobChars
+glob_by true = by.Glob
+
+-- how the word of `fuzzy` does: by edits of characters, or of bytes with a flag; neighbours may change places but with another flag
+abbrev pub fuzzy_by : (bytes plain : Bool) → ℕ → SearchBy
+fuzzy_by false false edits = by.SwapsChars edits
+fuzzy_by false true edits = by.FuzzyChars edits
+fuzzy_by true false edits = by.Swaps edits
+fuzzy_by true true edits = by.Fuzzy edits
+
+abbrev pub IsGlobBy : Option (List ℕ) → SearchBy → Type 0
+IsGlobBy word b = (bytes : Bool) × IsFlag word bytes × (b ≡ glob_by bytes)
+
+abbrev pub IsFuzzyBy : (bytes plain : Option (List ℕ)) → ℕ → SearchBy → Type 0
+IsFuzzyBy bytes plain edits b = (x : Bool) × (y : Bool) × IsFlag bytes x × IsFlag plain y × (b ≡ fuzzy_by x y edits)
+
+-- of the words of a search these are there
+abbrev pub AreGiven : ArgMatches → (glob fuzzy subsequence : Option (List ℕ)) → Type 0
+AreGiven matches glob fuzzy subsequence = (word_of matches (codes "glob") ≡ glob) × (word_of matches (codes "fuzzy") ≡ fuzzy) × (word_of matches (codes "subsequence") ≡ subsequence)
+
+-- a flag of a word is there only if the word is
+abbrev pub AreSwapsUsed : ArgMatches → Type 0
+AreSwapsUsed matches = (plain : Bool) × IsFlag (flag_of matches (codes "no-transpose")) plain × (plain ≡ true → word_of matches (codes "fuzzy") ≢ None)
+
+abbrev pub AreBytesUsed : ArgMatches → Type 0
+AreBytesUsed matches = (flag : Bool) × IsFlag (flag_of matches (codes "bytes")) flag × (flag ≡ true → word_of matches (codes "glob") ≡ None → word_of matches (codes "fuzzy") ≢ None)
+
+-- each option of a word is there only if the word is
+pub record AreUsed (matches : ArgMatches) : Type 0 where
+  pub edits : word_of matches (codes "edits") ≢ None → word_of matches (codes "fuzzy") ≢ None
+  pub swaps : AreSwapsUsed matches
+  pub bytes : AreBytesUsed matches
+
+-- a word finds keys by its option
+abbrev pub IsFoundBy : ArgMatches → List ℕ → SearchBy → Type 0
+IsFoundBy matches word b = (AreGiven matches (Some word) None None × IsGlobBy (flag_of matches (codes "bytes")) b)
+    ⊎ ((AreGiven matches None (Some word) None × ((edits : ℕ) × IsEdits (word_of matches (codes "edits")) edits × IsFuzzyBy (flag_of matches (codes "bytes")) (flag_of matches (codes "no-transpose")) edits b))
+    ⊎ (AreGiven matches None None (Some word) × (b ≡ by.Subsequence)))
+
+-- which word keys are sought by, if one is given: one of its sort, by its option, without useless ones
+abbrev pub IsSoughtBy : ArgMatches → Option Sought → Type 0
+IsSoughtBy matches None = AreGiven matches None None None × AreUsed matches
+IsSoughtBy matches (Some s) = IsFoundBy matches s.word.now s.by × ((e : WordError) → IsWordError s.by s.word.now e → ⊥) × AreUsed matches
 
 -- The keys that are listed, by their words.
 pub record IsListed (matches : ArgMatches) (c : Choice) : Type 0 where
   pub front : IsFront matches c.prefix.now
   pub range : IsRange matches c.range
-  pub all : c.automaton ≡ None
+  pub all : c.sought ≡ None
 
 -- neither a prefix nor a range is there
 abbrev pub HasNoPart : ArgMatches → Type 0
@@ -423,14 +469,14 @@ SeeksNothing matches = (word_of matches (codes "glob") ≡ None) × (word_of mat
 pub record IsSought (matches : ArgMatches) (c : Choice) : Type 0 where
   pub front : IsFront matches c.prefix.now
   pub range : IsRange matches c.range
-  pub by : IsSoughtBy matches c.automaton
+  pub by : IsSoughtBy matches c.sought
   pub some : SeeksNothing matches → ⊥
 
 -- The pairs that are listed, by the words of a listing or a search: how, and in which order.
-pub record IsListing (matches : ArgMatches) (IsChoice : Choice → Type 0) (form : Form) (c : Choice) (o : Order) (limit : Option ℕ) : Type 0 where
+pub record IsListing (matches : ArgMatches) (IsChoice : Choice → Type 0) (IsOrdered : Order → Type 0) (form : Form) (c : Choice) (o : Order) (limit : Option ℕ) : Type 0 where
   pub format : IsListForm (flag_of matches (codes "count")) (word_of matches (codes "format")) form
   pub chosen : IsChoice c
-  pub ordered : IsOrder (flag_of matches (codes "count")) (flag_of matches (codes "sorted")) o
+  pub ordered : IsOrdered o
   pub most : IsLimit (word_of matches (codes "limit")) limit
 
 -- a name is none of those in zerotrie.h, if the language is C; of keywords, tests show it
@@ -456,8 +502,8 @@ IsQuestion matches topic.Get texts q = (query : Query) × (of : Keys) × IsGet (
 IsQuestion matches topic.Longest texts q = (query : Query) × (of : Keys) × IsLongest matches query.asked × IsSpelling (flag_of matches (codes "escaped")) query.spelling
     × AreKeysOf texts of × (q ≡ question.LookUp query of)
 IsQuestion matches topic.Keys texts q = (of : Keys) × AreKeysOf texts of × (q ≡ question.LookUp (record { asked = asked.KeyOf; spelling = spelling.Plain }) of)
-IsQuestion matches topic.List texts q = (f : Form) × (c : Choice) × (o : Order) × (limit : Option ℕ) × IsListing matches (IsListed matches) f c o limit × (q ≡ question.List f c o limit)
-IsQuestion matches topic.Search texts q = (f : Form) × (c : Choice) × (o : Order) × (limit : Option ℕ) × IsListing matches (IsSought matches) f c o limit × (q ≡ question.List f c o limit)
+IsQuestion matches topic.List texts q = (f : Form) × (c : Choice) × (o : Order) × (limit : Option ℕ) × IsListing matches (IsListed matches) (IsOrder (flag_of matches (codes "count")) (flag_of matches (codes "sorted"))) f c o limit × (q ≡ question.List f c o limit)
+IsQuestion matches topic.Search texts q = (f : Form) × (c : Choice) × (o : Order) × (limit : Option ℕ) × IsListing matches (IsSought matches) (IsSearchOrder matches) f c o limit × (q ≡ question.List f c o limit)
 IsQuestion matches topic.Verify texts q = q ≡ question.Verify
 IsQuestion matches topic.Stats texts q = (f : ReportForm) × IsReportForm (flag_of matches (codes "json")) f × (q ≡ question.Report f)
 IsQuestion matches topic.Inspect texts q = (v : View) × IsView (word_of matches (codes "VIEW")) (word_of matches (codes "limit")) v × (q ≡ question.View v)

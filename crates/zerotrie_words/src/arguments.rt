@@ -4,7 +4,7 @@ ghost use Rattle.std.specs.Prelude.{◌≡◌};
 ghost use Rattle.clap.specs.Walk.{rule_of};
 ghost use Rattle.zerotrie_words.specs.Arguments.{as_named, as_option, left_out, rule_by};
 
-use crate::table::STATUSES;
+use crate::table::{STATUSES, VERSION};
 use clap::builder::ValueParser;
 use clap::{Arg, ArgAction, Command};
 use std::alloc::{AllocError, Global};
@@ -144,7 +144,7 @@ pub fn program<'a>(
 ) -> Result<Command<'a>, AllocError> {
     let mut program = Command::new(alloc, "zerotrie")
         .bin_name("zerotrie")?
-        .version("0.3.0")
+        .version(VERSION)
         .about("Makes tries in files and reads them")
         .after_help(STATUSES)
         .subcommand_required(true)

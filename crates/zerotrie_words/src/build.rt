@@ -1,9 +1,9 @@
 //! The build that the command line asks for.
 
 ghost use Rattle.std.specs.Prelude.{◌≡◌, Some, IfErr, IfOk, IfSome, IfNone, codes};
-ghost use Rattle.zerotrie_words.specs.Refusals.{ExcludeEachOther, IsNoChoice, IsNoContent, IsNoEnd, IsNoInput, IsNoPlan, NamesNone};
+ghost use Rattle.zerotrie_words.specs.Refusals.{ExcludeEachOther, IsNoBuild, IsNoChoice, IsNoContent, IsNoEnd, IsNoInput, IsNoPlan, IsNoProgress, NamesNone};
 ghost use Rattle.zerotrie_words.specs.Requests.{IsBuild};
-ghost use Rattle.zerotrie_words.specs.Words.{AreTogether, IsEnd, IsForm, IsFormat, IsInput, IsKind, IsPlan, IsTarget, MayNameEnd, duplicates_word, end_word, flag_of, format_word, word_of};
+ghost use Rattle.zerotrie_words.specs.Words.{AreTogether, IsEnd, IsForm, IsFormat, IsInput, IsKind, IsPlan, IsProgress, IsTarget, MayNameEnd, duplicates_word, end_word, flag_of, format_word, word_of};
 ghost use Rattle.zerotrie_lines.specs.declared.reading.LineEnd.{LineEnd};
 ghost use Rattle.zerotrie_making.specs.declared.duplicates.Duplicates.{Duplicates};
 
@@ -176,17 +176,34 @@ pub fn target_in<'a>(matches: &ArgMatches<'a>) -> Place<'a>
     }
 }
 
-/// Returns the build that is asked for. It reports its steps if that was asked for, or if messages
-/// go to a terminal. It is an error, with the message, if an option has a wrong word.
+/// Returns whether a build reports what it made: if that is asked for, or if messages go to a
+/// terminal and it is not to be quiet.
+fn progress_in(matches: &ArgMatches<'_>, to_terminal: bool) -> Result<bool, &'static str>
+    ensures progress { IfOk result (IsProgress to_terminal (flag_of matches.now (codes "progress"))
+        (flag_of matches.now (codes "quiet"))) }
+    ensures refused { IfErr result (λ _. IsNoProgress (flag_of matches.now (codes "progress"))
+        (flag_of matches.now (codes "quiet"))) }
+{
+    match (matches.get_flag("progress"), matches.get_flag("quiet")) {
+        (false, false) => Ok(to_terminal),
+        (true, false) => Ok(true),
+        (false, true) => Ok(false),
+        (true, true) => Err("--progress and --quiet exclude each other"),
+    }
+}
+
+/// Returns the build that is asked for. It reports what it made if that is asked for, or if messages
+/// go to a terminal and it is not to be quiet. It is an error, with the message, if an option has a
+/// wrong word, or options exclude each other.
 pub fn build_in<'a>(matches: &ArgMatches<'a>, to_terminal: bool) -> Result<Build<'a>, &'static str>
     ensures build { IfOk result (IsBuild matches.now to_terminal) }
-    ensures refused { IfErr result (λ _. IsNoPlan matches.now) }
+    ensures refused { IfErr result (λ _. IsNoBuild matches.now) }
 {
     Ok(Build {
         from: source_in(matches, "IN"),
         to: target_in(matches),
         plan: plan_in(matches)?,
         no_clobber: matches.get_flag("no-clobber"),
-        progress: to_terminal || matches.get_flag("progress"),
+        progress: progress_in(matches, to_terminal)?,
     })
 }

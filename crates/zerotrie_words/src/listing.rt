@@ -2,7 +2,7 @@
 
 ghost use Rattle.std.specs.Prelude.{◌≡◌, Some, IfErr, IfOk, IfSome, IfNone, codes};
 ghost use Rattle.zerotrie_words.specs.Refusals.{HasNoNumber, IsNoForm};
-ghost use Rattle.zerotrie_words.specs.Words.{IsLimit, IsListForm, IsOrder, flag_of, form_word, word_of};
+ghost use Rattle.zerotrie_words.specs.Words.{IsLimit, IsListForm, IsOrder, IsSearchOrder, flag_of, form_word, word_of};
 ghost use Rattle.zerotrie_queries.specs.declared.print.Form.{Form};
 
 use clap::ArgMatches;
@@ -48,6 +48,18 @@ pub fn order_in(matches: &ArgMatches<'_>) -> Order
     match (matches.get_flag("count"), matches.get_flag("sorted")) {
         (false, true) => Order::ByBytes,
         (true, _) | (false, false) => Order::Stored,
+    }
+}
+
+/// Returns the order in which the pairs of a search are to be printed. If keys are near a word, and no
+/// number of edits is given, only those of the fewest edits are.
+pub fn search_order_in(matches: &ArgMatches<'_>) -> Order
+    ensures { IsSearchOrder matches.now result }
+{
+    let order = order_in(matches);
+    match (matches.get_str("fuzzy"), matches.get_str("edits")) {
+        (Some(_), None) => Order::Closest,
+        (None, _) | (Some(_), Some(_)) => order,
     }
 }
 

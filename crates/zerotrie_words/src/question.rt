@@ -6,7 +6,7 @@ ghost use Rattle.zerotrie_words.specs.Words.{IsAsk, IsBorder, IsCheck, IsFile, I
 
 use crate::code::code_in;
 use crate::keys::keys_of;
-use crate::listing::{form_in, limit_in, order_in};
+use crate::listing::{form_in, limit_in, order_in, search_order_in};
 use crate::names::{kind_in, source_in};
 use crate::search::{choice_in, listed_in};
 use crate::task::Topic;
@@ -176,7 +176,7 @@ fn question_in<'w, 'a: 'w>(
         Topic::Search => Ok(Question::List(
             form_in(matches)?,
             choice_in(matches)?,
-            order_in(matches),
+            search_order_in(matches),
             limit_in(matches)?,
         )),
         Topic::Verify => Ok(Question::Verify),

@@ -3,20 +3,22 @@
 ghost use Rattle.std.specs.Prelude.{◌≡◌, IfOk, IfErr};
 ghost use Rattle.zerotrie_run.specs.declared.status.Status.TheVariants.{BadUsage};
 ghost use Rattle.zerotrie_words.specs.Replies.{status_of};
-ghost use Rattle.zerotrie_words.specs.Requests.{AreApart, AreOneFile, IsCommand, IsNoCommand, keys_by};
+ghost use Rattle.zerotrie_words.specs.Requests.{AreApart, AreOneFile, IsCommand, IsNoCommand, IsQuiet, keys_by};
 ghost use Rattle.zerotrie_words.specs.Words.{texts_of};
 
 use crate::arguments::program;
 use crate::build::build_in;
 use crate::combine::combine_in;
+use crate::completions::script_for;
 use crate::diff::diff_in;
 use crate::keys::words_in;
+use crate::manual::manual;
 use crate::question::ask_in;
 use crate::reply::{Reply, reply_to};
 use crate::table::commands;
 use crate::task::{Task, task_in};
 use clap::ArgMatches;
-use std::alloc::Global;
+use std::alloc::{AllocError, Global};
 use zerotrie_run::{Build, Command, Place};
 
 /// The words of a command line that name a command.
@@ -34,6 +36,18 @@ fn matches_in<'a>(alloc: Global, words: &'a [String]) -> Result<ArgMatches<'a>, 
     match known.try_get_matches_from(words) {
         Ok(matches) => Ok(matches),
         Err(error) => Err(reply_to(alloc, &error)),
+    }
+}
+
+/// Returns the man page, or the completions for a shell, if the words ask for these. `None` if they ask
+/// for something else.
+fn page_in(alloc: Global, matches: &ArgMatches<'_>) -> Result<Option<String>, AllocError> {
+    match matches.subcommand() {
+        Some(("completions", words)) => {
+            script_for(alloc, words.get_str("SHELL").unwrap_or(""), &commands())
+        }
+        Some(("man", _)) => Ok(Some(manual(alloc, &commands())?)),
+        _ => Ok(None),
     }
 }
 
@@ -56,6 +70,9 @@ impl<'a> Request<'a> {
         ensures { IfOk result (λ r. texts_of r.keys ≡ keys_by r.matches r.task) }
     {
         let mut matches = matches_in(alloc, words)?;
+        if let Some(page) = page_in(alloc, &matches)? {
+            return Err(Reply::Help(page));
+        }
         let Some((task, matches)) = task_in(&mut matches) else {
             return Err(Reply::Refusal("give a command, or --help"));
         };
@@ -70,8 +87,19 @@ impl<'a> Request<'a> {
         })
     }
 
-    /// Returns the command that the words ask for. A build reports its steps also if messages go to
-    /// a terminal. It is an error if an option has a wrong word, if options exclude each other, or
+    /// Returns whether nothing is to be printed of what the command finds, so that its status alone
+    /// says it.
+    pub fn is_quiet(&self) -> bool
+        ensures { IsQuiet self.now.task self.now.matches result }
+    {
+        match self.task {
+            Task::Diff => self.matches.get_flag("quiet"),
+            Task::Build | Task::Ask(_) | Task::Combine(_) => false,
+        }
+    }
+
+    /// Returns the command that the words ask for. A build reports what it made also if messages go
+    /// to a terminal, but not if it is to be quiet. It is an error if an option has a wrong word, if options exclude each other, or
     /// if a build would replace its own input.
     pub fn command(&self, to_terminal: bool) -> Result<Command<'_>, Reply<'a>>
         ensures command { IfOk result

@@ -1,34 +1,64 @@
 //! Which keys the command line asks for.
 
-ghost use Rattle.std.specs.Prelude.{◌≡◌, false, true, IfErr, IfOk, None, codes};
-ghost use Rattle.std.specs.Str.{chars};
-ghost use Rattle.zerotrie_search.specs.Words.{letters_of};
-ghost use Rattle.zerotrie_words.specs.Refusals.{HasNoNumber, IsNoAutomaton, IsNoGlob, IsNoSearch, IsTooFar};
-ghost use Rattle.zerotrie_words.specs.Words.{HasNoPart, HasNoRange, IsEdits, IsFront, IsListed, IsRange, IsSought, IsSoughtBy, word_of};
+ghost use Rattle.std.specs.Prelude.{◌≡◌, ◌≢◌, false, true, IfErr, IfOk, IfSome, IfNone, None, codes};
+ghost use Rattle.zerotrie_search.specs.Automata.{IsWordError};
+ghost use Rattle.zerotrie_search.specs.declared.any.WordError.{WordError};
+ghost use Rattle.zerotrie_words.specs.Refusals.{HasNoNumber, IsNoSearch, IsNoSought, IsNoWord, IsUseless};
+ghost use Rattle.zerotrie_words.specs.Words.{AreBytesUsed, AreSwapsUsed, AreUsed, HasNoPart, HasNoRange, IsEdits, IsFlag, IsFront, IsFuzzyBy, IsGlobBy, IsListed, IsRange, IsSought, IsSoughtBy, flag_of, word_of};
 
 use clap::ArgMatches;
 use std::ops::Bound;
-use zerotrie_queries::Choice;
-use zerotrie_search::{AnyAutomaton, Glob, GlobError, KeyRange, LevenshteinChars, Subsequence};
+use zerotrie_queries::{Choice, Order, Sought};
+use zerotrie_search::{AnyAutomaton, KeyRange, SearchBy, WordError};
 
 /// How many edits are allowed if `--edits` is left out.
-const EDITS: u8 = 1;
+const EDITS: u8 = 2;
 
 const NOTHING_SOUGHT: &str = "give --glob, --fuzzy, --subsequence, --prefix, --from or --below";
 
 const TOO_MUCH_SOUGHT: &str = "give only one of --glob, --fuzzy and --subsequence";
 
-/// Returns the pattern that keys have to match. It is an error, with the message, if it is none.
-fn glob_of<'a>(pattern: &'a str) -> Result<Glob<'a>, &'static str>
-    ensures glob { IfOk result (λ g. g.pattern.now ≡ pattern.now) }
-    ensures refused { IfErr result (λ _. IsNoGlob pattern.now) }
-{
-    match Glob::new(pattern.as_bytes()) {
-        Ok(glob) => Ok(glob),
-        Err(GlobError::Malformed) => {
-            Err("--glob asks for a pattern: a class lacks its end, or a backslash its byte")
+/// Returns what is said of a word that is none of its sort.
+fn word_refused(by: SearchBy, error: WordError) -> &'static str {
+    match (by, error) {
+        (SearchBy::Glob | SearchBy::GlobChars, WordError::Malformed) => {
+            "--glob asks for a pattern: a class lacks its end or its letters, a range ends before it begins, or a backslash escapes nothing"
         }
-        Err(GlobError::TooLong) => Err("--glob asks for a pattern of at most 63 parts"),
+        (SearchBy::Glob | SearchBy::GlobChars, WordError::TooLong) => {
+            "--glob asks for a pattern of at most 63 parts"
+        }
+        (SearchBy::Swaps(_) | SearchBy::SwapsChars(_), _) => {
+            "--fuzzy asks for at most 63 characters and 7 edits; --no-transpose allows 254 edits"
+        }
+        (
+            SearchBy::Fuzzy(_) | SearchBy::FuzzyChars(_) | SearchBy::Prefix | SearchBy::Subsequence,
+            _,
+        ) => "--fuzzy asks for at most 63 characters and 254 edits",
+    }
+}
+
+/// Returns a word by which keys are sought. It is an error, with the message, if it is none of its sort.
+fn sought_by<'a>(by: SearchBy, word: &'a str) -> Result<Option<Sought<'a>>, &'static str>
+    ensures ok { IfOk result (λ o. IfSome o (λ s. (s.by ≡ by) × (s.word.now ≡ word.now))) }
+    ensures some { IfOk result (λ o. o ≢ None) }
+    ensures word { IfOk result (λ _. (e : WordError) → IsWordError by word.now e → ⊥) }
+    ensures refused { IfErr result (λ _. IsNoWord by word.now) }
+{
+    let word = word.as_bytes();
+    match AnyAutomaton::new(by, word) {
+        Ok(_) => Ok(Some(Sought { by, word })),
+        Err(error) => Err(word_refused(by, error)),
+    }
+}
+
+/// Returns how the word of `--glob` finds keys: by characters, or by bytes with a flag.
+fn glob_by(matches: &ArgMatches<'_>) -> SearchBy
+    ensures { IsGlobBy (flag_of matches.now (codes "bytes")) result }
+{
+    if matches.get_flag("bytes") {
+        SearchBy::Glob
+    } else {
+        SearchBy::GlobChars
     }
 }
 
@@ -44,19 +74,6 @@ fn edits_in(matches: &ArgMatches<'_>) -> Result<u8, &'static str>
     match word.parse() {
         Ok(edits) => Ok(edits),
         Err(_) => Err("--edits asks for a number below 255"),
-    }
-}
-
-/// Returns the word that keys have to be near. It is an error, with the message, if the word is too
-/// long, or the edits are too many.
-fn fuzzy_of(word: &str, edits: u8) -> Result<LevenshteinChars, &'static str>
-    ensures word { IfOk result (λ l. letters_of l.word ≡ chars word.now) }
-    ensures edits { IfOk result (λ l. l.edits ≡ edits) }
-    ensures refused { IfErr result (λ _. IsTooFar word.now edits) }
-{
-    match LevenshteinChars::new(word, edits) {
-        Some(near) => Ok(near),
-        None => Err("--fuzzy asks for at most 63 characters and 254 edits"),
     }
 }
 
@@ -84,30 +101,83 @@ fn has_range(matches: &ArgMatches<'_>) -> bool
     matches.get_str("from").is_some() || matches.get_str("below").is_some()
 }
 
-/// Returns the automaton that has to accept keys, or `None` if no word asks for one. It is an error,
-/// with the message, if more than one is asked for, or if edits are named for another search than a
-/// fuzzy one.
-fn automaton_in<'a>(matches: &ArgMatches<'a>) -> Result<Option<AnyAutomaton<'a>>, &'static str>
-    ensures sought { IfOk result (IsSoughtBy matches.now) }
-    ensures refused { IfErr result (λ _. IsNoAutomaton matches.now) }
+/// Returns how the word of `--fuzzy` finds keys: by edits of characters, or of bytes with a flag, where
+/// neighbours that change places are one edit, but not with another flag.
+fn fuzzy_by(matches: &ArgMatches<'_>, edits: u8) -> SearchBy
+    ensures { IsFuzzyBy (flag_of matches.now (codes "bytes"))
+        (flag_of matches.now (codes "no-transpose")) edits result }
 {
+    let edits = u32::from(edits);
+    match (matches.get_flag("bytes"), matches.get_flag("no-transpose")) {
+        (false, false) => SearchBy::SwapsChars(edits),
+        (false, true) => SearchBy::FuzzyChars(edits),
+        (true, false) => SearchBy::Swaps(edits),
+        (true, true) => SearchBy::Fuzzy(edits),
+    }
+}
+
+/// Returns whether a number of edits is given, but no word that they are of.
+fn has_idle_edits(matches: &ArgMatches<'_>) -> bool
+    ensures yes { result ≡ true → (word_of matches.now (codes "edits") ≢ None)
+        × (word_of matches.now (codes "fuzzy") ≡ None) }
+    ensures no { result ≡ false → word_of matches.now (codes "edits") ≢ None
+        → word_of matches.now (codes "fuzzy") ≢ None }
+{
+    matches.get_str("edits").is_some() && matches.get_str("fuzzy").is_none()
+}
+
+/// Returns whether two characters that change places are to be two edits, but of no word.
+fn has_idle_swaps(matches: &ArgMatches<'_>) -> bool
+    ensures yes { result ≡ true → IsFlag (flag_of matches.now (codes "no-transpose")) true
+        × (word_of matches.now (codes "fuzzy") ≡ None) }
+    ensures no { result ≡ false → AreSwapsUsed matches.now }
+{
+    matches.get_flag("no-transpose") && matches.get_str("fuzzy").is_none()
+}
+
+/// Returns whether bytes are to count in place of characters, but of no word.
+fn has_idle_bytes(matches: &ArgMatches<'_>) -> bool
+    ensures yes { result ≡ true → IsFlag (flag_of matches.now (codes "bytes")) true
+        × (word_of matches.now (codes "glob") ≡ None)
+        × (word_of matches.now (codes "fuzzy") ≡ None) }
+    ensures no { result ≡ false → AreBytesUsed matches.now }
+{
+    matches.get_flag("bytes")
+        && matches.get_str("glob").is_none()
+        && matches.get_str("fuzzy").is_none()
+}
+
+/// Returns what is said of options that no word of a search makes use of, if there are such.
+fn useless_in(matches: &ArgMatches<'_>) -> Option<&'static str>
+    ensures none { IfNone result (AreUsed matches.now) }
+    ensures some { IfSome result (λ _. IsUseless matches.now) }
+{
+    if has_idle_edits(matches) {
+        return Some("--edits is for --fuzzy");
+    }
+    if has_idle_swaps(matches) {
+        return Some("--no-transpose is for --fuzzy");
+    }
+    has_idle_bytes(matches).then_some("--bytes is for --glob and --fuzzy")
+}
+
+/// Returns the word by which keys are sought, or `None` if none is given. It is an error, with the
+/// message, if more than one is, if a word is none of its sort, or if an option is of no use.
+fn sought_in<'a>(matches: &ArgMatches<'a>) -> Result<Option<Sought<'a>>, &'static str>
+    ensures sought { IfOk result (IsSoughtBy matches.now) }
+    ensures refused { IfErr result (λ _. IsNoSought matches.now) }
+{
+    if let Some(useless) = useless_in(matches) {
+        return Err(useless);
+    }
     let glob = matches.get_str("glob");
     let fuzzy = matches.get_str("fuzzy");
     let subsequence = matches.get_str("subsequence");
-    if fuzzy.is_none() && matches.get_str("edits").is_some() {
-        return Err("--edits is for --fuzzy");
-    }
     match (glob, fuzzy, subsequence) {
         (None, None, None) => Ok(None),
-        (Some(pattern), None, None) => Ok(Some(AnyAutomaton::Glob(glob_of(pattern)?))),
-        (None, Some(word), None) => {
-            let near = fuzzy_of(word, edits_in(matches)?)?;
-            Ok(Some(AnyAutomaton::FuzzyChars(near)))
-        }
-        (None, None, Some(word)) => {
-            let bytes = Subsequence(word.as_bytes());
-            Ok(Some(AnyAutomaton::Subsequence(bytes)))
-        }
+        (Some(pattern), None, None) => sought_by(glob_by(matches), pattern),
+        (None, Some(word), None) => sought_by(fuzzy_by(matches, edits_in(matches)?), word),
+        (None, None, Some(word)) => sought_by(SearchBy::Subsequence, word),
         (Some(_), Some(_), _) | (Some(_), None, Some(_)) | (None, Some(_), Some(_)) => {
             Err(TOO_MUCH_SOUGHT)
         }
@@ -128,7 +198,7 @@ pub fn listed_in<'a>(matches: &ArgMatches<'a>) -> Choice<'a>
     Choice {
         prefix: prefix_in(matches),
         range: range_in(matches),
-        automaton: None,
+        sought: None,
     }
 }
 
@@ -147,13 +217,13 @@ pub fn choice_in<'a>(matches: &ArgMatches<'a>) -> Result<Choice<'a>, &'static st
     ensures sought { IfOk result (IsSought matches.now) }
     ensures refused { IfErr result (λ _. IsNoSearch matches.now) }
 {
-    let automaton = automaton_in(matches)?;
-    if automaton.is_none() && !has_part(matches) {
+    let sought = sought_in(matches)?;
+    if sought.is_none() && !has_part(matches) {
         return Err(NOTHING_SOUGHT);
     }
     Ok(Choice {
         prefix: prefix_in(matches),
         range: range_in(matches),
-        automaton,
+        sought,
     })
 }

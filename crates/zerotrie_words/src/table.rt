@@ -1,6 +1,7 @@
 //! The commands, as rows.
 
 use crate::arguments::{Argument, Form, Otherwise, Subcommand};
+use crate::completions::SHELLS;
 use crate::input::INPUTS;
 
 const KINDS: &[&str] = &["simple", "ignore", "hash", "ext"];
@@ -16,6 +17,9 @@ const CHOICES: &[&str] = &["refuse", "first", "last"];
 const LANGUAGES: &[&str] = &["rust", "c", "rattle", "js"];
 
 const VIEWS: &[&str] = &["dump", "dot"];
+
+/// The version of the program.
+pub const VERSION: &str = "0.3.0";
 
 /// The greatest number that an option takes.
 const GREATEST: u64 = u64::MAX;
@@ -195,7 +199,12 @@ const LOOK_UPS: &[Subcommand] = &[
             Argument {
                 name: "progress",
                 form: Form::Flag(Some('p')),
-                help: "Report each step on standard error, even if it is no terminal",
+                help: "Report what was made on standard error, even if it is no terminal",
+            },
+            Argument {
+                name: "quiet",
+                form: Form::Flag(Some('q')),
+                help: "Report nothing but errors, even on a terminal",
             },
         ],
     },
@@ -303,7 +312,8 @@ const LISTINGS: &[Subcommand] = &[
         about: "Print the pairs whose keys match a pattern or are near a word",
         help: "Example: zerotrie search names.trie --fuzzy ampersend\n\
             All conditions hold: one of --glob, --fuzzy and --subsequence beside\n\
-            --prefix, --from and --below, or these alone.\n\
+            --prefix, --from and --below, or these alone. Without --edits the keys\n\
+            of the fewest edits that find any are printed, up to 2.\n\
             Status: 0 also if no key is found, 2 if FILE is no trie.",
         arguments: &[
             FILE,
@@ -320,7 +330,17 @@ const LISTINGS: &[Subcommand] = &[
             Argument {
                 name: "edits",
                 form: Form::Number("E", Some('e'), 254),
-                help: "How many characters --fuzzy may insert, delete or change, else 1",
+                help: "How many characters --fuzzy may insert, delete, change or swap",
+            },
+            Argument {
+                name: "no-transpose",
+                form: Form::Flag(None),
+                help: "Two characters that change places are two edits",
+            },
+            Argument {
+                name: "bytes",
+                form: Form::Flag(None),
+                help: "Let --glob and --fuzzy count bytes in place of characters",
             },
             Argument {
                 name: "subsequence",
@@ -372,6 +392,11 @@ const LISTINGS: &[Subcommand] = &[
                 name: "bare",
                 form: Form::OneOf("K", Some('b'), KINDS, Otherwise::Nothing),
                 help: "Read both as bare bytes of this kind",
+            },
+            Argument {
+                name: "quiet",
+                form: Form::Flag(Some('q')),
+                help: "Print nothing: the status alone says whether the pairs are the same",
             },
         ],
     },
@@ -454,6 +479,7 @@ const COMBINATIONS: &[Subcommand] = &[
         about: "Make a trie of the pairs of two others",
         help: "Example: zerotrie union new.trie old.trie -o all.trie\n\
             If both have a key, the value in A counts. OUT may be A or B.\n\
+            Two tries of kind ignore are combined in any case, as A has the keys.\n\
             Status: 1 if the build is refused, 2 if A or B is no trie.",
         arguments: BOTH,
     },
@@ -475,6 +501,26 @@ const COMBINATIONS: &[Subcommand] = &[
     },
 ];
 
+/// The commands about the program itself.
+const SERVICES: &[Subcommand] = &[
+    Subcommand {
+        name: "completions",
+        about: "Print the completions of the command line for a shell",
+        help: "Example: zerotrie completions bash",
+        arguments: &[Argument {
+            name: "SHELL",
+            form: Form::Word(SHELLS),
+            help: "The shell",
+        }],
+    },
+    Subcommand {
+        name: "man",
+        about: "Print the man page",
+        help: "Example: zerotrie man | man -l -",
+        arguments: &[],
+    },
+];
+
 fn look_ups() -> &'static [Subcommand] {
     LOOK_UPS
 }
@@ -491,8 +537,18 @@ fn combinations() -> &'static [Subcommand] {
     COMBINATIONS
 }
 
+fn services() -> &'static [Subcommand] {
+    SERVICES
+}
+
 /// What the program can be asked to do, in the order of the help. Each part is behind a function of
 /// its own, since a proof writes out the rows that it sees.
-pub fn commands() -> [&'static [Subcommand]; 4] {
-    [look_ups(), listings(), reports(), combinations()]
+pub fn commands() -> [&'static [Subcommand]; 5] {
+    [
+        look_ups(),
+        listings(),
+        reports(),
+        combinations(),
+        services(),
+    ]
 }

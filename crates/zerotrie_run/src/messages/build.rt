@@ -1,8 +1,8 @@
 //! Messages on a file that is made.
 
-ghost use Rattle.std.specs.Prelude.{◌≡◌, IfOk, OnOk};
-ghost use Rattle.zerotrie_run.specs.Messages.{Extends, IsLineOn, TellsBuild, TellsMade, other_words, source_name, target_name, unit_of};
-ghost use Rattle.zerotrie_run.specs.Told.{told_step};
+ghost use Rattle.std.specs.Prelude.{◌≡◌, ◌++◌, IfOk, OnOk};
+ghost use Rattle.zerotrie_run.specs.Messages.{Extends, IsLineOn, TellsBuild, TellsMade, key_word, other_words, size_text, source_name, target_name, tenths_text, unit_of};
+ghost use Rattle.zerotrie_run.specs.Told.{told_made};
 
 use crate::build::BuildError;
 use crate::command::Build;
@@ -90,20 +90,54 @@ fn refusal(
     Ok(text)
 }
 
-/// Returns a line that says that a step of a build has ended, and how many bytes it read, made or
-/// wrote. It is empty if steps are not told.
-pub fn step_text(
+/// Adds tenths of a unit.
+fn add_tenths(text: &mut Vec<u8>, tenths: usize, unit: &str) -> Result<(), AllocError>
+    ensures { OnOk result (text.new.items ≡ text.old.items ++ tenths_text tenths unit.now) }
+{
+    let whole = tenths / 10;
+    let rest = tenths % 10;
+    write!(text, "{whole}.{rest}{unit}").map_err(|_| AllocError)
+}
+
+/// Adds a size: bytes, or kB, MB or GB with one digit behind the point, which is not rounded up.
+fn add_size(text: &mut Vec<u8>, len: usize) -> Result<(), AllocError>
+    ensures { OnOk result (text.new.items ≡ text.old.items ++ size_text len) }
+{
+    if len < 1000 {
+        write!(text, "{len} bytes").map_err(|_| AllocError)
+    } else if len < 1_000_000 {
+        add_tenths(text, len / 100, " kB")
+    } else if len < 1_000_000_000 {
+        add_tenths(text, len / 100_000, " MB")
+    } else {
+        add_tenths(text, len / 100_000_000, " GB")
+    }
+}
+
+/// Returns the word after a number of keys.
+fn key_word(keys: usize) -> &'static str
+    ensures { result.now ≡ key_word keys }
+{
+    if keys == 1 { "key" } else { "keys" }
+}
+
+/// Returns a line that says how many keys a file has that was made, and how long it is. It is empty
+/// if that is not told.
+pub fn made_text(
     alloc: Global,
     is_told: bool,
     place: &str,
-    step: &str,
+    keys: usize,
     len: usize,
 ) -> Result<Vec<u8>, AllocError>
-    ensures { IfOk result (λ text. text.items ≡ told_step is_told place.now step.now len) }
+    ensures { IfOk result (λ text. text.items ≡ told_made is_told place.now keys len) }
 {
     let mut text = Vec::new(alloc);
     if is_told {
-        write!(text, "zerotrie: {place}: {step} {len} bytes\n").map_err(|_| AllocError)?;
+        let word = key_word(keys);
+        write!(text, "zerotrie: {place}: {keys} {word}, ").map_err(|_| AllocError)?;
+        add_size(&mut text, len)?;
+        end_line(&mut text)?;
     }
     Ok(text)
 }

@@ -109,7 +109,7 @@ fn add_reason(text: &mut Vec<u8>, unit: &str, shown: &Shown) -> Result<(), Alloc
             text,
             unit,
             shown,
-            ": their keys begin alike but for the case of a letter; --lower-case brings all keys into lower case: ",
+            ": their keys begin alike but for the case of a letter; take --kind simple, or bring keys into lower case by build --lower-case: ",
         ),
     }
 }

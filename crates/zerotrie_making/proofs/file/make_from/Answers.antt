@@ -8,7 +8,7 @@ use Rattle.zerotrie_making.proofs.file.make_from.Goals as goal
 pub returns-in-Refuse-clause-err : goal.returns-in-Refuse-clause-err
 returns-in-Refuse-clause-err c =
     let pairs = pairs_of c.args.items.now in
-    subst (λ d. IfErr c.make_of.result (λ e. ExplainsOf c.args.plan.file (number_at d pairs) (kept d pairs) e)) (sym c.in-Refuse.is) c.make_of.ensures.err
+    subst (λ d. IfErr c.make_counted.result (λ e. ExplainsOf c.args.plan.file (number_at d pairs) (kept d pairs) e)) (sym c.in-Refuse.is) c.make_counted.ensures.err
 
 pub returns-in_ok-firsts-in-First-clause-err : goal.returns-in_ok-firsts-in-First-clause-err
 returns-in_ok-firsts-in-First-clause-err c =

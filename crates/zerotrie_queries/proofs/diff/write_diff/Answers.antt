@@ -1,32 +1,33 @@
-use Rattle.std.proofs.Common.{ap}
-use Rattle.zerotrie_queries.proofs.ChoiceLemmas.{on_err_so}
+use Rattle.zerotrie_core.specs.Kinds.{kind_of}
 use Rattle.zerotrie_queries.proofs.PartLemmas.{on_err}
-use Rattle.zerotrie_queries.proofs.DiffLemmas.{all_told, part_told, none_told, ok_both}
+use Rattle.zerotrie_queries.proofs.DiffLemmas.{none_told}
 use Rattle.zerotrie_queries.proofs.diff.write_diff.Goals as goal
 
 pub returns-in_err-first-clause-part : goal.returns-in_err-first-clause-part
-returns-in_err-first-clause-part g c = on_err c.from_residual.result (λ m n p q. none_told m n (g.W.Write.contents c.args.output.now.inner) c.sorted_listing_ascends.ensures c.diffs_are_of_maps.ensures)
+returns-in_err-first-clause-part g c =
+    on_err c.from_residual.result
+    (λ m n p q. none_told (kind_of c.args.old.now.kind) (kind_of c.args.new.now.kind) m n (g.W.Write.contents c.args.output.now.inner) c.sorted_listing_ascends.ensures c.diffs_are_of_maps.ensures c.combined_are_maps.ensures)
+
+pub returns-in_err-table-clause-part : goal.returns-in_err-table-clause-part
+returns-in_err-table-clause-part g c =
+    on_err c.from_residual-in_err-table.result
+    (λ m n p q. none_told (kind_of c.args.old.now.kind) (kind_of c.args.new.now.kind) m n (g.W.Write.contents c.args.output.now.inner) c.sorted_listing_ascends.ensures c.diffs_are_of_maps.ensures c.combined_are_maps.ensures)
+
+pub returns-in_err-items-clause-part : goal.returns-in_err-items-clause-part
+returns-in_err-items-clause-part g c =
+    on_err c.from_residual-in_err-items.result
+    (λ m n p q. none_told (kind_of c.args.old.now.kind) (kind_of c.args.new.now.kind) m n (g.W.Write.contents c.args.output.now.inner) c.sorted_listing_ascends.ensures c.diffs_are_of_maps.ensures c.combined_are_maps.ensures)
 
 pub returns-in_err-second-clause-part : goal.returns-in_err-second-clause-part
 returns-in_err-second-clause-part g c =
-    on_err c.from_residual-in_err-second.result (λ m n p q. none_told m n (g.W.Write.contents c.args.output.now.inner) c.sorted_listing_ascends.ensures c.diffs_are_of_maps.ensures)
+    on_err c.from_residual-in_err-second.result
+    (λ m n p q. none_told (kind_of c.args.old.now.kind) (kind_of c.args.new.now.kind) m n (g.W.Write.contents c.args.output.now.inner) c.sorted_listing_ascends.ensures c.diffs_are_of_maps.ensures c.combined_are_maps.ensures)
 
-pub returns-clause-all : goal.returns-clause-all
-returns-clause-all g c =
-    let contents = g.W.Write.contents in
-    ok_both c.write_changes.result
-    (λ same wrote equal m n p q.
-    all_told m n c.in_ok-first.first.left.pairs c.in_ok-second.second.left.pairs c.new-diff.result.left.items (contents c.args.output.now.inner) (contents c.write_changes.new.output.inner) same
-    c.sorted_listing_ascends.ensures c.diffs_are_of_maps.ensures c.no_change.ensures
-    (ap (λ l. l.pairs) (c.in_ok-first.ensures.lists m p)) (ap (λ l. l.pairs) (c.in_ok-second.ensures.lists n q)) (ap (λ l. l.items) c.new-diff.ensures.always) wrote equal)
-    c.write_changes.ensures.all c.write_changes.ensures.none
+pub write_merged-requires-clause-first : goal.write_merged-requires-clause-first
+write_merged-requires-clause-first g c = (c.in_ok-first.ensures c.requires.old.0 c.requires.old.1).1
 
-pub returns-clause-part : goal.returns-clause-part
-returns-clause-part g c =
-    let contents = g.W.Write.contents in
-    on_err_so c.write_changes.result
-    (λ wrote m n p q.
-    part_told m n c.in_ok-first.first.left.pairs c.in_ok-second.second.left.pairs c.new-diff.result.left.items (contents c.args.output.now.inner) (contents c.write_changes.new.output.inner)
-    c.sorted_listing_ascends.ensures c.diffs_are_of_maps.ensures
-    (ap (λ l. l.pairs) (c.in_ok-first.ensures.lists m p)) (ap (λ l. l.pairs) (c.in_ok-second.ensures.lists n q)) (ap (λ l. l.items) c.new-diff.ensures.always) wrote)
-    c.write_changes.ensures.part
+pub write_merged-requires-else-ignore_case-clause-first : goal.write_merged-requires-else-ignore_case-clause-first
+write_merged-requires-else-ignore_case-clause-first g c = (c.in_ok-first.ensures c.requires.old.0 c.requires.old.1).1
+
+pub write_merged-requires-else-ignore_case-clause-second : goal.write_merged-requires-else-ignore_case-clause-second
+write_merged-requires-else-ignore_case-clause-second g c = (c.in_ok-second.ensures c.requires.new.0 c.requires.new.1).1

@@ -5,14 +5,14 @@ use Rattle.zerotrie_queries.specs.Chosen.{chosen}
 use Rattle.zerotrie_queries.proofs.ChoiceLemmas.{if_none_weaker, if_some_weaker, on_err_so, all_alike, part_alike, none_alike, by_prefix_alone}
 use Rattle.zerotrie_queries.proofs.listing.write_unmatched.Goals as goal
 
-pub write_matched-requires : goal.write_matched-requires
-write_matched-requires g c = λ key. rw c.requires refl
+pub write_matched-requires-clause-matched : goal.write_matched-requires-clause-matched
+write_matched-requires-clause-matched g c = λ key. rw c.requires.none refl
 
 pub returns-then-is_unbounded-clause-all : goal.returns-then-is_unbounded-clause-all
 returns-then-is_unbounded-clause-all g c =
     let kind = c.args.trie.now.kind in
     let choice = c.args.choice in
-    let same = by_prefix_alone kind choice c.requires (c.is_unbounded.ensures c.if-is_unbounded.true) in
+    let same = by_prefix_alone kind choice c.requires.none (c.is_unbounded.ensures c.if-is_unbounded.true kind) in
     if_none_weaker c.write_prefix.result
     (λ p. all_alike (beginning (kind_of kind) choice.prefix.now) (chosen kind choice) same c.args.form c.args.limit kind c.args.trie.now.bytes.now _ _ p)
     c.write_prefix.ensures.all
@@ -21,7 +21,7 @@ pub returns-then-is_unbounded-clause-none : goal.returns-then-is_unbounded-claus
 returns-then-is_unbounded-clause-none g c =
     let kind = c.args.trie.now.kind in
     let choice = c.args.choice in
-    let same = by_prefix_alone kind choice c.requires (c.is_unbounded.ensures c.if-is_unbounded.true) in
+    let same = by_prefix_alone kind choice c.requires.none (c.is_unbounded.ensures c.if-is_unbounded.true kind) in
     if_some_weaker c.write_prefix.result
     (λ k p. (none_alike (beginning (kind_of kind) choice.prefix.now) (chosen kind choice) same c.args.form c.args.limit kind c.args.trie.now.bytes.now k.items p.0, p.1))
     c.write_prefix.ensures.none
@@ -30,7 +30,7 @@ pub returns-then-is_unbounded-clause-part : goal.returns-then-is_unbounded-claus
 returns-then-is_unbounded-clause-part g c =
     let kind = c.args.trie.now.kind in
     let choice = c.args.choice in
-    let same = by_prefix_alone kind choice c.requires (c.is_unbounded.ensures c.if-is_unbounded.true) in
+    let same = by_prefix_alone kind choice c.requires.none (c.is_unbounded.ensures c.if-is_unbounded.true kind) in
     on_err_so c.write_prefix.result
     (λ p. part_alike (beginning (kind_of kind) choice.prefix.now) (chosen kind choice) same c.args.form c.args.limit kind c.args.trie.now.bytes.now _ _ p)
     c.write_prefix.ensures.part

@@ -14,5 +14,5 @@ returns-in_err-spare-clause-why g c =
     let same = err_from_is_err_and c.from_residual.result c.from_residual.ensures.1 in
     rw (same.1, same.2) (spared_cause c.args.build (g.R.Read.remaining c.args.input.now.inner) (g.D.Disk.story c.args.files.now.disk) c.in_err-spare.field-0.0 c.in_err-spare.ensures.err)
 
-pub returns-clause-steps : goal.returns-clause-steps
-returns-clause-steps g c = rw c.spare.ensures.same at c.make_file.ensures.steps
+pub returns-clause-done : goal.returns-clause-done
+returns-clause-done g c = rw c.spare.ensures.same at c.make_file.ensures.done

@@ -1,6 +1,12 @@
-use Rattle.std.proofs.Common.{◌∷◌, ◌++◌, [], refl}
-use Rattle.zerotrie_run.proofs.MessageLemmas.{tell_then}
+use Rattle.std.proofs.Common.{◌≡◌, ℕ, List, Bool, false, Option, ◌∷◌, ◌++◌, [], refl}
+use Rattle.std.specs.Io.KnownBytes.{Appends}
+use Rattle.std.proofs.KnownBytes.{Appends-trans}
 use Rattle.zerotrie_run.proofs.messages.ask.tell_two_inputs.Goals as goal
+
+-- two texts that are told, one after the other
+tell_then : (f g h : Bool) (a b c : Option (List ℕ)) (v w : List ℕ) → (g ≡ false → (f ≡ false) × Appends a b v) → (h ≡ false → (g ≡ false) × Appends b c w) → h ≡ false
+    → (f ≡ false) × Appends a c (v ++ w)
+tell_then f g h a b c v w p q ok = let two = q ok in let one = p two.0 in (one.0, Appends-trans a b c v w one.1 two.1)
 
 pub returns : goal.returns
 returns g c = λ ok.

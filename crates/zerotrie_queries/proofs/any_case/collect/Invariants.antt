@@ -1,6 +1,6 @@
 use Rattle.std.proofs.Common.{◌≡◌, ◌++◌}
 use Rattle.zerotrie_core.specs.Listings.{turns_left}
-use Rattle.zerotrie_making.proofs.combine.collect.Given as goal
+use Rattle.zerotrie_queries.proofs.any_case.collect.Given as goal
 
 abbrev pub invariant-loop-table : goal.invariant-loop-table
 invariant-loop-table g l = l.table ++ (g.S.PairStream.left l.stream).pairs ≡ (g.S.PairStream.left l.fn.stream).pairs

@@ -1,0 +1,244 @@
+-- Keys, bounds and words as a kind compares them.
+use Rattle.std.proofs.Common.{◌≡◌, ◌≢◌, ℕ, zero, suc, List, [], ◌∷◌, Bool, true, false, ◌+◌, ◌-◌, ◌<◌, ◌^◌, arith, length, not, refl, sym, ap, ◌∙◌, subst, Option, Some, None, Result, Ok, Err, IfOk}
+use Rattle.std.specs.Prelude.{◌&&◌, ◌==◌, unwrap_or}
+use Rattle.std.specs.Option.{option_map}
+use Rattle.std.specs.Range.Bound.{bound_map, bounds_contain}
+use Rattle.std.specs.declared.ops.Bound.{Bound}
+use Rattle.std.specs.declared.ops.Bound.TheVariants.{Included, Excluded, Unbounded}
+use Rattle.std.proofs.lemmas.List.{map-id}
+use Rattle.std.proofs.lemmas.Str.Ascii.{lowercase-lowercase}
+use Rattle.zerotrie_core.specs.Kind.{Kind, simple_ascii, ignore_case, perfect_hash, extended_capacity, fold_byte, same_byte}
+use Rattle.zerotrie_core.specs.Kinds.{kind_of}
+use Rattle.std.specs.FinMap.{entries}
+use Rattle.zerotrie_core.specs.Listings.{Left, to_come}
+use Rattle.zerotrie_core.specs.Maps.{Pairs, Map, begins_with, map_of}
+use Rattle.zerotrie_core.specs.Texts.{Lists, Means}
+use Rattle.std.specs.declared.alloc.AllocError.{AllocError}
+use Rattle.zerotrie_core.specs.declared.TrieKind.{TrieKind}
+use Rattle.zerotrie_core.specs.declared.TrieKind.TheVariants.{Simple, Ignore, Hash, Ext}
+use Rattle.zerotrie_index.specs.Tries.{folded_key}
+use Rattle.zerotrie_search.specs.Automata.{finds}
+use Rattle.zerotrie_search.specs.Searches.{accepted}
+use Rattle.zerotrie_search.specs.Sets.{by_bytes}
+use Rattle.zerotrie_search.specs.Sorted.{within}
+use Rattle.zerotrie_queries.specs.Chosen.{at_edits, by_edits, closest, edits_by, edits_of, folded_bound, is_in, is_matched, is_chosen, is_word, word_in, chosen, IsFolded, AreWordsOf, HasWords}
+use Rattle.zerotrie_queries.specs.Sorted.{picked}
+use Rattle.zerotrie_queries.specs.declared.folding.FoldedWords.{FoldedWords}
+use Rattle.zerotrie_queries.specs.declared.question.Choice.{Choice}
+use Rattle.zerotrie_queries.specs.declared.question.Order.{Order}
+use Rattle.zerotrie_queries.specs.declared.question.Order.TheVariants.{Stored, ByBytes, Closest}
+use Rattle.zerotrie_queries.specs.declared.question.Sought.{Sought}
+use Rattle.zerotrie_queries.proofs.ChoiceLemmas.{accepted_alike, accepted_within}
+
+some_inj : {A : Type 0} {x y : A} → Some x ≡ Some y → x ≡ y
+some_inj {A} {x} {y} h = ap (λ o. unwrap_or o x) h
+
+-- what is folded stays as it is
+byte_twice : (kind : Kind) (b : ℕ) → fold_byte kind (fold_byte kind b) ≡ fold_byte kind b
+byte_twice simple_ascii b = refl
+byte_twice ignore_case b = lowercase-lowercase b
+byte_twice perfect_hash b = refl
+byte_twice extended_capacity b = refl
+
+pub key_twice : (kind : Kind) (key : List ℕ) → folded_key kind (folded_key kind key) ≡ folded_key kind key
+key_twice kind [] = refl
+key_twice kind (b ∷ key) = rw (byte_twice kind b) (ap (λ l. fold_byte kind b ∷ l) (key_twice kind key))
+
+pub bound_twice : (kind : TrieKind) (bound : Bound (List ℕ)) → folded_bound kind (folded_bound kind bound) ≡ folded_bound kind bound
+bound_twice kind (Included key) = ap (λ k. Included k) (key_twice (kind_of kind) key)
+bound_twice kind (Excluded key) = ap (λ k. Excluded k) (key_twice (kind_of kind) key)
+bound_twice kind Unbounded = refl
+
+-- where case counts, a key is compared as it is
+pub exact_key : (kind : TrieKind) → kind ≢ Ignore → (key : List ℕ) → folded_key (kind_of kind) key ≡ key
+exact_key Simple h key = map-id key
+exact_key Ignore h key = absurd (h refl)
+exact_key Hash h key = map-id key
+exact_key Ext h key = map-id key
+
+-- a prefix begins the same keys
+same_folded : (kind : Kind) (b c : ℕ) → same_byte kind b (fold_byte kind c) ≡ same_byte kind b c
+same_folded kind b c = ap (λ x. fold_byte kind b == x) (byte_twice kind c)
+
+prefix_folded : (kind : Kind) (prefix key : List ℕ) → begins_with kind (folded_key kind prefix) key ≡ begins_with kind prefix key
+prefix_folded kind [] key = refl
+prefix_folded kind (c ∷ prefix) [] = refl
+prefix_folded kind (c ∷ prefix) (b ∷ key) = rw (same_folded kind b c, prefix_folded kind prefix key) refl
+
+-- the word of a choice is folded
+word_folded : (kind : TrieKind) (o p : Option Sought) (word : List ℕ) → word ≡ folded_key (kind_of kind) (unwrap_or (option_map (λ s. s.word.now) o) [])
+    → option_map (λ s. s.word.now) p ≡ option_map (λ _. word) o → option_map (λ s. folded_key (kind_of kind) s.word.now) p ≡ option_map (λ s. s.word.now) p
+word_folded kind None None word is has = refl
+word_folded kind None (Some t) word is has = absurd (cc)
+word_folded kind (Some s) None word is has = absurd (cc)
+word_folded kind (Some s) (Some t) word is has =
+    let same : t.word.now ≡ word = some_inj has in
+    ap (λ w. Some w) (ap (folded_key (kind_of kind)) (same ∙ is) ∙ key_twice (kind_of kind) s.word.now ∙ sym (same ∙ is))
+
+-- the words of a choice are folded
+pub words_folded : (kind : TrieKind) (c : Choice) (words : FoldedWords) (d : Choice) → AreWordsOf kind c words → HasWords words c d → IsFolded kind d
+words_folded kind c words d are has = record {
+  from = ap (folded_bound kind) (has.from ∙ are.from) ∙ bound_twice kind (bound_map (λ b. b.now) c.range.from) ∙ sym (has.from ∙ are.from);
+  to = ap (folded_bound kind) (has.to ∙ are.to) ∙ bound_twice kind (bound_map (λ b. b.now) c.range.to) ∙ sym (has.to ∙ are.to);
+  word = word_folded kind c.sought d.sought words.word.items are.word has.word;
+}
+
+-- a word that is folded finds the same keys
+matched_folded : (kind : TrieKind) (o p : Option Sought) (word key : List ℕ) → word ≡ folded_key (kind_of kind) (unwrap_or (option_map (λ s. s.word.now) o) [])
+    → option_map (λ s. s.by) p ≡ option_map (λ s. s.by) o → option_map (λ s. s.word.now) p ≡ option_map (λ _. word) o → is_matched kind p key ≡ is_matched kind o key
+matched_folded kind None None word key is by has = refl
+matched_folded kind None (Some t) word key is by has = absurd (cc)
+matched_folded kind (Some s) None word key is by has = absurd (cc)
+matched_folded kind (Some s) (Some t) word key is by has =
+    let same : folded_key (kind_of kind) t.word.now ≡ folded_key (kind_of kind) s.word.now = ap (folded_key (kind_of kind)) (some_inj has ∙ is) ∙ key_twice (kind_of kind) s.word.now in
+    rw (some_inj by, same) refl
+
+-- so are the bounds
+in_folded : (kind : TrieKind) (c d : Choice) (key : List ℕ) → bound_map (λ b. b.now) d.range.from ≡ folded_bound kind (bound_map (λ b. b.now) c.range.from)
+    → bound_map (λ b. b.now) d.range.to ≡ folded_bound kind (bound_map (λ b. b.now) c.range.to) → is_in kind d.range key ≡ is_in kind c.range key
+in_folded kind c d key from to =
+    let f = ap (folded_bound kind) from ∙ bound_twice kind (bound_map (λ b. b.now) c.range.from) in
+    let t = ap (folded_bound kind) to ∙ bound_twice kind (bound_map (λ b. b.now) c.range.to) in
+    rw (f, t) refl
+
+-- a choice with the folded words of another one chooses the same keys
+pub chosen_folded : (kind : TrieKind) (c : Choice) (words : FoldedWords) (d : Choice) → AreWordsOf kind c words → HasWords words c d → (key : List ℕ) → is_chosen kind d key ≡ is_chosen kind c key
+chosen_folded kind c words d are has key =
+    let begins : begins_with (kind_of kind) d.prefix.now key ≡ begins_with (kind_of kind) c.prefix.now key
+    = ap (λ p. begins_with (kind_of kind) p key) (has.prefix ∙ are.prefix) ∙ prefix_folded (kind_of kind) c.prefix.now key in
+    let inside = in_folded kind c d key (has.from ∙ are.from) (has.to ∙ are.to) in
+    let found = matched_folded kind c.sought d.sought words.word.items key are.word has.by has.word in
+    rw (begins, inside, found) refl
+
+-- other edits leave words as they are
+word_at : (e : ℕ) (o : Option Sought) → option_map (λ s. s.word) (option_map {U = Sought} (λ s. record { by = by_edits e s.by; word = s.word }) o) ≡ option_map (λ s. s.word) o
+word_at e None = refl
+word_at e (Some s) = refl
+
+words_at : (o p : Option Sought) → option_map (λ s. s.word) p ≡ option_map (λ s. s.word) o → unwrap_or (option_map (λ s. s.word.now) p) [] ≡ unwrap_or (option_map (λ s. s.word.now) o) []
+words_at None None h = refl
+words_at None (Some t) h = absurd (cc)
+words_at (Some s) None h = absurd (cc)
+words_at (Some s) (Some t) h = ap (λ w. w.now) (some_inj h)
+
+pub are_at : (kind : TrieKind) (e : ℕ) (c : Choice) (words : FoldedWords) → AreWordsOf kind c words → AreWordsOf kind (at_edits e c) words
+are_at kind e c words h = record {
+  prefix = h.prefix;
+  from = h.from;
+  to = h.to;
+  word = h.word ∙ ap (folded_key (kind_of kind)) (sym (words_at c.sought (at_edits e c).sought (word_at e c.sought)));
+}
+
+has_by : (e : ℕ) (o p : Option Sought) → option_map (λ s. s.by) p ≡ option_map (λ s. s.by) o
+    → option_map (λ s. s.by) (option_map {U = Sought} (λ s. record { by = by_edits e s.by; word = s.word }) p) ≡ option_map (λ s. s.by) (option_map {U = Sought} (λ s. record { by = by_edits e s.by; word = s.word }) o)
+has_by e None None h = refl
+has_by e None (Some t) h = absurd (cc)
+has_by e (Some s) None h = absurd (cc)
+has_by e (Some s) (Some t) h = ap (λ b. Some (by_edits e b)) (some_inj h)
+
+has_word : (e : ℕ) (word : List ℕ) (o p : Option Sought) → option_map (λ s. s.word.now) p ≡ option_map (λ _. word) o
+    → option_map (λ s. s.word.now) (option_map {U = Sought} (λ s. record { by = by_edits e s.by; word = s.word }) p) ≡ option_map (λ _. word) (option_map {U = Sought} (λ s. record { by = by_edits e s.by; word = s.word }) o)
+has_word e word None None h = refl
+has_word e word None (Some t) h = absurd (cc)
+has_word e word (Some s) None h = absurd (cc)
+has_word e word (Some s) (Some t) h = h
+
+has_at : (e : ℕ) (c : Choice) (words : FoldedWords) (d : Choice) → HasWords words c d → HasWords words (at_edits e c) (at_edits e d)
+has_at e c words d h = record {
+  prefix = h.prefix;
+  from = h.from;
+  to = h.to;
+  by = has_by e c.sought d.sought h.by;
+  word = has_word e words.word.items c.sought d.sought h.word;
+}
+
+edits_alike : (o p : Option Sought) → option_map (λ s. s.by) p ≡ option_map (λ s. s.by) o → unwrap_or (option_map (λ s. edits_by s.by) p) 0 ≡ unwrap_or (option_map (λ s. edits_by s.by) o) 0
+edits_alike None None h = refl
+edits_alike None (Some t) h = absurd (cc)
+edits_alike (Some s) None h = absurd (cc)
+edits_alike (Some s) (Some t) h = ap edits_by (some_inj h)
+
+-- so do the fewest edits
+closest_alike : (kind : TrieKind) (c d : Choice) (pairs : Pairs) → ((e : ℕ) → chosen kind (at_edits e d) pairs ≡ chosen kind (at_edits e c) pairs) → (e n : ℕ) → closest kind d pairs e n ≡ closest kind c pairs e n
+closest_alike kind c d pairs h e zero = h e
+closest_alike kind c d pairs h e (suc n) = rw (h e, closest_alike kind c d pairs h (suc e) n) refl
+
+module _ (kind : TrieKind) (c : Choice) (words : FoldedWords) (d : Choice) (are : AreWordsOf kind c words) (has : HasWords words c d) where
+  chosen_as : (pairs : Pairs) → chosen kind d pairs ≡ chosen kind c pairs
+  chosen_as pairs = accepted_alike (is_chosen kind d) (is_chosen kind c) (chosen_folded kind c words d are has) pairs
+
+  pub picked_folded : (order : Order) (pairs : Pairs) → picked order kind d pairs ≡ picked order kind c pairs
+  picked_folded Stored pairs = chosen_as pairs
+  picked_folded ByBytes pairs = chosen_as (entries (map_of pairs))
+  picked_folded Closest pairs =
+      let each : (e : ℕ) → chosen kind (at_edits e d) (entries (map_of pairs)) ≡ chosen kind (at_edits e c) (entries (map_of pairs)) = λ e. accepted_alike (is_chosen kind (at_edits e d)) (is_chosen kind (at_edits e c)) (chosen_folded kind (at_edits e c) words (at_edits e d) (are_at kind e c words are) (has_at e c words d has)) (entries (map_of pairs)) in
+      ap (λ n. closest kind d (entries (map_of pairs)) 0 n) (edits_alike c.sought d.sought has.by)
+      ∙ closest_alike kind c d (entries (map_of pairs)) each 0 (edits_of c)
+
+-- other edits leave a choice folded
+folded_at_word : (kind : TrieKind) (e : ℕ) (o : Option Sought) → option_map (λ s. folded_key (kind_of kind) s.word.now) o ≡ option_map (λ s. s.word.now) o
+    → option_map (λ s. folded_key (kind_of kind) s.word.now) (option_map {U = Sought} (λ s. record { by = by_edits e s.by; word = s.word }) o) ≡ option_map (λ s. s.word.now) (option_map {U = Sought} (λ s. record { by = by_edits e s.by; word = s.word }) o)
+folded_at_word kind e None h = refl
+folded_at_word kind e (Some s) h = h
+
+pub folded_at : (kind : TrieKind) (e : ℕ) (c : Choice) → IsFolded kind c → IsFolded kind (at_edits e c)
+folded_at kind e c h = record { from = h.from; to = h.to; word = folded_at_word kind e c.sought h.word }
+
+-- in a choice that is folded a range has the keys whose folds are between its bounds
+pub in_range : (kind : TrieKind) (c : Choice) → IsFolded kind c → (key : List ℕ) → bounds_contain by_bytes (bound_map (λ b. b.now) c.range.from) (bound_map (λ b. b.now) c.range.to) (folded_key (kind_of kind) key) ≡ is_in kind c.range key
+in_range kind c h key = rw (h.from, h.to) refl
+
+-- and a word finds the keys whose folds it finds
+pub found_folded : (kind : TrieKind) (c : Choice) (s : Sought) (accepts : List ℕ → Bool) → IsFolded kind c → c.sought ≡ Some s → is_word s.by s.word.now ≡ true → accepts ≡ finds s.by s.word.now
+    → (key : List ℕ) → accepts (folded_key (kind_of kind) key) ≡ is_matched kind c.sought key
+found_folded kind c s accepts h is word finds key =
+    let same : folded_key (kind_of kind) s.word.now ≡ s.word.now = some_inj (subst (λ o. option_map (λ t. folded_key (kind_of kind) t.word.now) o ≡ option_map (λ t. t.word.now) o) is h.word) in
+    rw (is, same, word, finds) refl
+
+-- a word that is none of its sort finds none
+pub none_found : (kind : TrieKind) (c : Choice) (s : Sought) → IsFolded kind c → c.sought ≡ Some s → is_word s.by s.word.now ≡ false → (key : List ℕ) → false ≡ is_matched kind c.sought key
+none_found kind c s h is word key =
+    let same : folded_key (kind_of kind) s.word.now ≡ s.word.now = some_inj (subst (λ o. option_map (λ t. folded_key (kind_of kind) t.word.now) o ≡ option_map (λ t. t.word.now) o) is h.word) in
+    rw (is, same, word) refl
+
+-- all keys are between no bounds
+accepted_all : (accepts : List ℕ → Bool) (m : Map) → accepted accepts (within Unbounded Unbounded m) ≡ accepted accepts (entries m)
+accepted_all accepts m = accepted_within accepts (bounds_contain by_bytes Unbounded Unbounded) (entries m) (λ key is. refl)
+
+-- whether a stream of all that an automaton accepts has a pair
+pub if_found : (r : Result Bool AllocError) (kind : Kind) (bytes : List ℕ) (accepts : List ℕ → Bool) (left : Left) → ((m : Map) → Means kind bytes m → left ≡ to_come (accepted accepts (within Unbounded Unbounded m)))
+    → IfOk r (λ found. (length left.pairs == 0) ≡ not found) → IfOk r (λ found. (m : Map) → Means kind bytes m → (length (accepted accepts (entries m)) == 0) ≡ not found)
+if_found (Ok found) kind bytes accepts left lists h = λ m means. subst (λ l. (length l == 0) ≡ not found) (ap (λ l. l.pairs) (lists m means) ∙ accepted_all accepts m) h
+if_found (Err e) kind bytes accepts left lists h = tt
+
+-- whether one is chosen
+pub by_all_found : (kind : TrieKind) (c : Choice) (accepts : List ℕ → Bool) (bytes : List ℕ) → IsFolded kind c → ((key : List ℕ) → accepts key ≡ is_matched kind c.sought key) → (r : Result Bool AllocError)
+    → IfOk r (λ found. (m : Map) → Means (kind_of kind) bytes m
+    → (length (accepted (λ key. (begins_with (kind_of kind) c.prefix.now key && bounds_contain by_bytes (bound_map (λ b. b.now) c.range.from) (bound_map (λ b. b.now) c.range.to) (folded_key (kind_of kind) key)) && accepts key) (entries m)) == 0) ≡ not found)
+    → IfOk r (λ found. (m : Map) → Means (kind_of kind) bytes m → (length (chosen kind c (entries m)) == 0) ≡ not found)
+by_all_found kind c accepts bytes h is (Ok found) all = λ m means.
+    subst (λ l. (length l == 0) ≡ not found)
+    (accepted_alike (λ key. (begins_with (kind_of kind) c.prefix.now key && bounds_contain by_bytes (bound_map (λ b. b.now) c.range.from) (bound_map (λ b. b.now) c.range.to) (folded_key (kind_of kind) key)) && accepts key) (is_chosen kind c) (λ key. rw (in_range kind c h key, is key) refl) (entries m))
+    (all m means)
+by_all_found kind c accepts bytes h is (Err e) all = tt
+
+-- the fewest edits are these, if they choose a pair
+pub closest_here : (kind : TrieKind) (c : Choice) (pairs : Pairs) (e n : ℕ) → e < n → (length (chosen kind (at_edits e c) pairs) == 0) ≡ false → closest kind c pairs e (n - e) ≡ chosen kind (at_edits e c) pairs
+closest_here kind c pairs e n less some =
+    let more : n - e ≡ suc (n - (e + 1)) = omega (arith, less) in
+    subst (λ k. closest kind c pairs e k ≡ chosen kind (at_edits e c) pairs) (sym more) (rw some refl)
+
+-- and more, if they choose none
+pub closest_beyond : (kind : TrieKind) (c : Choice) (pairs : Pairs) (e n : ℕ) → e < n → (length (chosen kind (at_edits e c) pairs) == 0) ≡ true → closest kind c pairs e (n - e) ≡ closest kind c pairs (e + 1) (n - (e + 1))
+closest_beyond kind c pairs e n less none =
+    let more : n - e ≡ suc (n - (e + 1)) = omega (arith, less) in
+    let next : suc e ≡ e + 1 = omega arith in
+    subst (λ k. closest kind c pairs e k ≡ closest kind c pairs (e + 1) (n - (e + 1))) (sym more) (rw none (ap (λ d. closest kind c pairs d (n - (e + 1))) next))
+
+-- what is picked of the fewest edits is what is picked with these
+pub closest_is : (kind : TrieKind) (c d : Choice) (e : ℕ) (bytes : List ℕ) → length bytes < 2 ^ 64 → d ≡ at_edits e c
+    → ((m : Map) → Means (kind_of kind) bytes m → closest kind c (entries m) 0 (edits_of c) ≡ chosen kind (at_edits e c) (entries m))
+    → (pairs : Pairs) → Lists (kind_of kind) bytes pairs → picked ByBytes kind d pairs ≡ picked Closest kind c pairs
+closest_is kind c d e bytes short is fewest pairs lists =
+    ap (λ x. chosen kind x (entries (map_of pairs))) is
+    ∙ sym (fewest (map_of pairs) (record { short = short; pairs = pairs; lists = lists; is = refl }))

@@ -1,0 +1,36 @@
+use Rattle.std.proofs.Common.{rules, ◌≡◌, ◌==◌, ◌<◌, ◌∙◌, ◌≤◌, ◌+◌, ℕ, length, true, false, not, ap, sym, subst, arith}
+use Rattle.std.specs.FinMap.{entries}
+use Rattle.zerotrie_core.specs.Kinds.{kind_of}
+use Rattle.zerotrie_core.specs.Maps.{Map}
+use Rattle.zerotrie_core.specs.Texts.{Means}
+use Rattle.zerotrie_queries.specs.Chosen.{at_edits, chosen, closest, edits_of}
+use Rattle.zerotrie_queries.specs.declared.question.Choice.{Choice}
+use Rattle.zerotrie_queries.proofs.FoldLemmas.{closest_here, closest_beyond}
+use Rattle.zerotrie_queries.proofs.listing.fewest_edits.Goals as goal
+
+pub returns-then-branch : goal.returns-then-branch
+returns-then-branch c = λ m means.
+    let kind = c.args.trie.now.kind in
+    let choice = c.args.choice in
+    let e = c.loop-edits.edits in
+    let less : e < c.edits-edits-end.result = search rules in
+    let found : c.in_ok-has_chosen.field-0 ≡ true = search rules in
+    let some : (length (chosen kind (at_edits e choice) (entries m)) == 0) ≡ false
+    = subst (λ d. (length (chosen kind d (entries m)) == 0) ≡ false) c.with_edits.ensures (c.in_ok-has_chosen.ensures m means ∙ ap not found) in
+    c.loop-edits.invariant.2 m means ∙ closest_here kind choice (entries m) e c.edits-edits-end.result less some
+
+pub loop-edits-preserved : goal.loop-edits-preserved
+loop-edits-preserved c =
+    let kind = c.args.trie.now.kind in
+    let choice = c.args.choice in
+    let e = c.loop-edits.edits in
+    let less : e < c.edits-edits-end.result = search rules in
+    let found : c.in_ok-has_chosen.field-0 ≡ false = search rules in
+    let next : e + 1 ≤ c.edits-edits-end.result = omega (arith, less) in (
+      c.loop-edits.invariant.0,
+      next,
+      λ m means.
+          let none : (length (chosen kind (at_edits e choice) (entries m)) == 0) ≡ true
+          = subst (λ d. (length (chosen kind d (entries m)) == 0) ≡ true) c.with_edits.ensures (c.in_ok-has_chosen.ensures m means ∙ ap not found) in
+          c.loop-edits.invariant.2 m means ∙ closest_beyond kind choice (entries m) e c.edits-edits-end.result less none,
+    )

@@ -1,0 +1,103 @@
+//! The words of a choice, as a kind compares them.
+
+ghost use Rattle.std.specs.Prelude.{◌≡◌, IfOk};
+ghost use Rattle.std.specs.Range.Bound.{bound_map};
+ghost use Rattle.zerotrie_core.specs.Kinds.{kind_of};
+ghost use Rattle.zerotrie_index.specs.Tries.{folded_key};
+ghost use Rattle.zerotrie_queries.specs.Chosen.{folded_bound, word_in, AreWordsOf, HasWords};
+
+use crate::question::{Choice, Sought};
+use std::alloc::{AllocError, Global};
+use std::ops::Bound;
+use zerotrie_core::TrieKind;
+use zerotrie_search::{KeyRange, fold_by};
+
+/// Returns bytes as a kind compares them.
+fn fold(alloc: Global, kind: TrieKind, bytes: &[u8]) -> Result<Vec<u8>, AllocError>
+    ensures { IfOk result (λ v. v.items ≡ folded_key (kind_of kind) bytes.now) }
+{
+    let mut folds = Vec::new(alloc);
+    folds.extend_from_slice(bytes)?;
+    fold_by(kind, folds.as_mut_slice());
+    Ok(folds)
+}
+
+/// Returns a bound as a kind compares keys.
+fn fold_bound(
+    alloc: Global,
+    kind: TrieKind,
+    bound: Bound<&[u8]>,
+) -> Result<Bound<Vec<u8>>, AllocError>
+    ensures { IfOk result (λ b. bound_map (λ v. v.items) b
+        ≡ folded_bound kind (bound_map (λ b. b.now) bound.entry)) }
+{
+    match bound {
+        Bound::Included(bytes) => Ok(Bound::Included(fold(alloc, kind, bytes)?)),
+        Bound::Excluded(bytes) => Ok(Bound::Excluded(fold(alloc, kind, bytes)?)),
+        Bound::Unbounded => Ok(Bound::Unbounded),
+    }
+}
+
+/// Returns the bytes of a bound.
+fn lent(bound: &Bound<Vec<u8>>) -> Bound<&[u8]>
+    ensures { bound_map (λ b. b.now) result ≡ bound_map (λ v. v.items) bound.now }
+{
+    match bound {
+        Bound::Included(bytes) => Bound::Included(bytes.as_slice()),
+        Bound::Excluded(bytes) => Bound::Excluded(bytes.as_slice()),
+        Bound::Unbounded => Bound::Unbounded,
+    }
+}
+
+/// Returns the word by which keys are sought, or no bytes.
+fn word_in<'a>(choice: Choice<'a>) -> &'a [u8]
+    ensures { result.now ≡ word_in choice.entry }
+{
+    match choice.sought {
+        Some(sought) => sought.word,
+        None => &[],
+    }
+}
+
+/// The words of a choice, as a kind compares them.
+#[derive(Drop)]
+pub struct FoldedWords {
+    prefix: Vec<u8>,
+    from: Bound<Vec<u8>>,
+    to: Bound<Vec<u8>>,
+    word: Vec<u8>,
+}
+
+impl FoldedWords {
+    /// Returns the words of a choice, as a kind compares them.
+    pub fn new(alloc: Global, kind: TrieKind, choice: Choice<'_>) -> Result<Self, AllocError>
+        ensures { IfOk result (AreWordsOf kind choice.entry) }
+    {
+        Ok(FoldedWords {
+            prefix: fold(alloc, kind, choice.prefix)?,
+            from: fold_bound(alloc, kind, choice.range.from)?,
+            to: fold_bound(alloc, kind, choice.range.to)?,
+            word: fold(alloc, kind, word_in(choice))?,
+        })
+    }
+
+    /// Returns a choice with these words in place of its own.
+    pub fn in_place_of<'w>(&'w self, choice: Choice<'_>) -> Choice<'w>
+        ensures { HasWords self.now choice.entry result }
+    {
+        Choice {
+            prefix: self.prefix.as_slice(),
+            range: KeyRange {
+                from: lent(&self.from),
+                to: lent(&self.to),
+            },
+            sought: match choice.sought {
+                Some(sought) => Some(Sought {
+                    by: sought.by,
+                    word: self.word.as_slice(),
+                }),
+                None => None,
+            },
+        }
+    }
+}

@@ -1,0 +1,126 @@
+//! Completions for zsh.
+
+use crate::arguments::{Argument, Subcommand};
+use crate::completions::{Offer, add, add_commands, add_words};
+use std::alloc::{AllocError, Global};
+
+const BEGIN: &str = "#compdef zerotrie\n\
+    # Completions of zerotrie for zsh.\n\
+    _zerotrie() {\n\
+    \x20   local -a commands\n\
+    \x20   commands=(\n";
+
+const AFTER_COMMANDS: &str = "        'help:Print help of a command'\n\
+    \x20   )\n\
+    \x20   if (( CURRENT == 2 )); then\n\
+    \x20       _describe command commands\n\
+    \x20       _arguments '--help[Print help]' '--version[Print version]'\n\
+    \x20       return\n\
+    \x20   fi\n\
+    \x20   local command=$words[2]\n\
+    \x20   shift words\n\
+    \x20   (( CURRENT-- ))\n\
+    \x20   case $command in\n";
+
+const END: &str = " ;;\n\
+    \x20   esac\n\
+    }\n\
+    _zerotrie \"$@\"\n";
+
+/// Adds a text between quotes, in which brackets, colons and backslashes mean themselves.
+fn add_literal(script: &mut String, text: &str) -> Result<(), AllocError> {
+    for letter in text.chars() {
+        match letter {
+            '\'' => script.push_str("'\\''")?,
+            '[' | ']' | ':' | '\\' => {
+                script.push('\\')?;
+                script.push(letter)?;
+            }
+            _ => script.push(letter)?,
+        }
+    }
+    Ok(())
+}
+
+/// Adds what is offered for a word that help calls so.
+fn add_offer(script: &mut String, argument: &Argument) -> Result<(), AllocError> {
+    let Some(value) = argument.value() else {
+        return Ok(());
+    };
+    add(script, &[":", value, ":"])?;
+    match argument.offer() {
+        Offer::Words(words) => {
+            script.push_str("(")?;
+            add_words(script, words)?;
+            script.push_str(")")
+        }
+        Offer::Files => script.push_str("_files"),
+        Offer::Nothing => Ok(()),
+    }
+}
+
+/// Ends a name of an option by its help and what is offered for its word.
+fn end_option(script: &mut String, argument: &Argument) -> Result<(), AllocError> {
+    script.push_str("[")?;
+    add_literal(script, argument.short_help())?;
+    script.push_str("]")?;
+    add_offer(script, argument)?;
+    script.push_str("' \\\n")
+}
+
+/// Adds an argument, an option by each of its names.
+fn add_argument(script: &mut String, argument: &Argument) -> Result<(), AllocError> {
+    if !argument.is_option() {
+        script.push_str(if argument.is_many() {
+            "            '*"
+        } else {
+            "            '"
+        })?;
+        add_offer(script, argument)?;
+        return script.push_str("' \\\n");
+    }
+    add(script, &["            '--", argument.name])?;
+    end_option(script, argument)?;
+    if let Some(letter) = argument.letter() {
+        script.push_str("            '-")?;
+        script.push(letter)?;
+        end_option(script, argument)?;
+    }
+    Ok(())
+}
+
+/// Adds the case of a command.
+fn add_command(script: &mut String, row: &Subcommand) -> Result<(), AllocError> {
+    add(script, &["        ", row.name, ") _arguments -s \\\n"])?;
+    for argument in row.arguments {
+        add_argument(script, argument)?;
+    }
+    script.push_str("            '--help[Print help]' ;;\n")
+}
+
+/// Adds the name of a command and what it is for.
+fn add_name(script: &mut String, row: &Subcommand) -> Result<(), AllocError> {
+    add(script, &["        '", row.name, ":"])?;
+    add_literal(script, row.about)?;
+    script.push_str("'\n")
+}
+
+/// Returns the script for zsh.
+pub fn zsh(alloc: Global, rows: &[&'static [Subcommand]]) -> Result<String, AllocError> {
+    let mut script = String::from_str(alloc, BEGIN)?;
+    for part in rows {
+        for row in *part {
+            add_name(&mut script, row)?;
+        }
+    }
+    script.push_str(AFTER_COMMANDS)?;
+    for part in rows {
+        for row in *part {
+            add_command(&mut script, row)?;
+        }
+    }
+    script.push_str("        help) _values command ")?;
+    add_commands(&mut script, rows)?;
+    script.push_str(END)?;
+    Ok(script)
+}
