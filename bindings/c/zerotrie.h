@@ -170,7 +170,7 @@ typedef enum zerotrie_status ZEROTRIE_ENUM {
     /** zerotrie_untagged(): the first byte is the number of no kind */
     ZEROTRIE_INVALID_TAG = 14,
     /** zerotrie_dense_get(): the table has no value for the two texts; zerotrie_last_within(),
-     * zerotrie_first_key_of(): no key is what was asked for */
+     * zerotrie_first_key_of(), zerotrie_reverse_key(): no key is what was asked for */
     ZEROTRIE_NO_ENTRY = 15,
     /** zerotrie_dense_get(): fewer bytes than a record of a table asks for */
     ZEROTRIE_RECORD_TRUNCATED = 16,
@@ -180,8 +180,8 @@ typedef enum zerotrie_status ZEROTRIE_ENUM {
     ZEROTRIE_DAMAGED = 18,
     /** zerotrie_open(): a sealed file of another version of the format */
     ZEROTRIE_UNKNOWN_VERSION = 19,
-    /** zerotrie_search_some(), zerotrie_search_check(), zerotrie_sorted_some(): no search, or no
-     * bound, has this number */
+    /** zerotrie_search_some(), zerotrie_search_check(), zerotrie_nearest(), zerotrie_sorted_some(),
+     * zerotrie_diff_some(): no search, or no bound, has this number */
     ZEROTRIE_UNKNOWN_SEARCH = 20,
     /** zerotrie_search_some(): the pattern is malformed, or the word is not UTF-8 */
     ZEROTRIE_MALFORMED_SEARCH = 21,
@@ -193,7 +193,7 @@ typedef enum zerotrie_status ZEROTRIE_ENUM {
     ZEROTRIE_UNKNOWN_SELECTION = 24,
     /** zerotrie_combine(): the sum of the values of a key is 2^64 or more */
     ZEROTRIE_SUM_TOO_LARGE = 25,
-    /** zerotrie_combine(): the bytes of a trie are not valid */
+    /** zerotrie_combine(), zerotrie_diff_some(): the bytes of a trie are not valid */
     ZEROTRIE_MALFORMED_TRIE = 26
 } zerotrie_status;
 
@@ -281,7 +281,11 @@ typedef enum zerotrie_search_by ZEROTRIE_ENUM {
     ZEROTRIE_BY_EDITS = 3,
     /** the same by characters, of a word in UTF-8 of at most 63 of them. No key that is not UTF-8
      * is found. */
-    ZEROTRIE_BY_CHAR_EDITS = 4
+    ZEROTRIE_BY_CHAR_EDITS = 4,
+    /** as ZEROTRIE_BY_EDITS, and an edit may also make two neighbours change places; at most 7 */
+    ZEROTRIE_BY_SWAPS = 5,
+    /** the same by characters, as ZEROTRIE_BY_CHAR_EDITS */
+    ZEROTRIE_BY_CHAR_SWAPS = 6
 } zerotrie_search_by;
 
 /** What a bound of a range or of a sorted listing is. */
@@ -295,11 +299,11 @@ typedef enum zerotrie_bound ZEROTRIE_ENUM {
 } zerotrie_bound;
 
 /** What is searched, which zerotrie_range(), zerotrie_glob(), zerotrie_subsequence(),
- * zerotrie_fuzzy() and zerotrie_fuzzy_chars() return. It has pointers to your bytes, which are
+ * zerotrie_fuzzy(), zerotrie_fuzzy_chars(), zerotrie_swaps() and zerotrie_swaps_chars() return. It has pointers to your bytes, which are
  * never NULL. */
 typedef struct zerotrie_search {
     zerotrie_search_by by;     /**< how the keys are found */
-    uint32_t edits;            /**< the most edits; used by EDITS and CHAR_EDITS alone */
+    uint32_t edits;            /**< the most edits; used by EDITS, SWAPS and those of characters */
     zerotrie_bound from_bound; /**< what the lower bound is; used by RANGE alone */
     zerotrie_bound to_bound;   /**< what the upper bound is; used by RANGE alone */
     zerotrie_bytes text;       /**< the pattern, the word, the bytes, or the lower bound */
@@ -334,6 +338,25 @@ typedef enum zerotrie_rule ZEROTRIE_ENUM {
     /** none: ZEROTRIE_DUPLICATE_KEY */
     ZEROTRIE_REFUSE = 5
 } zerotrie_rule;
+
+/** How a key changed from one trie to another. */
+typedef enum zerotrie_change_by ZEROTRIE_ENUM {
+    /** the second trie alone has the key: its value is `after`, and `before` is 0 */
+    ZEROTRIE_ADDED = 0,
+    /** the first trie alone has the key: its value is `before`, and `after` is 0 */
+    ZEROTRIE_REMOVED = 1,
+    /** both have the key: the first one with the value `before`, the second one with `after` */
+    ZEROTRIE_CHANGED = 2
+} zerotrie_change_by;
+
+/** A key that changed. */
+typedef struct zerotrie_change {
+    size_t key_end;         /**< where the key ends; it begins where the key of the change before
+                               ends, and the first one at 0 */
+    size_t before;          /**< its value in the first trie */
+    size_t after;           /**< its value in the second trie */
+    zerotrie_change_by how; /**< how it changed */
+} zerotrie_change;
 
 /** Returns bytes from any pointer; NULL is no bytes. */
 ZEROTRIE_INLINE zerotrie_bytes zerotrie_bytes_of(const void *ptr, size_t len) {
@@ -427,6 +450,22 @@ ZEROTRIE_INLINE zerotrie_search zerotrie_fuzzy(const void *word, size_t word_len
 ZEROTRIE_INLINE zerotrie_search zerotrie_fuzzy_chars(const void *word, size_t word_len,
                                                      uint32_t edits) {
     zerotrie_search made = zerotrie_search_for(ZEROTRIE_BY_CHAR_EDITS, word, word_len);
+    made.edits = edits;
+    return made;
+}
+
+/** Returns a search for the keys that at most `edits` edits make of a word, where neighbours that change
+ * places are one edit; see ZEROTRIE_BY_SWAPS. */
+ZEROTRIE_INLINE zerotrie_search zerotrie_swaps(const void *word, size_t word_len, uint32_t edits) {
+    zerotrie_search made = zerotrie_search_for(ZEROTRIE_BY_SWAPS, word, word_len);
+    made.edits = edits;
+    return made;
+}
+
+/** The same by characters of UTF-8; see ZEROTRIE_BY_CHAR_SWAPS. */
+ZEROTRIE_INLINE zerotrie_search zerotrie_swaps_chars(const void *word, size_t word_len,
+                                                     uint32_t edits) {
+    zerotrie_search made = zerotrie_search_for(ZEROTRIE_BY_CHAR_SWAPS, word, word_len);
     made.edits = edits;
     return made;
 }
@@ -806,7 +845,7 @@ zerotrie_status zerotrie_list_some(zerotrie_kind_number kind, const uint8_t *byt
  * ZEROTRIE_MALFORMED_SEARCH, of a pattern where a class has no end or no byte, or the last byte is
  * a backslash that escapes nothing, or of a word that is not UTF-8; ZEROTRIE_SEARCH_TOO_LONG, of a
  * pattern of more than 63 items, or of a word of more than 63 bytes or characters, or of more than
- * 254 edits.
+ * 254 edits, with swaps more than 7.
  *
  *     zerotrie_search near = zerotrie_fuzzy("exampel", 7, 1);
  *     status = zerotrie_search_some(kind, trie, len, NULL, 0, &near, false, NULL, 0, keys,
@@ -829,6 +868,30 @@ zerotrie_status zerotrie_search_some(zerotrie_kind_number kind, const uint8_t *b
  * zerotrie_search_some() returns for it. */
 ZEROTRIE_ANSWERS
 zerotrie_status zerotrie_search_check(const zerotrie_search *search);
+
+/**
+ * Lists the pairs whose keys at most `edits` edits make of a word, the nearest first, and those that
+ * are as near in the order of bytes. `by` is ZEROTRIE_BY_EDITS, ZEROTRIE_BY_CHAR_EDITS,
+ * ZEROTRIE_BY_SWAPS or ZEROTRIE_BY_CHAR_SWAPS, and `edits` as there. Writes how many edits make each
+ * key to `distances`. The other rooms, *count, *next_len and the status are as in
+ * zerotrie_search_some(), also for malformed bytes; but a call does not continue, so give places for
+ * as many as you want. ZEROTRIE_UNKNOWN_SEARCH: `by` is another number.
+ *
+ *     status = zerotrie_nearest(kind, trie, len, ZEROTRIE_BY_CHAR_SWAPS, "exmaple", 7, 2, keys,
+ *                               sizeof keys, ends, 10, values, 10, distances, 10, &count,
+ *                               &next_len);
+ *
+ * It compares bytes as they are stored, in IGNORE_CASE too. It searches once for each number of
+ * edits, from none on, until there is no room: so few near keys cost little. Allocates as
+ * zerotrie_search_some().
+ */
+ZEROTRIE_ANSWERS
+zerotrie_status zerotrie_nearest(zerotrie_kind_number kind, const uint8_t *bytes, size_t len,
+                                 zerotrie_search_by by, const uint8_t *word, size_t word_len,
+                                 uint32_t edits, uint8_t *keys, size_t keys_len, size_t *ends,
+                                 size_t ends_len, size_t *values, size_t values_len,
+                                 size_t *distances, size_t distances_len, size_t *count,
+                                 size_t *next_len);
 
 /**
  * Lists the pairs whose keys are between two bounds, in the order of bytes in every kind: that of
@@ -884,6 +947,32 @@ zerotrie_status zerotrie_last_within(zerotrie_kind_number kind, const uint8_t *b
                                      size_t *value);
 
 /**
+ * Lists what changed from the pairs of one trie between two bounds to those of another one, in the
+ * order of bytes, whatever the kinds are. A key that both have with one value is passed over. It
+ * writes as many changes as the two rooms have places for: the keys one after another to `keys`, and
+ * how each changed to `changes`; the rest of each room stays. Sets *count to the number of changes
+ * that were written. ZEROTRIE_DONE: none is left, and *next_len is 0. ZEROTRIE_BUFFER_TOO_SMALL:
+ * changes are left, and the key of the next one has *next_len bytes; if *count is 0, a room has too
+ * few places for even this one. ZEROTRIE_OUT_OF_MEMORY: the changes that are counted are written all
+ * the same, or nothing is written. With other statuses nothing is written: ZEROTRIE_MALFORMED_TRIE,
+ * as the bytes of both tries are validated; ZEROTRIE_UNKNOWN_KIND, of either trie;
+ * ZEROTRIE_UNKNOWN_SEARCH, of a number that no bound has.
+ *
+ * To continue, pass the last key that the call before wrote as an excluded lower bound. It may not be
+ * in `keys`: zerotrie_diff_next() takes care of it.
+ *
+ * It compares bytes as they are stored, in IGNORE_CASE too. A call costs the validation of both
+ * tries, and then what it reads of both: so few large parts are faster than many small ones.
+ * Allocates as zerotrie_sorted_some() of both.
+ */
+ZEROTRIE_ANSWERS
+zerotrie_status zerotrie_diff_some(const zerotrie_trie *first, const zerotrie_trie *second,
+                                   zerotrie_bound from_bound, const uint8_t *from, size_t from_len,
+                                   zerotrie_bound to_bound, const uint8_t *to, size_t to_len,
+                                   uint8_t *keys, size_t keys_len, zerotrie_change *changes,
+                                   size_t changes_len, size_t *count, size_t *next_len);
+
+/**
  * Finds the first key, in the order of zerotrie_list(), that has this value.
  *
  * ZEROTRIE_DONE: it is the first *key_len bytes of `key`, and the rest stays.
@@ -891,13 +980,42 @@ zerotrie_status zerotrie_last_within(zerotrie_kind_number kind, const uint8_t *b
  * many. Otherwise nothing is written: ZEROTRIE_NO_ENTRY, if no key has the value;
  * ZEROTRIE_UNKNOWN_KIND or ZEROTRIE_OUT_OF_MEMORY.
  *
- * It reads the pairs up to that key, so a table of your own is faster for many values. Allocates as
+ * It reads the pairs up to that key: for many values see zerotrie_reverse_places(). Allocates as
  * much as the longest key and the deepest branches take.
  */
 ZEROTRIE_ANSWERS
 zerotrie_status zerotrie_first_key_of(zerotrie_kind_number kind, const uint8_t *bytes, size_t len,
                                       size_t value, uint8_t *key, size_t key_room,
                                       size_t *key_len);
+
+/**
+ * Makes the table by which zerotrie_reverse_key() finds the first key of a value: a place for each
+ * pair, in the order of the values. ZEROTRIE_DONE: it is the first *count elements of `places`, and
+ * the rest stays. ZEROTRIE_BUFFER_TOO_SMALL: it has *count places, and `places` stays; call again
+ * with as many. Otherwise nothing is written: ZEROTRIE_UNKNOWN_KIND or ZEROTRIE_OUT_OF_MEMORY.
+ *
+ *     status = zerotrie_reverse_places(kind, trie, len, places, 100, &count);
+ *     status = zerotrie_reverse_key(kind, trie, len, places, count, 3, key, sizeof key, &key_len);
+ *
+ * *count is at most `len`. It is 0 if there are no pairs, and if the bytes are malformed or have 4 GiB
+ * or more: no table is made then. A call lists all pairs, descends to the place of each, and sorts
+ * the places. The table is for these bytes alone, and can be kept, as in a file. Allocates as much as
+ * the table takes.
+ */
+ZEROTRIE_ANSWERS
+zerotrie_status zerotrie_reverse_places(zerotrie_kind_number kind, const uint8_t *bytes, size_t len,
+                                        uint32_t *places, size_t places_len, size_t *count);
+
+/**
+ * Does what zerotrie_first_key_of() does, by the table that zerotrie_reverse_places() wrote for these
+ * bytes: it searches among the places by halves, and descends to the one that it finds. Without
+ * places it reads the pairs, as zerotrie_first_key_of(). Other numbers than such a table do no harm:
+ * the key that is found is then unspecified. Allocates as much as the key takes.
+ */
+ZEROTRIE_ANSWERS
+zerotrie_status zerotrie_reverse_key(zerotrie_kind_number kind, const uint8_t *bytes, size_t len,
+                                     const uint32_t *places, size_t places_len, size_t value,
+                                     uint8_t *key, size_t key_room, size_t *key_len);
 /** @} */
 
 /** @name Indexes
@@ -949,7 +1067,8 @@ typedef char zerotrie_enums_have_32_bits[sizeof(zerotrie_kind) == 4 &&
                                                  sizeof(zerotrie_status) == 4 &&
                                                  sizeof(zerotrie_fault) == 4 &&
                                                  sizeof(zerotrie_search_by) == 4 &&
-                                                 sizeof(zerotrie_bound) == 4
+                                                 sizeof(zerotrie_bound) == 4 &&
+                                                 sizeof(zerotrie_change_by) == 4
                                              ? 1
                                              : -1];
 
@@ -1326,6 +1445,27 @@ ZEROTRIE_INLINE zerotrie_status zerotrie_sorted_some_or_null(zerotrie_kind_numbe
 #define zerotrie_sorted_some(...) zerotrie_sorted_some_or_null(__VA_ARGS__)
 
 ZEROTRIE_MUST_USE
+ZEROTRIE_NEEDS((16, 17))
+ZEROTRIE_INLINE zerotrie_status zerotrie_nearest_or_null(zerotrie_kind_number kind,
+                                                         const void *bytes, size_t len,
+                                                         zerotrie_search_by by, const void *word,
+                                                         size_t word_len, uint32_t edits,
+                                                         uint8_t *keys, size_t keys_len,
+                                                         size_t *ends, size_t ends_len,
+                                                         size_t *values, size_t values_len,
+                                                         size_t *distances, size_t distances_len,
+                                                         size_t *count, size_t *next_len) {
+    uint8_t byte;
+    size_t number;
+    return zerotrie_nearest(kind, ZEROTRIE_READS(bytes, len), by, ZEROTRIE_READS(word, word_len),
+                            edits, ZEROTRIE_ARRAY(keys, keys_len, &byte),
+                            ZEROTRIE_ARRAY(ends, ends_len, &number),
+                            ZEROTRIE_ARRAY(values, values_len, &number),
+                            ZEROTRIE_ARRAY(distances, distances_len, &number), count, next_len);
+}
+#define zerotrie_nearest(...) zerotrie_nearest_or_null(__VA_ARGS__)
+
+ZEROTRIE_MUST_USE
 ZEROTRIE_NEEDS((12, 13))
 ZEROTRIE_INLINE zerotrie_status zerotrie_last_within_or_null(zerotrie_kind_number kind,
                                                              const void *bytes, size_t len,
@@ -1344,6 +1484,26 @@ ZEROTRIE_INLINE zerotrie_status zerotrie_last_within_or_null(zerotrie_kind_numbe
 #define zerotrie_last_within(...) zerotrie_last_within_or_null(__VA_ARGS__)
 
 ZEROTRIE_MUST_USE
+ZEROTRIE_NEEDS((1, 2, 13, 14))
+ZEROTRIE_INLINE zerotrie_status zerotrie_diff_some_or_null(const zerotrie_trie *first,
+                                                           const zerotrie_trie *second,
+                                                           zerotrie_bound from_bound,
+                                                           const void *from, size_t from_len,
+                                                           zerotrie_bound to_bound, const void *to,
+                                                           size_t to_len, uint8_t *keys,
+                                                           size_t keys_len,
+                                                           zerotrie_change *changes,
+                                                           size_t changes_len, size_t *count,
+                                                           size_t *next_len) {
+    uint8_t byte;
+    zerotrie_change change;
+    return zerotrie_diff_some(first, second, from_bound, ZEROTRIE_READS(from, from_len), to_bound,
+                              ZEROTRIE_READS(to, to_len), ZEROTRIE_ARRAY(keys, keys_len, &byte),
+                              ZEROTRIE_ARRAY(changes, changes_len, &change), count, next_len);
+}
+#define zerotrie_diff_some(...) zerotrie_diff_some_or_null(__VA_ARGS__)
+
+ZEROTRIE_MUST_USE
 ZEROTRIE_NEEDS((7))
 ZEROTRIE_INLINE zerotrie_status zerotrie_first_key_of_or_null(zerotrie_kind_number kind,
                                                               const void *bytes, size_t len,
@@ -1354,6 +1514,34 @@ ZEROTRIE_INLINE zerotrie_status zerotrie_first_key_of_or_null(zerotrie_kind_numb
                                  ZEROTRIE_ARRAY(key, key_room, &byte), key_len);
 }
 #define zerotrie_first_key_of(...) zerotrie_first_key_of_or_null(__VA_ARGS__)
+
+ZEROTRIE_MUST_USE
+ZEROTRIE_NEEDS((6))
+ZEROTRIE_INLINE zerotrie_status zerotrie_reverse_places_or_null(zerotrie_kind_number kind,
+                                                                const void *bytes, size_t len,
+                                                                uint32_t *places,
+                                                                size_t places_len, size_t *count) {
+    uint32_t place;
+    return zerotrie_reverse_places(kind, ZEROTRIE_READS(bytes, len),
+                                   ZEROTRIE_ARRAY(places, places_len, &place), count);
+}
+#define zerotrie_reverse_places(...) zerotrie_reverse_places_or_null(__VA_ARGS__)
+
+ZEROTRIE_MUST_USE
+ZEROTRIE_NEEDS((9))
+ZEROTRIE_INLINE zerotrie_status zerotrie_reverse_key_or_null(zerotrie_kind_number kind,
+                                                             const void *bytes, size_t len,
+                                                             const uint32_t *places,
+                                                             size_t places_len, size_t value,
+                                                             uint8_t *key, size_t key_room,
+                                                             size_t *key_len) {
+    const uint32_t no_place = 0;
+    uint8_t byte;
+    return zerotrie_reverse_key(kind, ZEROTRIE_READS(bytes, len),
+                                ZEROTRIE_ARRAY(places, places_len, &no_place), value,
+                                ZEROTRIE_ARRAY(key, key_room, &byte), key_len);
+}
+#define zerotrie_reverse_key(...) zerotrie_reverse_key_or_null(__VA_ARGS__)
 
 ZEROTRIE_MUST_USE
 ZEROTRIE_NEEDS((5))
@@ -1598,6 +1786,7 @@ typedef struct zerotrie_listing {
     zerotrie_search search; /**< what finds the keys, or has the bounds, if it searches or is sorted */
     bool searches;          /**< whether it searches */
     bool sorted;            /**< whether it lists in the order of bytes */
+    bool reversed;          /**< whether it lists in that order from the last key on */
     uint8_t *room; /**< room for keys: one half for those of a part, the other for those of the part
                       before */
     size_t room_len;     /**< its bytes */
@@ -1606,7 +1795,8 @@ typedef struct zerotrie_listing {
     size_t places;       /**< the places of `ends`, and of `values` */
     const uint8_t *keys; /**< the keys of the part, one after another */
     size_t count;        /**< the number of its pairs */
-    size_t next_len; /**< with ZEROTRIE_BUFFER_TOO_SMALL the length of the key that comes next */
+    size_t next_len; /**< with ZEROTRIE_BUFFER_TOO_SMALL the length of the key that comes next; 0 if
+                        that is reversed and was not looked for */
     size_t listed;   /**< the number of pairs of all parts so far */
     zerotrie_bytes last;    /**< the last key of the part */
     zerotrie_status status; /**< what the part came to, as the library returned it */
@@ -1622,7 +1812,7 @@ ZEROTRIE_INLINE zerotrie_listing zerotrie_listing_of(zerotrie_trie trie, const v
     made.trie = trie;
     made.prefix = zerotrie_bytes_of(prefix, prefix_len);
     made.search = zerotrie_search_for(ZEROTRIE_BY_RANGE, prefix, 0);
-    made.searches = made.sorted = false;
+    made.searches = made.sorted = made.reversed = false;
     made.room = room;
     made.room_len = room ? room_len : 0;
     made.ends = ends;
@@ -1697,12 +1887,72 @@ ZEROTRIE_INLINE zerotrie_listing zerotrie_listing_between(zerotrie_trie trie, ze
                                    rooms->values, 64);
 }
 
+/**
+ * Returns a listing of the pairs between the bounds of zerotrie_range() from the last one on: in the
+ * contrary of the order of bytes, in every kind. So the first N pairs are the N last ones.
+ *
+ *     zerotrie_listing part = zerotrie_listing_reversed(trie, all, room, sizeof room, ends, values,
+ *                                                       10);
+ *
+ * Each pair costs a call of zerotrie_last_within(): about two look-ups, and an allocation.
+ */
+ZEROTRIE_INLINE zerotrie_listing zerotrie_listing_reversed(zerotrie_trie trie,
+                                                           zerotrie_search range, uint8_t *room,
+                                                           size_t room_len, size_t *ends,
+                                                           size_t *values, size_t places) {
+    zerotrie_listing made =
+        zerotrie_listing_sorted(trie, range, room, room_len, ends, values, places);
+    made.reversed = true;
+    return made;
+}
+
+/** The same in rooms of the usual size. */
+ZEROTRIE_NONNULL
+ZEROTRIE_INLINE zerotrie_listing zerotrie_listing_down(zerotrie_trie trie, zerotrie_search range,
+                                                       zerotrie_rooms *rooms) {
+    return zerotrie_listing_reversed(trie, range, rooms->keys, sizeof rooms->keys, rooms->ends,
+                                     rooms->values, 64);
+}
+
 /** Returns the key of number `i` of the part, in place; `i` is below `count`. */
 ZEROTRIE_NEEDS((1))
 ZEROTRIE_INLINE zerotrie_bytes zerotrie_listing_key(const zerotrie_listing *listing, size_t i) {
     const size_t from = i == 0 ? 0 : listing->ends[i - 1];
     return zerotrie_bytes_of(listing->keys + from, listing->ends[i] - from);
 }
+
+/** @cond */
+/* Writes a part of a reversed listing to this room for keys. */
+ZEROTRIE_MUST_USE
+ZEROTRIE_NEEDS((1))
+ZEROTRIE_INLINE zerotrie_status zerotrie_listing_back(zerotrie_listing *listing, uint8_t *keys,
+                                                      size_t room) {
+    const zerotrie_trie trie = listing->trie;
+    const zerotrie_bytes from = listing->search.text;
+    const size_t places = listing->ends && listing->values ? listing->places : 0;
+    zerotrie_bytes to = listing->listed > 0 ? listing->last : listing->search.to;
+    zerotrie_bound to_bound = listing->listed > 0 ? ZEROTRIE_EXCLUDED : listing->search.to_bound;
+    size_t used = 0, value = 0;
+    listing->next_len = 0;
+    while (listing->count < places) {
+        size_t key_len = 0;
+        uint8_t *const key = keys ? keys + used : NULL;
+        const zerotrie_status status = zerotrie_last_within(
+            trie.kind, trie.bytes.ptr, trie.bytes.len, listing->search.from_bound, from.ptr,
+            from.len, to_bound, to.ptr, to.len, key, room - used, &key_len, &value);
+        listing->next_len = key_len;
+        if (status == ZEROTRIE_NO_ENTRY) return ZEROTRIE_DONE;
+        if (status != ZEROTRIE_DONE) return status;
+        used += key_len;
+        listing->ends[listing->count] = used;
+        listing->values[listing->count++] = value;
+        to = zerotrie_bytes_of(key, key_len);
+        to_bound = ZEROTRIE_EXCLUDED;
+        listing->next_len = 0;
+    }
+    return ZEROTRIE_BUFFER_TOO_SMALL;
+}
+/** @endcond */
 
 /**
  * Lists the next part, and returns whether there is one. If it is ZEROTRIE_STUCK, `status` is
@@ -1727,7 +1977,11 @@ ZEROTRIE_INLINE zerotrie_next zerotrie_listing_next(zerotrie_listing *listing) {
         listing->status = ZEROTRIE_DONE;
         return ZEROTRIE_END;
     }
-    if (listing->sorted)
+    /** @cond */
+    if (listing->reversed)
+        listing->status = zerotrie_listing_back(listing, keys, half);
+    else /** @endcond */
+        if (listing->sorted)
         listing->status = zerotrie_sorted_some(
             trie.kind, trie.bytes.ptr, trie.bytes.len,
             goes_on ? ZEROTRIE_EXCLUDED : search->from_bound, from.ptr, from.len, search->to_bound,
@@ -1750,6 +2004,114 @@ ZEROTRIE_INLINE zerotrie_next zerotrie_listing_next(zerotrie_listing *listing) {
         return ZEROTRIE_PART;
     }
     return listing->status == ZEROTRIE_DONE ? ZEROTRIE_END : ZEROTRIE_STUCK;
+}
+/** @} */
+
+/** @name What changed, in parts */
+/** @{ */
+
+/** Rooms of a diff, for keys of up to 8,192 bytes. They hold nothing before it. */
+typedef struct zerotrie_diff_rooms {
+    uint8_t keys[16384];          /**< for keys */
+    zerotrie_change changes[256]; /**< for how each key of a part changed */
+} zerotrie_diff_rooms;
+
+/**
+ * What changed from one trie to another, of which one part is there at a time, in rooms of the caller.
+ *
+ *     zerotrie_diff_rooms rooms;
+ *     zerotrie_diff part = zerotrie_diff_in(before, after, &rooms);
+ *     zerotrie_next next;
+ *     while ((next = zerotrie_diff_next(&part)) == ZEROTRIE_PART)
+ *         for (size_t i = 0; i < part.count; i++) {
+ *             const zerotrie_bytes key = zerotrie_diff_key(&part, i);
+ *             printf("%c %.*s\n", "+-!"[part.changes[i].how], (int)key.len, (const char *)key.ptr);
+ *         }
+ *     if (next != ZEROTRIE_END) fprintf(stderr, "%s\n", zerotrie_status_text(part.status));
+ */
+typedef struct zerotrie_diff {
+    zerotrie_trie first;    /**< the trie before */
+    zerotrie_trie second;   /**< the trie after */
+    zerotrie_search range;  /**< the bounds of zerotrie_range() */
+    uint8_t *room;          /**< room for keys: one half for those of a part, the other for those of the
+                               part before */
+    size_t room_len;        /**< its bytes */
+    zerotrie_change *changes; /**< how each key of the part changed */
+    size_t places;          /**< the places of `changes` */
+    const uint8_t *keys;    /**< the keys of the part, one after another */
+    size_t count;           /**< the number of its changes */
+    size_t next_len; /**< with ZEROTRIE_BUFFER_TOO_SMALL the length of the key that comes next */
+    size_t listed;   /**< the number of changes of all parts so far */
+    zerotrie_bytes last;    /**< the last key of the part */
+    zerotrie_status status; /**< what the part came to, as the library returned it */
+} zerotrie_diff;
+
+/** Returns what changed between the bounds of zerotrie_range(), before the first part. A key has
+ * room if it has at most half of `room_len` bytes. */
+ZEROTRIE_INLINE zerotrie_diff zerotrie_diff_of(zerotrie_trie first, zerotrie_trie second,
+                                               zerotrie_search range, uint8_t *room,
+                                               size_t room_len, zerotrie_change *changes,
+                                               size_t places) {
+    zerotrie_diff made;
+    made.first = first;
+    made.second = second;
+    made.range = range;
+    made.room = room;
+    made.room_len = room ? room_len : 0;
+    made.changes = changes;
+    made.places = places;
+    made.keys = room;
+    made.count = made.next_len = made.listed = 0;
+    made.last = zerotrie_bytes_of("", 0);
+    made.status = ZEROTRIE_BUFFER_TOO_SMALL;
+    return made;
+}
+
+/** Returns all that changed, before the first part, in rooms of the usual size. */
+ZEROTRIE_NONNULL
+ZEROTRIE_INLINE zerotrie_diff zerotrie_diff_in(zerotrie_trie first, zerotrie_trie second,
+                                               zerotrie_diff_rooms *rooms) {
+    const zerotrie_search all =
+        zerotrie_range(ZEROTRIE_UNBOUNDED, NULL, 0, ZEROTRIE_UNBOUNDED, NULL, 0);
+    return zerotrie_diff_of(first, second, all, rooms->keys, sizeof rooms->keys, rooms->changes,
+                            256);
+}
+
+/** Returns the key of number `i` of the part, in place; `i` is below `count`. */
+ZEROTRIE_NEEDS((1))
+ZEROTRIE_INLINE zerotrie_bytes zerotrie_diff_key(const zerotrie_diff *diff, size_t i) {
+    const size_t from = i == 0 ? 0 : diff->changes[i - 1].key_end;
+    return zerotrie_bytes_of(diff->keys + from, diff->changes[i].key_end - from);
+}
+
+/**
+ * Lists the next part, and returns whether there is one. If it is ZEROTRIE_STUCK, `status` is
+ * ZEROTRIE_BUFFER_TOO_SMALL if the next key, of `next_len` bytes, has no room, or there are no
+ * places; or it is an error. The keys of the part before stay where they are, and its changes do not.
+ * Each call validates both tries. Allocates.
+ */
+ZEROTRIE_ANSWERS
+ZEROTRIE_INLINE zerotrie_next zerotrie_diff_next(zerotrie_diff *diff) {
+    const bool goes_on = diff->listed > 0;
+    const zerotrie_search *const range = &diff->range;
+    const zerotrie_bytes from = goes_on ? diff->last : range->text;
+    const size_t half = diff->room_len / 2;
+    uint8_t *const keys =
+        half > 0 && diff->keys == diff->room ? diff->room + half : diff->room;
+    diff->count = 0;
+    if (diff->status == ZEROTRIE_DONE) return ZEROTRIE_END;
+    if (diff->status != ZEROTRIE_BUFFER_TOO_SMALL) return ZEROTRIE_STUCK;
+    diff->status = zerotrie_diff_some(
+        &diff->first, &diff->second, goes_on ? ZEROTRIE_EXCLUDED : range->from_bound, from.ptr,
+        from.len, range->to_bound, range->to.ptr, range->to.len, keys, half, diff->changes,
+        diff->places, &diff->count, &diff->next_len);
+    diff->keys = keys;
+    diff->listed += diff->count;
+    if (diff->count > 0) {
+        diff->last = zerotrie_diff_key(diff, diff->count - 1);
+        return ZEROTRIE_PART;
+    }
+    return diff->status == ZEROTRIE_DONE ? ZEROTRIE_END : ZEROTRIE_STUCK;
 }
 /** @} */
 
@@ -1795,8 +2157,8 @@ ZEROTRIE_INLINE const char *zerotrie_status_text(uint32_t status) {
     case ZEROTRIE_UNKNOWN_SEARCH: return "no search, or no bound, has the number";
     case ZEROTRIE_MALFORMED_SEARCH: return "the pattern is malformed, or the word is not UTF-8";
     case ZEROTRIE_SEARCH_TOO_LONG:
-        return "a pattern has at most 63 items, a word at most 63 letters, and at most 254 edits "
-               "are allowed";
+        return "a pattern has at most 63 items, a word at most 63 letters, and at most 254 edits, "
+               "with swaps 7, are allowed";
     case ZEROTRIE_CROWDED: return "too many keys share a bucket: build from another seed";
     case ZEROTRIE_UNKNOWN_SELECTION: return "no selection, or no rule, has the number";
     case ZEROTRIE_SUM_TOO_LARGE: return "the sum of the values of a key is 2^64 or more";

@@ -17,7 +17,7 @@
 /// `zerotrie code --lang c --name names` wrote has a zero after it, which is no part of the trie:
 /// Trie(Kind(names_kind), Bytes(names_bytes, names_len)).
 ///
-/// Bytes, Trie, Cursor, Stream, DenseTable and Index are views: copying one copies no bytes, and
+/// Bytes, Trie, Cursor, Stream, Diff, Reverse, DenseTable and Index are views: copying one copies no bytes, and
 /// the bytes that it was made of have to outlive it, as those of a std::string_view. clang warns of
 /// some that do not. Map owns its bytes, Search its texts, and Items what it lists.
 ///
@@ -432,6 +432,15 @@ public:
     [[nodiscard]] static Search fuzzy_chars(std::string_view word, uint32_t edits = 1) {
         return Search(ZEROTRIE_BY_CHAR_EDITS, word, edits).checked();
     }
+    /// As fuzzy(), and an edit may also make two neighbours change places. Throws Error for more than 7
+    /// edits.
+    [[nodiscard]] static Search swaps(std::string_view word, uint32_t edits = 1) {
+        return Search(ZEROTRIE_BY_SWAPS, word, edits).checked();
+    }
+    /// As fuzzy_chars(), with such edits.
+    [[nodiscard]] static Search swaps_chars(std::string_view word, uint32_t edits = 1) {
+        return Search(ZEROTRIE_BY_CHAR_SWAPS, word, edits).checked();
+    }
     /// A search for all keys that begin with such a key: completions.
     [[nodiscard]] Search beginnings() const {
         Search made = *this;
@@ -455,6 +464,12 @@ private:
     Search sorted() const {
         Search made = *this;
         made.sorted_ = true;
+        return made;
+    }
+    // The same, from the last pair on.
+    Search down() const {
+        Search made = sorted();
+        made.down_ = true;
         return made;
     }
     // The keys that begin with a prefix, in that order.
@@ -498,7 +513,7 @@ private:
     zerotrie_search_by by_ = ZEROTRIE_BY_RANGE;
     uint32_t edits_ = 0;
     zerotrie_bound from_bound_ = ZEROTRIE_UNBOUNDED, to_bound_ = ZEROTRIE_UNBOUNDED;
-    bool beginnings_ = false, sorted_ = false;
+    bool beginnings_ = false, sorted_ = false, down_ = false;
 };
 
 /// @cond
@@ -513,8 +528,9 @@ public:
     // Goes on to the next part. false: none is left.
     bool next() {
         if (status_ != ZEROTRIE_BUFFER_TOO_SMALL) return false;
-        const size_t places =
-            room_ / std::max<size_t>(listed_ == 0 ? 0 : bytes_listed_ / listed_, 4) + 1;
+        size_t places = room_ / std::max<size_t>(listed_ == 0 ? 0 : bytes_listed_ / listed_, 4) + 1;
+        // each pair is looked up by itself, so no more of them than are read
+        if (search_.down_) places = std::min<size_t>(listed_ + 1, 64);
         keys_.resize(room_), ends_.resize(places), values_.resize(places);
         size_t next_len = 0;
         status_ = list(places, &next_len);
@@ -542,6 +558,7 @@ private:
     // Lists a part with this many places.
     uint32_t list(size_t places, size_t *next_len) {
         const auto last = of(last_), prefix = of(search_.prefix_);
+        if (search_.down_) return list_down(places, next_len);
         if (search_.sorted_) {
             const auto from = listed_ > 0 ? last : of(search_.text_), to = of(search_.to_);
             return zerotrie_sorted_some(kind_, trie_.ptr, trie_.len,
@@ -560,6 +577,19 @@ private:
                                     listed_ > 0, last.ptr, last.len, room(keys_), room_,
                                     ends_.data(), places, values_.data(), places, &count_,
                                     next_len);
+    }
+    // The same from the last pair on.
+    uint32_t list_down(size_t places, size_t *next_len) {
+        const zerotrie_search range = search_.raw();
+        zerotrie_listing part = zerotrie_listing_reversed(
+            zerotrie_trie_of(static_cast<zerotrie_kind>(kind_), trie_.ptr, trie_.len), range,
+            room(keys_), room_, ends_.data(), values_.data(), places);
+        part.listed = listed_;
+        part.last = of(last_);
+        const uint32_t status = zerotrie_listing_back(&part, room(keys_), room_);
+        count_ = part.count;
+        *next_len = part.next_len;
+        return status;
     }
     uint32_t kind_;
     zerotrie_bytes trie_;
@@ -803,6 +833,13 @@ private:
     Search what_;
 };
 
+/// A pair whose key few edits make of a word.
+struct Near {
+    std::string key; ///< the key
+    size_t value;    ///< its value
+    size_t distance; ///< how many edits make the key of the word
+};
+
 /// A trie over bytes that are elsewhere, which have to outlive it. It is a range of its pairs.
 class ZEROTRIE_VIEW Trie {
 public:
@@ -975,6 +1012,12 @@ public:
     [[nodiscard]] Stream sorted(std::string_view prefix = {}) const {
         return search(Search::sorted_within(prefix));
     }
+    /// The pairs of range() from the last one on, so that the first N are the N last ones. Each costs
+    /// about two look-ups.
+    [[nodiscard]] Stream reversed(std::optional<std::string_view> from = std::nullopt,
+                                  std::optional<std::string_view> below = std::nullopt) const {
+        return search(Search::range(from, below).down());
+    }
     /// The first pair, in the order of bytes, whose key is not below this one. ++ continues in that
     /// order, up to end().
     [[nodiscard]] StreamIterator lower_bound(std::string_view key) const {
@@ -995,7 +1038,7 @@ public:
         return last_within(ZEROTRIE_INCLUDED, key);
     }
     /// The first key, in the order of the trie's bytes, that has this value. nullopt: no key has
-    /// it. It reads the pairs up to that key.
+    /// it. It reads the pairs up to that key; a Reverse does not.
     [[nodiscard]] std::optional<std::string> first_key_of(size_t value) const {
         const auto at = detail::of(bytes_);
         return detail::found([&](uint8_t *key, size_t room, size_t *len) {
@@ -1013,6 +1056,34 @@ public:
     /// See Search::fuzzy().
     [[nodiscard]] Stream fuzzy(std::string_view word, uint32_t edits = 1) const {
         return search(Search::fuzzy(word, edits));
+    }
+    /// The pairs whose keys at most so many edits make of a word in UTF-8, the nearest first, and those
+    /// that are as near in the order of bytes: at most `most` of them. Edits are of characters, and
+    /// neighbours that change places are one. Throws Error if the word is not UTF-8 or has more than 63
+    /// characters, or for more than 7 edits.
+    [[nodiscard]] std::vector<Near> nearest(std::string_view word, uint32_t edits = 2,
+                                            size_t most = 10) const {
+        const auto at = detail::of(bytes_), w = detail::of(word);
+        std::string keys(256, '\0');
+        size_t count = 0, next_len = 0;
+        // no more pairs than bytes have so few edits
+        const size_t places = std::min(most, 8 * bytes_.size());
+        std::vector<size_t> ends(places), values(places), distances(places);
+        for (uint32_t status = ZEROTRIE_BUFFER_TOO_SMALL;;) {
+            status = zerotrie_nearest(number(), at.ptr, at.len, ZEROTRIE_BY_CHAR_SWAPS, w.ptr, w.len,
+                                      edits, detail::room(keys), keys.size(), ends.data(), places,
+                                      values.data(), places, distances.data(), places, &count,
+                                      &next_len);
+            if (status != ZEROTRIE_BUFFER_TOO_SMALL) detail::check(status);
+            if (status == ZEROTRIE_DONE || count == places) break;
+            keys.resize(2 * keys.size() + next_len);
+        }
+        std::vector<Near> found;
+        for (size_t i = 0; i < count; i++) {
+            const size_t from = i == 0 ? 0 : ends[i - 1];
+            found.push_back({keys.substr(from, ends[i] - from), values[i], distances[i]});
+        }
+        return found;
     }
     /// The pairs, or those whose keys begin with a prefix, all listed at once.
     [[nodiscard]] Items items(std::string_view prefix = {}) const {
@@ -1066,6 +1137,171 @@ private:
     Kind kind_ = Kind::SimpleAscii;
     std::string_view bytes_;
 };
+
+/// The first key of each value of a trie, which has to outlive it: a table of four bytes for each
+/// pair. It can be kept, as in a file, for the same bytes.
+///
+///     const Reverse names(trie);
+///     names.get(3); // the first key that has the value 3
+class ZEROTRIE_VIEW Reverse {
+public:
+    /// Makes the table. It lists all pairs, and sorts the places of their values.
+    explicit Reverse(const Trie &trie ZEROTRIE_LIFETIMEBOUND) : trie_(trie) {
+        const auto at = detail::of(trie_.bytes());
+        size_t count = 16;
+        uint32_t status = ZEROTRIE_BUFFER_TOO_SMALL;
+        for (int turn = 0; turn < 2 && status == ZEROTRIE_BUFFER_TOO_SMALL; turn++) {
+            places_.resize(count);
+            status = zerotrie_reverse_places(number(), at.ptr, at.len, places_.data(),
+                                             places_.size(), &count);
+        }
+        detail::check(status);
+        places_.resize(count);
+        places_.shrink_to_fit();
+    }
+    /// Takes the table that places() of another one of the same bytes returned. Of other places the
+    /// keys are unspecified.
+    Reverse(const Trie &trie ZEROTRIE_LIFETIMEBOUND, std::vector<uint32_t> places)
+        : trie_(trie), places_(std::move(places)) {}
+    /// The first key, in the order of the trie's bytes, that has this value. nullopt: no key has it.
+    [[nodiscard]] std::optional<std::string> get(size_t value) const {
+        const auto at = detail::of(trie_.bytes());
+        return detail::found([&](uint8_t *key, size_t room, size_t *len) {
+            return zerotrie_reverse_key(number(), at.ptr, at.len, places_.data(), places_.size(),
+                                        value, key, room, len);
+        });
+    }
+    /// Whether a key has this value.
+    [[nodiscard]] bool contains(size_t value) const { return get(value).has_value(); }
+    /// The table. Empty: the trie has no pairs, or 4 GiB or more, and get() reads the pairs.
+    [[nodiscard]] const std::vector<uint32_t> &places() const noexcept { return places_; }
+
+private:
+    uint32_t number() const noexcept { return static_cast<uint32_t>(trie_.kind()); }
+    Trie trie_;
+    std::vector<uint32_t> places_;
+};
+
+/// A key that changed from one trie to another.
+struct Change {
+    std::string_view key;         ///< the key, until the iterator is moved on
+    std::optional<size_t> before; ///< its value in the first trie; nullopt: the key was added
+    std::optional<size_t> after;  ///< its value in the second trie; nullopt: the key was removed
+};
+
+/// What changed from one trie to another, as a range of Change in the order of bytes, whatever the
+/// kinds are; diff() makes one. It lists a part at a time, for each of which both tries are validated.
+/// The bytes of both have to outlive it.
+class ZEROTRIE_VIEW Diff {
+public:
+    /// @cond
+    class iterator {
+    public:
+        using iterator_category = std::input_iterator_tag;
+        using value_type = Change;
+        using difference_type = std::ptrdiff_t;
+        using reference = Change;
+        struct pointer {
+            Change change;
+            const Change *operator->() const noexcept { return &change; }
+        };
+        iterator() noexcept = default;
+        explicit iterator(const Diff &diff) : parts_(std::make_shared<Parts>(diff)) { next_part(); }
+        Change operator*() const noexcept {
+            const auto &it = parts_->changes[at_];
+            const size_t from = at_ == 0 ? 0 : parts_->changes[at_ - 1].key_end;
+            Change made{std::string_view(parts_->keys).substr(from, it.key_end - from), {}, {}};
+            if (it.how != ZEROTRIE_ADDED) made.before = it.before;
+            if (it.how != ZEROTRIE_REMOVED) made.after = it.after;
+            return made;
+        }
+        pointer operator->() const noexcept { return {**this}; }
+        iterator &operator++() {
+            if (++at_ == parts_->count) next_part();
+            return *this;
+        }
+        void operator++(int) { ++*this; }
+        friend bool operator==(const iterator &a, const iterator &b) noexcept {
+            return a.parts_ == b.parts_;
+        }
+        friend bool operator!=(const iterator &a, const iterator &b) noexcept { return !(a == b); }
+
+    private:
+        struct Parts {
+            explicit Parts(const Diff &diff)
+                : first(diff.first_), second(diff.second_), from(diff.from_), to(diff.below_) {}
+            // Goes on to the next part, of twice the room of the one before. false: none is left.
+            bool next() {
+                while (status == ZEROTRIE_BUFFER_TOO_SMALL) {
+                    keys.resize(room), changes.resize(room / 16 + 1);
+                    const auto lower = text_of(from), upper = text_of(to);
+                    const zerotrie_bound from_bound = goes_on ? ZEROTRIE_EXCLUDED
+                                                      : from  ? ZEROTRIE_INCLUDED
+                                                              : ZEROTRIE_UNBOUNDED;
+                    const zerotrie_trie one = raw(first), other = raw(second);
+                    size_t next_len = 0;
+                    status = zerotrie_diff_some(
+                        &one, &other, from_bound, lower.ptr, lower.len,
+                        to ? ZEROTRIE_EXCLUDED : ZEROTRIE_UNBOUNDED, upper.ptr, upper.len,
+                        detail::room(keys), room, changes.data(), changes.size(), &count, &next_len);
+                    if (status != ZEROTRIE_BUFFER_TOO_SMALL) detail::check(status);
+                    room = std::max(std::min<size_t>(4 * room, 1 << 22), next_len);
+                    if (count == 0) continue;
+                    const size_t begin = count == 1 ? 0 : changes[count - 2].key_end;
+                    from = keys.substr(begin, changes[count - 1].key_end - begin);
+                    goes_on = true;
+                    return true;
+                }
+                return false;
+            }
+            static zerotrie_bytes text_of(const std::optional<std::string> &text) noexcept {
+                return detail::of(text ? std::string_view(*text) : std::string_view());
+            }
+            static zerotrie_trie raw(const Trie &trie) noexcept {
+                const auto at = detail::of(trie.bytes());
+                return zerotrie_trie_of(static_cast<zerotrie_kind>(trie.kind()), at.ptr, at.len);
+            }
+            Trie first, second;
+            std::optional<std::string> from, to;
+            uint32_t status = ZEROTRIE_BUFFER_TOO_SMALL;
+            size_t room = 1 << 14, count = 0;
+            bool goes_on = false;
+            std::string keys;
+            std::vector<zerotrie_change> changes;
+        };
+        void next_part() {
+            at_ = 0;
+            if (!parts_->next()) parts_.reset();
+        }
+        std::shared_ptr<Parts> parts_;
+        size_t at_ = 0;
+    };
+    using const_iterator = iterator;
+    using value_type = Change;
+    /// @endcond
+    /// What changed between two bounds, as those of Trie::range().
+    Diff(const Trie &first ZEROTRIE_LIFETIMEBOUND, const Trie &second ZEROTRIE_LIFETIMEBOUND,
+         std::optional<std::string_view> from = std::nullopt,
+         std::optional<std::string_view> below = std::nullopt)
+        : first_(first), second_(second), from_(from), below_(below) {}
+    /// The first change. Throws Error if the bytes of a trie are malformed, as each step does.
+    [[nodiscard]] iterator begin() const { return iterator(*this); }
+    /// After the last.
+    [[nodiscard]] iterator end() const noexcept { return {}; }
+
+private:
+    Trie first_, second_;
+    std::optional<std::string> from_, below_;
+};
+
+/// What changed from one trie to another.
+///
+///     for (const auto [key, before, after] : diff(old, fresh))
+///         if (!before) added(key, *after);
+[[nodiscard]] inline Diff diff(const Trie &first ZEROTRIE_LIFETIMEBOUND,
+                               const Trie &second ZEROTRIE_LIFETIMEBOUND) {
+    return Diff(first, second);
+}
 
 /// A pair that is written into a call, as in build(kind, {{"foo", 1}, {"bar", 2}}).
 struct Pair {
@@ -1327,6 +1563,14 @@ public:
         return trie().sorted(prefix);
     }
     Stream sorted(std::string_view prefix = {}) const && = delete;
+    /// See Trie::reversed().
+    [[nodiscard]] Stream reversed(
+        std::optional<std::string_view> from = std::nullopt,
+        std::optional<std::string_view> below = std::nullopt) const &ZEROTRIE_LIFETIMEBOUND {
+        return trie().reversed(from, below);
+    }
+    Stream reversed(std::optional<std::string_view> from = std::nullopt,
+                    std::optional<std::string_view> below = std::nullopt) const && = delete;
     /// See Trie::lower_bound().
     [[nodiscard]] StreamIterator lower_bound(
         std::string_view key) const &ZEROTRIE_LIFETIMEBOUND {
@@ -1366,6 +1610,11 @@ public:
         return trie().fuzzy(word, edits);
     }
     Stream fuzzy(std::string_view word, uint32_t edits = 1) const && = delete;
+    /// See Trie::nearest().
+    [[nodiscard]] std::vector<Near> nearest(std::string_view word, uint32_t edits = 2,
+                                            size_t most = 10) const {
+        return trie().nearest(word, edits, most);
+    }
     /// See Trie::items().
     [[nodiscard]] Items items(std::string_view prefix = {}) const { return trie().items(prefix); }
     /// See Trie::for_each().

@@ -28,6 +28,7 @@ NUMBERS = {
     "Pair": 24,
     "Search": 56,
     "Source": 24,
+    "Changed": 32,
 }
 C_NUMBERS = {
     "uint8_t": 1,
@@ -42,6 +43,7 @@ C_NUMBERS = {
     "zerotrie_status": 4,
     "zerotrie_fault": 4,
     "zerotrie_bound": 4,
+    "zerotrie_search_by": 4,
     "zerotrie_bytes": 16,
     "zerotrie_cursor": 24,
     "zerotrie_pair": 24,
@@ -49,6 +51,7 @@ C_NUMBERS = {
     "zerotrie_selection": 4,
     "zerotrie_rule": 4,
     "zerotrie_trie": 24,
+    "zerotrie_change": 32,
 }
 #: the statuses whose texts are those of the library's errors, in the order of docs/CALLING.md
 OF_ERRORS = {

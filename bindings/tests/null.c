@@ -9,7 +9,9 @@
 
 /* What a call returns and writes. */
 typedef struct did {
-    size_t returned, numbers[4], ends[ROOM], values[ROOM];
+    size_t returned, numbers[4], ends[ROOM], values[ROOM], distances[ROOM];
+    zerotrie_change changes[ROOM];
+    uint32_t places[ROOM];
     uint32_t kind;
     uint16_t siblings;
     uint8_t edge, out[ROOM];
@@ -21,6 +23,7 @@ static const uint8_t trie[] = { 0xc2, 'b', 'f', 10, 'a', 0xc2, 'r', 'z', 1, 0x82
 static const uint8_t tagged[] = { 0, 'a', 0x81 };
 static const uint8_t text[] = { 'b', 'a', 'r' };
 static const size_t three[] = { 1, 2, 3 };
+static const uint32_t places[] = { 8, 9, 14 };
 
 /* Array number `i` of a call. In place of array `at`, or of each, there is NULL or an array, of n elements. */
 #define ARRAY(i, array, len)                                                                                                  \
@@ -82,7 +85,13 @@ static did call(int line, int at, bool null, size_t n, const char **called) {
          it.numbers, it.numbers + 1);
     CALL(zerotrie_last_within, kind, TRIE, ZEROTRIE_INCLUDED, TEXT(1), ZEROTRIE_UNBOUNDED, TEXT(2), OUT(3), it.numbers,
          it.numbers + 1);
+    CALL(zerotrie_nearest, kind, TRIE, ZEROTRIE_BY_SWAPS, TEXT(1), 2, OUT(2), ENDS(3), VALUES(4), ARRAY(5, it.distances, ROOM),
+         it.numbers, it.numbers + 1);
     CALL(zerotrie_first_key_of, kind, TRIE, 2, OUT(1), it.numbers);
+    CALL(zerotrie_diff_some, tries, tries + 1, ZEROTRIE_INCLUDED, TEXT(0), ZEROTRIE_UNBOUNDED, TEXT(1), OUT(2),
+         ARRAY(3, it.changes, ROOM), it.numbers, it.numbers + 1);
+    CALL(zerotrie_reverse_places, kind, TRIE, ARRAY(1, it.places, ROOM), it.numbers);
+    CALL(zerotrie_reverse_key, kind, TRIE, ARRAY(1, places, 3), 2, OUT(2), it.numbers);
     CALL(zerotrie_index_get, TRIE, TEXT(1), it.numbers);
     CALL(zerotrie_index_is_valid, TRIE);
     CALL(zerotrie_index_build, 1, PAIRS, OUT(1), it.numbers);

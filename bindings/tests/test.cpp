@@ -424,8 +424,61 @@ static void combinations() {
     }
 }
 
+/* What changed from one map to another, listings from the last pair on, and the first key of each value. */
+static void changes() {
+    for (const size_t most : {0, 1, 20, 4000}) {
+        Map first, second;
+        for (size_t n = 0; n < most; n++) first[key_of(true, 3)] = below(9), second[key_of(true, 3)] = below(9);
+        const zerotrie::Map old(Kind::PerfectHash, first), fresh(Kind::SimpleAscii, second);
+        Map keys = first;
+        keys.insert(second.begin(), second.end());
+        std::vector<std::tuple<std::string, std::optional<size_t>, std::optional<size_t>>> wanted, found;
+        for (const auto &[key, value] : keys)
+            if (old.get(key) != fresh.get(key)) wanted.emplace_back(key, old.get(key), fresh.get(key));
+        for (const auto [key, before, after] : zerotrie::diff(old.trie(), fresh.trie())) found.emplace_back(key, before, after);
+        CHECK(found == wanted);
+        found.clear();
+        const zerotrie::Diff part(old.trie(), fresh.trie(), "b", "m");
+        for (auto it = part.begin(); it != part.end(); ++it) found.emplace_back(it->key, it->before, it->after);
+        wanted.erase(std::remove_if(wanted.begin(), wanted.end(), [](const auto &it) { return std::get<0>(it) < "b" || std::get<0>(it) >= "m"; }),
+                     wanted.end());
+        CHECK(found == wanted);
+        auto back = first.rbegin();
+        for (const auto [key, value] : old.reversed()) {
+            CHECK(back->first == key && back->second == value);
+            ++back;
+        }
+        CHECK(back == first.rend());
+        std::vector<std::string> down;
+        for (const auto [key, value] : fresh.reversed("b", "m")) down.emplace_back(key);
+        std::vector<std::string> up;
+        for (const auto [key, value] : fresh.range("b", "m")) up.emplace_back(key);
+        CHECK(std::equal(down.begin(), down.end(), up.rbegin(), up.rend()));
+        const zerotrie::Trie trie = old.trie();
+        const zerotrie::Reverse names(trie), again(trie, names.places());
+        CHECK(names.places().size() == first.size() && !names.contains(10));
+        for (size_t value = 0; value < 10; value++) {
+            CHECK(names.get(value) == trie.first_key_of(value) && again.get(value) == names.get(value));
+        }
+    }
+    const zerotrie::Map words{{"trial", 1}, {"trie", 2}, {"tries", 3}, {"tire", 4}};
+    const auto near = words.nearest("trie");
+    CHECK(near.size() == 4 && near[0].key == "trie" && near[0].distance == 0 && near[1].key == "tire" && near[1].value == 4);
+    CHECK(near[2].key == "tries" && near[2].distance == 1 && near[3].distance == 2 && words.nearest("trie", 2, 1).size() == 1);
+    CHECK(words.nearest("x").empty() && words.nearest("trie", 7, SIZE_MAX).size() == 4);
+    std::string swapped;
+    for (const auto [key, value] : words.search(zerotrie::Search::swaps("tire"))) swapped += key;
+    for (const auto [key, value] : words.search(zerotrie::Search::swaps_chars("tire"))) swapped += key;
+    CHECK(swapped == "tiretrietiretrie");
+    CHECK(thrown([&] { (void)words.nearest("trie", 8); }).status == ZEROTRIE_SEARCH_TOO_LONG);
+    const zerotrie::Trie bad(Kind::SimpleAscii, "into"sv);
+    CHECK(thrown([&] { (void)zerotrie::diff(bad, bad).begin(); }).status == ZEROTRIE_MALFORMED_TRIE);
+    CHECK(zerotrie::Reverse(bad).places().empty());
+}
+
 int main(int count, char **arguments) {
     combinations();
+    changes();
     const Map map{{"foo", 1}, {"bar", 2}, {"bazzoo", 3}};
     const std::string bytes = zerotrie::build(Kind::SimpleAscii, map);
     const auto trie = zerotrie::Trie::checked(Kind::SimpleAscii, bytes);

@@ -71,7 +71,7 @@ def peak(call, *arguments):
     return most
 
 
-for module in (zerotrie, zerotrie._errors, zerotrie._pairs):
+for module in (zerotrie, zerotrie._diff, zerotrie._errors, zerotrie._pairs, zerotrie._reverse):
     assert (
         doctest.testmod(module, extraglobs=vars(zerotrie), optionflags=doctest.ELLIPSIS).failed == 0
     )

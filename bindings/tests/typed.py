@@ -6,7 +6,9 @@ from collections.abc import Mapping
 from typing import Optional, Union
 
 import zerotrie
-from zerotrie import Cursor, DenseTable, Index, Kind, StrTrie, ZeroTrie, ZeroTrieError, build
+from zerotrie import (
+    Change, Cursor, DenseTable, Index, Kind, Reverse, StrTrie, ZeroTrie, ZeroTrieError, build,
+)
 
 
 def total(mapping: Mapping[str, int]) -> int:
@@ -32,11 +34,16 @@ kind: Kind = t.kind
 with ZeroTrie.open("names.trie", check=False) as opened:
     opened.save("other.trie", tagged=True)
     sealed: bytes = opened.seal()
-near: list[tuple[str, int]] = list(s.fuzzy("fop", edits=1, beginnings=True))
+near: list[tuple[str, int]] = list(s.fuzzy("fop", edits=1, beginnings=True, swaps=True))
+nearest: list[tuple[bytes, int, int]] = t.nearest("fop", edits=1, most=3)
 between: dict[bytes, int] = dict(t.range("b", b"f"))
 least: Optional[tuple[str, int]] = s.first_from("f") or s.first_after(b"g")
 globbed: set[tuple[str, int]] = s.glob("f*") & s.items("fo")
 joined: StrTrie = (s | {"b": 2}) - {"foo"} & t
+first_keys: Reverse[str] = zerotrie.reverse(s)
+first_key: str = first_keys[1]
+changed: list[Change] = list(zerotrie.diff(t, s, "b", b"f"))
+old_values: list[Optional[int]] = [one.before for one in changed if one.how == "removed"]
 index: Index = Index.build({"foo": 1})
 found: int = index["foo"] + index.get("bar", 0) + index.get_many(["x"], missing=-1)[0]
 table: DenseTable = DenseTable.build({"de": {"AT": 8}})

@@ -39,8 +39,8 @@ def written():
         manifest = f"rust/{package}/Cargo.toml"
         yield manifest, found(f"../{manifest}", r'^version = "(.*)"')
     yield "bindings/js/package.json", found("js/package.json", r'^\s*"version": "(.*)"')
-    yield "crates/zerotrie_words/src/arguments.rt", found(
-        "../crates/zerotrie_words/src/arguments.rt", r'^\s*\.version\("(.*)"\)'
+    yield "crates/zerotrie_words/src/table.rt", found(
+        "../crates/zerotrie_words/src/table.rt", r'^pub const VERSION: &str = "(.*)";'
     )
 
 

@@ -66,6 +66,7 @@ from itertools import islice
 from pickle import PickleBuffer
 from typing import Any, NoReturn, Optional, TypeVar, Union, cast, overload
 
+from ._diff import Change as Change, diff as diff
 from ._errors import (
     NO_ENTRY, TOO_SMALL, Kind, Other, ZeroTrieError, check_status, in_file, remade,
     with_attributes,
@@ -74,6 +75,7 @@ from ._library import EXCLUDED, INCLUDED, UNBOUNDED, lib
 from ._memory import (
     found_key, in_place, index_in, mapped, replace, sealed, sealed_index, trie_in, validate, view_of,
 )
+from ._near import nearest as near_pairs
 from ._pairs import (
     FlatPairs, Key, Pairs, Path, auto_kind, build, build_dense, build_sorted, encoded_len,
     key_bytes, known_kind, tagged, whole_number,
@@ -81,6 +83,7 @@ from ._pairs import (
 from ._readers import (
     COUNT, INDEX, PAIRS, AnyPlace, Place, Reader, Table, Word, accelerated as accelerated,
 )
+from ._reverse import Reverse as Reverse, reverse as reverse
 from ._search import BY_GLOB, BY_SUBSEQUENCE, Search
 from ._sets import (
     DIFFERENCE, INTERSECTION, SYMMETRIC_DIFFERENCE, UNION, Keyed, chosen, difference, intersection,
@@ -92,9 +95,10 @@ from ._views import Found, Items, Keys, Range, Values
 
 __all__ = [
     "SIMPLE_ASCII", "PERFECT_HASH", "EXTENDED_CAPACITY", "IGNORE_CASE",
-    "Cursor", "DenseTable", "Index", "Kind", "StrTrie", "ZeroTrie", "ZeroTrieError",
-    "accelerated", "auto_kind", "build", "build_dense", "build_sorted", "difference", "encoded_len",
-    "intersection", "symmetric_difference", "tagged", "union",
+    "Change", "Cursor", "DenseTable", "Index", "Kind", "Reverse", "StrTrie", "ZeroTrie",
+    "ZeroTrieError", "accelerated", "auto_kind", "build", "build_dense", "build_sorted", "diff",
+    "difference", "encoded_len", "intersection", "reverse", "symmetric_difference", "tagged",
+    "union",
 ]
 
 Trie = TypeVar("Trie", bound="_Trie[Any]")
@@ -422,7 +426,7 @@ class _Trie(Reader[Word], _InBytes, Mapping[Any, int]):
 
     def first_key_of(self, value: int) -> Optional[Word]:
         """The first key of items() that has this value. None: no key has it. It reads the pairs up
-        to that key: make a dict for many values.
+        to that key: reverse() is faster for many values.
 
         >>> StrTrie.build({"foo": 1, "bar": 2}).first_key_of(1)
         'foo'
@@ -451,18 +455,36 @@ class _Trie(Reader[Word], _InBytes, Mapping[Any, int]):
         """
         return Found(self, search=Search(BY_SUBSEQUENCE, key_bytes(letters)))
 
-    def fuzzy(self, word: Key, edits: int = 1, beginnings: bool = False) -> Found[Word]:
+    def fuzzy(
+        self, word: Key, edits: int = 1, beginnings: bool = False, swaps: bool = False
+    ) -> Found[Word]:
         """A view of the pairs whose keys at most so many edits make of a word: an edit inserts,
-        deletes or changes a character if the word is text, and else a byte. With `beginnings` also
-        those that begin with such a key, which are completions of the word.
+        deletes or changes a character if the word is text, and else a byte; with `swaps` two
+        neighbours that change places are one edit, too. With `beginnings` also those that begin with
+        such a key, which are completions of the word.
 
         >>> words = StrTrie.build({"exam": 1, "example": 2, "ample": 3})
         >>> list(words.fuzzy("exampel", edits=2)), list(words.fuzzy("exm", beginnings=True))
         ([('example', 2)], [('exam', 1), ('example', 2)])
 
-        ZeroTrieError if the word has more than 63 characters or bytes, or for more than 254 edits.
+        ZeroTrieError if the word has more than 63 characters or bytes, or for more than 254 edits,
+        with swaps more than 7.
         """
-        return Found(self, search=Search.fuzzy(word, edits, beginnings))
+        return Found(self, search=Search.fuzzy(word, edits, beginnings, swaps))
+
+    def nearest(
+        self, word: Key, edits: int = 2, most: int = 10, swaps: bool = True
+    ) -> list[tuple[Word, int, int]]:
+        """The pairs whose keys at most so many edits make of a word, the nearest first, and those that
+        are as near in the order of bytes: at most `most` of them, each as a key, its value and how
+        many edits make it of the word. What an edit is, is as in fuzzy().
+
+        >>> words = StrTrie.build({"exam": 1, "example": 2, "ample": 3})
+        >>> words.nearest("exmaple"), words.nearest("exam", edits=3, most=2)
+        ([('example', 2, 1)], [('exam', 1, 0), ('example', 2, 3)])
+        """
+        found = near_pairs(self, word, edits, most, swaps)
+        return [(self._word(key), value, distance) for key, value, distance in found]
 
     def __and__(self: Trie, other: Keyed) -> Trie:
         """A trie of the pairs whose keys the other mapping or set has, too.

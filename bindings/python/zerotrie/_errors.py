@@ -52,7 +52,7 @@ TEXTS = (
     "the sealed file has another version of the format: take a library that knows it",
     "no search, or no bound, has the number",
     "the pattern is malformed, or the word is not UTF-8",
-    "a pattern has at most 63 items, a word at most 63 letters, and at most 254 edits are allowed",
+    "a pattern has at most 63 items, a word at most 63 letters, and at most 254 edits, with swaps 7, are allowed",
     "too many keys share a bucket: build from another seed",
     "no selection, or no rule, has the number",
     "the sum of the values of a key is 2^64 or more",

@@ -33,6 +33,17 @@ class RawTrie(Structure):
     _fields_ = [("kind", c_uint32), ("bytes", Bytes)]
 
 
+class RawChange(Structure):
+    """How a key changed, and where it ends."""
+
+    key_end: int
+    before: int
+    after: int
+    how: int
+    _fields_ = [
+        ("key_end", c_size_t), ("before", c_size_t), ("after", c_size_t), ("how", c_uint32)]
+
+
 class CursorPlace(Structure):
     run: int
     trie: int
@@ -114,6 +125,17 @@ _DECLARED: dict[str, tuple[Any, list[Any]]] = {
     "zerotrie_last_within": (
         c_uint32,
         [c_uint32, *BYTES, c_uint32, *TEXT, c_uint32, *TEXT, *BYTES, SIZE, SIZE]),
+    "zerotrie_nearest": (
+        c_uint32,
+        [c_uint32, *BYTES, c_uint32, *TEXT, c_uint32, *BYTES, *SIZES, *SIZES, *SIZES, SIZE, SIZE]),
+    "zerotrie_diff_some": (
+        c_uint32,
+        [POINTER(RawTrie), POINTER(RawTrie), c_uint32, *TEXT, c_uint32, *TEXT, *BYTES,
+         POINTER(RawChange), c_size_t, SIZE, SIZE]),
+    "zerotrie_reverse_places": (c_uint32, [c_uint32, *BYTES, POINTER(c_uint32), c_size_t, SIZE]),
+    "zerotrie_reverse_key": (
+        c_uint32,
+        [c_uint32, *BYTES, POINTER(c_uint32), c_size_t, c_size_t, *BYTES, SIZE]),
     "zerotrie_first_key_of": (c_uint32, [c_uint32, *BYTES, c_size_t, *BYTES, SIZE]),
     "zerotrie_index_get": (c_bool, [*BYTES, *TEXT, SIZE]),
     "zerotrie_index_is_valid": (c_bool, BYTES),
@@ -127,7 +149,7 @@ SHORT = {
     "zerotrie_common_prefixes", "zerotrie_with_prefix", "zerotrie_cursor_new",
     "zerotrie_cursor_step", "zerotrie_cursor_take_value", "zerotrie_cursor_probe",
     "zerotrie_dense_get", "zerotrie_version", "zerotrie_build_bound", "zerotrie_index_get",
-    "zerotrie_last_within", "zerotrie_search_check",
+    "zerotrie_last_within", "zerotrie_search_check", "zerotrie_reverse_key",
 }
 
 HERE = os.path.dirname(os.path.abspath(__file__))

@@ -9,7 +9,7 @@ from ._errors import check_status
 from ._library import EXCLUDED, INCLUDED, UNBOUNDED, Bytes, RawSearch, lib
 from ._pairs import Key, key_bytes, whole_number
 
-BY_RANGE, BY_GLOB, BY_SUBSEQUENCE, BY_EDITS, BY_CHAR_EDITS = range(5)
+BY_RANGE, BY_GLOB, BY_SUBSEQUENCE, BY_EDITS, BY_CHAR_EDITS, BY_SWAPS, BY_CHAR_SWAPS = range(7)
 
 
 class Search:
@@ -68,8 +68,15 @@ class Search:
         return cls.range(first, min(ends) if ends else None)
 
     @classmethod
-    def fuzzy(cls, word: Key, edits: int, beginnings: bool) -> Search:
+    def fuzzy(cls, word: Key, edits: int, beginnings: bool, swaps: bool) -> Search:
         """The keys that a few edits make of a word: edits of characters if the word is text."""
-        by = BY_CHAR_EDITS if isinstance(word, str) else BY_EDITS
         most = whole_number(edits, 32, "a number of edits")
+        by = edits_by(word, swaps)
         return cls(by, key_bytes(word), edits=most, beginnings=beginnings).checked()
+
+
+def edits_by(word: Key, swaps: bool) -> int:
+    """The search with edits of characters if the word is text, and else of bytes."""
+    if isinstance(word, str):
+        return BY_CHAR_SWAPS if swaps else BY_CHAR_EDITS
+    return BY_SWAPS if swaps else BY_EDITS

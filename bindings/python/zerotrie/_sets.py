@@ -57,13 +57,20 @@ UNION, INTERSECTION, DIFFERENCE, SYMMETRIC_DIFFERENCE = range(4)
 RULES = ("first", "last", "sum", "min", "max", "refuse")
 
 
+def raw_tries(lent: list[tuple[memoryview, int, int, int]]) -> Any:
+    """Tries as the library takes them. Their bytes are in use as long as what is lent is."""
+    raw = (RawTrie * (len(lent) or 1))()
+    for one, (_, number, at, length) in zip(raw, lent):
+        one.kind, one.bytes = number, Bytes(at or NOTHING, length)
+    return raw
+
+
 def combined(selection: int, how: str, tries: list[_Trie[Any]], kind: Kind) -> bytes:
     """The tagged bytes of what is selected of the tries."""
     if how not in RULES:
         raise ValueError(f"{how!r} is not one of {', '.join(RULES)}")
-    lent, raw = [trie._lent() for trie in tries], (RawTrie * (len(tries) or 1))()
-    for one, (_, number, at, length) in zip(raw, lent):
-        one.kind, one.bytes = number, Bytes(at or NOTHING, length)
+    lent = [trie._lent() for trie in tries]
+    raw = raw_tries(lent)
     size = c_size_t(64 + sum(length for *_, length in lent))
     for _ in range(2):
         room = (c_uint8 * (1 + size.value))()

@@ -1,7 +1,7 @@
 -- Files that are sealed or tagged.
 use Rattle.std.proofs.Common.{◌≡◌, ℕ, ◌+◌, ◌≤◌, ◌<◌, inl, inr, List, ◌++◌, length, take, drop, get_or, refl, sym, ap, ◌∙◌, arith}
 use Rattle.std.proofs.lemmas.List.{take_all}
-use Rattle.zerotrie_core.specs.Kind.{Kind, simple_ascii, ignore_case, perfect_hash, extended_capacity, tag}
+use Rattle.zerotrie_core.specs.Kind.{Kind, simple_ascii, ignore_case, perfect_hash, extended_capacity}
 use Rattle.zerotrie_any.specs.Tagged.{tagged}
 use Rattle.zerotrie_sealed.specs.Sealed.{magic, header, IsSealed}
 use Rattle.zerotrie_sealed.specs.Faults.{IsSealFault, IsSealRightBefore}

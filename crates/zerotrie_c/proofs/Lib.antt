@@ -10,3 +10,5 @@ mod FrontsLemmas
 mod BoundLemmas
 mod FileLemmas
 mod SetLemmas
+mod ChangeLemmas
+mod NearestLemmas

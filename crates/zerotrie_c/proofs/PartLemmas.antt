@@ -6,13 +6,13 @@ use Rattle.std.proofs.Math.Seq.{drop-append-add}
 use Rattle.zerotrie_core.specs.Maps.{Pairs}
 use Rattle.zerotrie_c.specs.Listed.{joined, ends_from, values_of, IsPut, IsWritten, IsListedSome}
 
-drop_again : (n m : ℕ) (xs : List ℕ) → n ≤ length xs → drop m (drop n xs) ≡ drop (n + m) xs
+drop_again : {A : Type 0} (n m : ℕ) (xs : List A) → n ≤ length xs → drop m (drop n xs) ≡ drop (n + m) xs
 drop_again n m xs h =
     let len : length (take n xs) ≡ n = length-take-le n xs h in
     sym (ap (λ k. drop (k + m) xs) (sym len) ∙ ap (drop (length (take n xs) + m)) (sym (take-append-drop n xs)) ∙ drop-append-add (take n xs) (drop n xs) m)
 
--- more numbers after those that stand at the front of a room
-put_more : (xs ys old room : List ℕ) (p : ℕ) → IsPut xs true old room → p ≡ length xs → p + length ys ≤ length room
+-- more elements after those that stand at the front of a room
+pub put_more : {A : Type 0} (xs ys old room : List A) (p : ℕ) → IsPut xs true old room → p ≡ length xs → p + length ys ≤ length room
     → IsPut (xs ++ ys) true old (take p room ++ (ys ++ drop (p + length ys) room))
 put_more xs ys old room p put at fits =
     let rest = drop (length xs) old in
@@ -30,19 +30,19 @@ put_more xs ys old room p put at fits =
           ∙ ap (λ n. (xs ++ ys) ++ drop n old) (sym len),
     )
 
-set_more : (xs : List ℕ) (v : ℕ) (old room : List ℕ) (p : ℕ) → IsPut xs true old room → p ≡ length xs → p < length room → IsPut (xs ++ v ∷ []) true old (set room p v)
+pub set_more : {A : Type 0} (xs : List A) (v : A) (old room : List A) (p : ℕ) → IsPut xs true old room → p ≡ length xs → p < length room → IsPut (xs ++ v ∷ []) true old (set room p v)
 set_more xs v old room p put at inside =
     let split : set room p v ≡ take p room ++ v ∷ drop (p + 1) room = set_split room p v inside ∙ ap (λ n. take p room ++ v ∷ drop n room) (sym (add-one p)) in
     subst (λ r. IsPut (xs ++ v ∷ []) true old r) (sym split) (put_more xs (v ∷ []) old room p put at (omega arith))
 
-joined_more : (ps : Pairs) (k : List ℕ) (v : ℕ) → joined (ps ++ (k, v) ∷ []) ≡ joined ps ++ k
+pub joined_more : {V : Type 0} (ps : List (List ℕ × V)) (k : List ℕ) (v : V) → joined (ps ++ (k, v) ∷ []) ≡ joined ps ++ k
 joined_more [] k v = append-nil k
 joined_more (p ∷ ps) k v = ap (λ x. p.0 ++ x) (joined_more ps k v) ∙ sym (append_assoc p.0 (joined ps) k)
 
-first_end : (n a : ℕ) → n + a ≡ n + 0 + a
+pub first_end : (n a : ℕ) → n + a ≡ n + 0 + a
 first_end n a = omega arith
 
-next_end : (n a b c d : ℕ) → d ≡ a + b → n + a + b + c ≡ n + d + c
+pub next_end : (n a b c d : ℕ) → d ≡ a + b → n + a + b + c ≡ n + d + c
 next_end n a b c d e = omega arith
 
 ends_more : (n : ℕ) (ps : Pairs) (k : List ℕ) (v : ℕ) → ends_from n (ps ++ (k, v) ∷ []) ≡ ends_from n ps ++ (n + length (joined ps) + length k) ∷ []

@@ -1,6 +1,6 @@
 -- What is selected of tries.
-use Rattle.std.proofs.Common.{◌≡◌, ◌≢◌, ℕ, ◌+◌, ◌<◌, ◌⊎◌, inl, inr, zero, suc, List, [], ◌∷◌, ◌++◌, take, drop, map, get_or, length, length-append, refl, sym, ◌∙◌, ap, subst, arith, append_assoc, Option, Some, None}
-use Rattle.std.specs.Prelude.{Any, ◌↔◌, zip}
+use Rattle.std.proofs.Common.{◌≡◌, ℕ, ◌+◌, ◌<◌, inl, inr, zero, suc, List, [], ◌∷◌, ◌++◌, take, drop, map, get_or, length, length-append, refl, sym, ◌∙◌, ap, subst, arith, append_assoc, Option, Some, None}
+use Rattle.std.specs.Prelude.{Any, zip}
 use Rattle.std.proofs.Math.Seq.{take-suc, drop-append_seam, take-append_seam}
 use Rattle.std.proofs.lemmas.List.{drop-take, append-nil}
 use Rattle.zerotrie_core.specs.Kinds.{kind_of as kind_that_is}
@@ -11,7 +11,7 @@ use Rattle.zerotrie_core.specs.declared.TrieRef.{TrieRef}
 use Rattle.zerotrie_sets.specs.Merges.{Entries, if_some}
 use Rattle.zerotrie_sets.specs.Streams.{Stand}
 use Rattle.zerotrie_sets.specs.Rows.{Values, EachAscends}
-use Rattle.zerotrie_sets.specs.Selections.{selected, selected_rows, IsRuleError, SomeRowErrs}
+use Rattle.zerotrie_sets.specs.Selections.{IsRuleError, SomeRowErrs}
 use Rattle.zerotrie_sets.specs.declared.selection.Selection.{Selection}
 use Rattle.zerotrie_sets.specs.declared.selection.Rule.{Rule}
 use Rattle.zerotrie_sets.specs.declared.selection.RuleError.{RuleError}

@@ -16,3 +16,6 @@ pub mod Entries
 pub mod Dense
 pub mod Indexes
 pub mod Sets
+pub mod Changed
+pub mod Reversed
+pub mod Nearest

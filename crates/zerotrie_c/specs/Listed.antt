@@ -6,8 +6,8 @@ use Rattle.zerotrie_core.specs.Listings.{rest_after}
 use Rattle.zerotrie_core.specs.declared.ZeroTrieBuildError.TheVariants.{BufferTooSmall, OutOfMemory}
 use Rattle.zerotrie_c.specs.Statuses.{done, status_of}
 
--- all keys, one after another
-abbrev pub joined : Pairs → List ℕ
+-- all keys, one after another, whatever belongs to each
+abbrev pub joined : {V : Type 0} → List (List ℕ × V) → List ℕ
 joined [] = []
 joined (p ∷ pairs) = p.0 ++ joined pairs
 
@@ -26,10 +26,10 @@ pub record IsFlat (pairs : Pairs) (keys ends values : List ℕ) : Type 0 where
   pub ends_are : ends ≡ ends_from 0 pairs
   pub values_are : values ≡ values_of pairs
 
--- the numbers are at the front of the room, and the rest of it stays; or it has no room for them, and all of it stays
-abbrev pub IsPut : List ℕ → Bool → List ℕ → List ℕ → Type 0
-IsPut numbers true old room = (length numbers ≤ length old) × (room ≡ numbers ++ drop (length numbers) old)
-IsPut numbers false old room = (length old < length numbers) × (room ≡ old)
+-- the elements are at the front of the room, and the rest of it stays; or it has no room for them, and all of it stays
+abbrev pub IsPut : {A : Type 0} → List A → Bool → List A → List A → Type 0
+IsPut elements true old room = (length elements ≤ length old) × (room ≡ elements ++ drop (length elements) old)
+IsPut elements false old room = (length old < length elements) × (room ≡ old)
 
 -- what is answered if all rooms had room, and if not
 abbrev pub status_if : Bool → ℕ

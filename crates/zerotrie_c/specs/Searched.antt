@@ -9,7 +9,9 @@ use Rattle.zerotrie_search.specs.Sets.{from_left, to_left, has_within, some_fron
 use Rattle.zerotrie_search.specs.Globs.{items, no_item, matches}
 use Rattle.zerotrie_search.specs.Edits.{is_near}
 use Rattle.zerotrie_search.specs.Pending.{is_near_text}
-use Rattle.zerotrie_search.specs.Automata.{IsMalformedWord, IsLongWord}
+use Rattle.zerotrie_search.specs.Swaps.{is_osa_near}
+use Rattle.zerotrie_search.specs.SwapTexts.{is_osa_near_text}
+use Rattle.zerotrie_search.specs.Automata.{IsMalformedWord, IsLongWord, IsOverSwaps}
 use Rattle.zerotrie_search.specs.declared.any.SearchBy.{SearchBy}
 use Rattle.zerotrie_c.specs.Statuses.{done, unknown_search, malformed_search, search_too_long}
 use Rattle.zerotrie_c.specs.Listed.{IsListedSome}
@@ -23,14 +25,16 @@ bound_with number key =
     else (if number == 2 then Some (Excluded key) else None))
 
 -- the keys that a search finds as they are, by its number: those in a range; those that a pattern matches; those that
--- have some bytes in their order; those that few edits of bytes make of a word, or of characters
+-- have some bytes in their order; those that few edits of bytes make of a word, or of characters; the same with swaps
 abbrev pub finds_whole : Search → List ℕ → Bool
 finds_whole s =
     if s.by == 0 then (λ key. from_left (bound_with s.from_bound s.text.now) key && to_left (bound_with s.to_bound s.to.now) key)
     else (if s.by == 1 then matches (items s.text.now)
     else (if s.by == 2 then has_within s.text.now
     else (if s.by == 3 then is_near s.edits s.text.now
-    else is_near_text s.edits (chars s.text.now))))
+    else (if s.by == 4 then is_near_text s.edits (chars s.text.now)
+    else (if s.by == 5 then is_osa_near s.edits s.text.now
+    else is_osa_near_text s.edits (chars s.text.now))))))
 
 -- the keys that are found, or those that begin with one that is, if a search asks for that
 abbrev pub or_beginnings : Bool → (List ℕ → Bool) → List ℕ → Bool
@@ -41,11 +45,11 @@ finds s = or_beginnings s.beginnings (finds_whole s)
 
 -- no search, or no bound of a range, has the number
 abbrev pub IsUnknownSearch : Search → Type 0
-IsUnknownSearch s = (4 < s.by) ⊎ ((s.by ≡ 0) × ((2 < s.from_bound) ⊎ (2 < s.to_bound)))
+IsUnknownSearch s = (6 < s.by) ⊎ ((s.by ≡ 0) × ((2 < s.from_bound) ⊎ (2 < s.to_bound)))
 
 -- a part of the pattern is no item, or the word of characters is not UTF-8
 abbrev pub IsMalformedSearch : Search → Type 0
-IsMalformedSearch s = ((s.by ≡ 1) × (no_item s.text.now ≢ [])) ⊎ ((s.by ≡ 4) × (IsUtf8 s.text.now → ⊥))
+IsMalformedSearch s = ((s.by ≡ 1) × (no_item s.text.now ≢ [])) ⊎ (((s.by ≡ 4) ⊎ (s.by ≡ 6)) × (IsUtf8 s.text.now → ⊥))
 
 -- a word of more letters or edits than a search takes
 abbrev pub IsOver : Search → List ℕ → Type 0
@@ -56,6 +60,8 @@ abbrev pub IsLongSearch : Search → Type 0
 IsLongSearch s = ((s.by ≡ 1) × (63 < length (items s.text.now)))
     ⊎ ((s.by ≡ 3) × IsOver s s.text.now)
     ⊎ ((s.by ≡ 4) × IsOver s (chars s.text.now))
+    ⊎ ((s.by ≡ 5) × IsOverSwaps s.edits s.text.now)
+    ⊎ ((s.by ≡ 6) × IsOverSwaps s.edits (chars s.text.now))
 
 -- why a search is refused
 abbrev pub IsSearchFault : Search → ℕ → Type 0

@@ -19,7 +19,7 @@ use zerotrie_core::Trie;
 use zerotrie_search::Search;
 
 /// Copies a key into the room if there is room, and sets its length. Returns `NO_ENTRY` for none.
-fn hand_out_key(found: Option<Vec<u8>>, room: &mut [u8], key_len: &mut usize) -> u32
+pub fn hand_out_key(found: Option<Vec<u8>>, room: &mut [u8], key_len: &mut usize) -> u32
     ensures { IsKeyTold (option_map (λ k. k.items) found) result key_len.old key_len.new
         room.old room.new }
 {

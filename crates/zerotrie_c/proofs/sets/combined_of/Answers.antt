@@ -1,4 +1,4 @@
-use Rattle.std.proofs.Common.{inl, inr, refl, sym, ap, subst}
+use Rattle.std.proofs.Common.{inl, inr, sym, ap, subst}
 use Rattle.zerotrie_sets.specs.Rows.{all_joined}
 use Rattle.zerotrie_sets.specs.Selections.{selected_rows, SomeRowErrs}
 use Rattle.zerotrie_c.specs.Listed.{IsFlat}

@@ -1,5 +1,4 @@
-use Rattle.std.proofs.Common.{◌≡◌, ◌∙◌, ap, inl, inr, refl, arith, sym, subst, take, map, ◌+◌, ◌++◌, ◌∷◌, []}
-use Rattle.zerotrie_core.specs.Maps.{Pairs}
+use Rattle.std.proofs.Common.{◌∙◌, ap, inl, inr, arith, sym, subst, take, ◌+◌}
 use Rattle.zerotrie_sets.specs.Rows.{EachAscends}
 use Rattle.zerotrie_c.specs.Sets.{Alike, AreOfTrie}
 use Rattle.zerotrie_c.proofs.SetLemmas.{alike_next, any_at, ascend_more, lefts, lefts_more}
