@@ -2,7 +2,7 @@
 
 use crate::calls::calls;
 use crate::listing::{
-    Combination, Difference, Matches, Sorted, SortedMatches, ZeroTrieIterator, ZeroTrieKeys, ZeroTrieValues,
+    Combination, Difference, Matches, Nearest, Sorted, SortedMatches, ZeroTrieIterator, ZeroTrieKeys, ZeroTrieValues,
     allocated,
 };
 use crate::look_ups::LookUps;
@@ -18,7 +18,7 @@ use crate::zerotrie_core::{
 };
 use crate::zerotrie_hashed;
 use crate::zerotrie_sealed::{self, SealError};
-use crate::zerotrie_search::{Automaton, KeyRange, Search};
+use crate::zerotrie_search::{Automaton, Fuzzy, KeyRange, Search};
 use crate::zerotrie_sets::{Keep, Operation};
 use crate::{ZeroTrieExtendedCapacity, ZeroTriePerfectHash, ZeroTrieSimpleAscii, by_kind};
 use alloc::boxed::Box;

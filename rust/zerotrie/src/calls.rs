@@ -236,6 +236,24 @@ macro_rules! calls {
                 SortedMatches::of(self.kind(), self.as_bytes(), bounds.into(), automaton)
             }
 
+            /// Lists the pairs whose keys few edits make of a word, the nearest first, and those that are as near in the order
+            /// of bytes. It searches as it is asked, so the first ones cost little.
+            ///
+            /// ```
+            #[doc = concat!("use zerotrie::", stringify!($name), ";")]
+            /// use zerotrie::search::OsaChars;
+            ///
+            #[doc = concat!("let trie = ", stringify!($name), "::try_from_iter([(\"ton\", 4), (\"to\", 3), (\"on\", 2), (\"ot\", 1)])?;")]
+            /// let mut nearest = trie.nearest(OsaChars::new("to", 1).unwrap());
+            /// nearest.advance();
+            /// assert_eq!((nearest.value(), nearest.distance()), (3, 0));
+            /// assert_eq!(nearest.values().collect::<Vec<_>>(), [1, 4]);
+            /// # Ok::<(), zerotrie::ZeroTrieBuildError>(())
+            /// ```
+            pub fn nearest<T: Fuzzy>(&self, word: T) -> Nearest<'_, T> {
+                Nearest::of(self.kind(), self.as_bytes(), word)
+            }
+
             /// Lists the pairs between two bounds in ascending order of bytes, whatever the kind.
             ///
             /// ```

@@ -4,7 +4,7 @@ use crate::by_kind;
 use crate::rstd::alloc::{AllocError, Global};
 use crate::zerotrie_core::{self, PairStream, TrieKind, ZeroTrieWithOptions};
 use crate::zerotrie_search::{
-    Automaton, KeyRange, ZeroTrieSearch, ZeroTrieSorted, ZeroTrieSortedSearch,
+    Automaton, Fuzzy, KeyRange, ZeroTrieNearest, ZeroTrieSearch, ZeroTrieSorted, ZeroTrieSortedSearch,
 };
 use crate::zerotrie_sets::{Change, Combined, Diff, Keep, Operation, SortedTrie};
 use alloc::alloc::{Layout, handle_alloc_error};
@@ -364,6 +364,59 @@ impl<'a, 'p, T: Automaton> SortedMatches<'a, 'p, T> {
     pub fn state(&self) -> T::State {
         self.pairs.0.state()
     }
+}
+
+/// The pairs whose keys are near a word, as the listing of `Nearest`.
+pub struct NearestPairs<'a, T: Fuzzy>(ZeroTrieNearest<'a, T>);
+
+impl<T: Fuzzy> PairStream for NearestPairs<'_, T> {
+    fn advance(&mut self) -> Result<bool, AllocError> {
+        self.0.advance()
+    }
+
+    fn key(&self) -> &[u8] {
+        self.0.key()
+    }
+
+    fn value(&self) -> usize {
+        self.0.value()
+    }
+}
+
+/// The pairs whose keys few edits make of a word, the nearest first.
+pub type Nearest<'a, T> = Pairs<NearestPairs<'a, T>>;
+
+impl<'a, T: Fuzzy> Nearest<'a, T> {
+    /// Lists the pairs of a trie.
+    pub(crate) fn of(kind: TrieKind, bytes: &'a [u8], word: T) -> Self {
+        Pairs::new(NearestPairs(allocated(by_kind!(
+            kind,
+            nearest_of::<_, T>(bytes, word)
+        ))))
+    }
+
+    /// Returns how many edits make the current key of the word.
+    ///
+    /// ```
+    /// use zerotrie::ZeroTriePerfectHash;
+    /// use zerotrie::search::Levenshtein;
+    ///
+    /// let trie = ZeroTriePerfectHash::try_from_iter([("on", 2), ("in", 1)])?;
+    /// let mut nearest = trie.nearest(Levenshtein::new(b"an", 1).unwrap());
+    /// nearest.advance();
+    /// assert_eq!((nearest.key(), nearest.distance()), (b"in".as_slice(), 1));
+    /// # Ok::<(), zerotrie::ZeroTrieBuildError>(())
+    /// ```
+    pub fn distance(&self) -> usize {
+        self.pairs.0.distance()
+    }
+}
+
+fn nearest_of<K: ZeroTrieWithOptions, T: Fuzzy>(
+    bytes: &[u8],
+    word: T,
+) -> Result<ZeroTrieNearest<'_, T>, AllocError> {
+    ZeroTrieNearest::new::<K>(Global, bytes, word)
 }
 
 /// What is made of two tries, in the order of bytes.

@@ -87,9 +87,10 @@
 pub use crate::by_automaton;
 pub use crate::zerotrie_core::ByteSet;
 pub use crate::zerotrie_search::{
-    AnyAutomaton, AnyCase, Automaton, BeginsWith, Both, CharsState, Either, Glob, GlobError,
-    KeyRange, Levenshtein, LevenshteinChars, LevenshteinState, Not, Osa, OsaState, SearchBy,
-    StartsWith, Subsequence, WORD_LIMIT, WordError,
+    AnyAutomaton, AnyCase, Automaton, BeginsWith, Both, ByKind, CharsState, Either, Fuzzy, Glob,
+    GlobChars, GlobError, GlobState, KeyRange, Levenshtein, LevenshteinChars, LevenshteinState, Not,
+    Osa, OsaChars, OsaCharsState, OsaState, SearchBy, StartsWith, Subsequence, WORD_LIMIT, WordError,
+    fold_by,
 };
 
 use crate::Trie;

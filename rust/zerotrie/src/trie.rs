@@ -4,7 +4,7 @@ use crate::any::{Trie, fault, first, last, lent, sorted, tagged};
 use crate::by_kind;
 use crate::calls::calls;
 use crate::listing::{
-    Combination, Difference, Matches, Sorted, SortedMatches, ZeroTrieIterator, ZeroTrieKeys,
+    Combination, Difference, Matches, Nearest, Sorted, SortedMatches, ZeroTrieIterator, ZeroTrieKeys,
     ZeroTrieStringIterator, ZeroTrieStringKeys, ZeroTrieValues, allocated,
 };
 use crate::look_ups::LookUps;
@@ -17,7 +17,7 @@ use crate::zerotrie_core::{
     self, CommonPrefixes, Ext, Fault, Hash, Ignore, Simple, TrieKind, ZeroTrieBuildError,
 };
 use crate::zerotrie_sealed::{self, SealError};
-use crate::zerotrie_search::{Automaton, KeyRange};
+use crate::zerotrie_search::{Automaton, Fuzzy, KeyRange};
 use crate::zerotrie_sets::{Keep, Operation};
 use crate::{ZeroTrie, any};
 use alloc::borrow::ToOwned;

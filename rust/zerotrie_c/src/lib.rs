@@ -2,7 +2,7 @@
 #![deny(unsafe_code)]
 
 use ::zerotrie::{rstd, zerotrie_all, zerotrie_any, zerotrie_base, zerotrie_build, zerotrie_core};
-use ::zerotrie::{zerotrie_index, zerotrie_sealed, zerotrie_search, zerotrie_sets};
+use ::zerotrie::{zerotrie_index, zerotrie_reverse, zerotrie_sealed, zerotrie_search, zerotrie_sets};
 
 mod zerotrie_c;
 

@@ -18,7 +18,7 @@ fn fold(a: u64, b: u64) -> u64 {
 
 /// Returns the number in the eight bytes from a place on, the lowest first.
 #[inline(always)]
-fn eight_at(bytes: &[u8], place: usize) -> u64 {
+pub(in crate::zerotrie_index) fn eight_at(bytes: &[u8], place: usize) -> u64 {
     match bytes[place..].first_chunk::<8>() {
         Some(eight) => u64::from_le_bytes(*eight),
         None => 0,

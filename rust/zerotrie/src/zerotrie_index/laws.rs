@@ -6,5 +6,6 @@ use crate::rstd::prelude::*;
 /// Pairs with distinct keys return the same in each order.
 pub fn built_answers_as_given() {}
 
-/// Pairs that have an index have no cause of `DuplicateKey` and none of `CapacityExceeded`.
+/// Pairs that have an index have no cause of `DuplicateKey` and none of `CapacityExceeded`, and
+/// its seed crowds none of its buckets.
 pub fn index_excludes_causes() {}

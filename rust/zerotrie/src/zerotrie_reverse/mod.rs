@@ -11,5 +11,5 @@ mod places;
 mod table;
 mod tries;
 
-pub use table::KeysByValue;
+pub use table::{KeysByValue, first_key_by_places};
 pub use tries::Reverse;

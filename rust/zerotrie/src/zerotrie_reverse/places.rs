@@ -68,12 +68,14 @@ pub(in crate::zerotrie_reverse) fn sorted_places<K: ZeroTrieWithOptions>(
     Ok(Some(places))
 }
 
-/// Returns how many places have lower values, of places in the order of their values.
+/// Returns how many places have lower values, of places in the order of their values. Of other
+/// places the result is unspecified.
 fn first_from(bytes: &[u8], places: &[u32], value: usize) -> usize {
     places.partition_point(|place| value_at(bytes, *place as usize) < value)
 }
 
-/// Returns the first place that has this value, of places in the order of their values.
+/// Returns the first place that has this value, of places in the order of their values. Of other
+/// places the result is unspecified.
 pub(in crate::zerotrie_reverse) fn first_place_of(bytes: &[u8], places: &[u32], value: usize) -> Option<u32> {
     let place = places.get(first_from(bytes, places, value))?;
     if value_at(bytes, *place as usize) == value {

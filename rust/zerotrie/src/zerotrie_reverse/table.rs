@@ -94,6 +94,36 @@ fn found(
     }
 }
 
+/// Returns the first key that has a value, by the places of a table that was kept apart from it.
+///
+/// ```
+/// # use zerotrie::{rstd::examples::*, zerotrie_reverse::*, zerotrie_base::*, zerotrie_core::*};
+/// // the keys "a", "b" and "c" with values 5, 6 and 5
+/// let bytes = b"\xC3abc\x01\x02\x85\x86\x85";
+/// let table = KeysByValue::new::<Simple>(Global, bytes)?;
+/// let places = table.places().ok_or("no places")?;
+/// let key = first_key_by_places::<Simple>(Global, bytes, places, 6)?.ok_or("no key")?;
+/// assert_eq!(key.as_slice(), b"b".as_slice());
+/// # Ok::<(), Fail>(())
+/// ```
+///
+/// Places that are no table of these bytes do no harm, but the result is unspecified. The only error
+/// is a failed allocation.
+pub fn first_key_by_places<K: ZeroTrieWithOptions>(
+    alloc: Global,
+    bytes: &[u8],
+    places: &[u32],
+    value: usize,
+) -> Result<Option<Vec<u8>>, AllocError> {
+    found(
+        ZeroTrieBuilderOptions::of::<K>(),
+        alloc,
+        bytes,
+        places,
+        value,
+    )
+}
+
 impl<'a> KeysByValue<'a> {
     /// Builds the table of a trie.
     ///
@@ -131,6 +161,15 @@ impl<'a> KeysByValue<'a> {
     /// Returns the bytes of the trie.
     pub fn bytes(&self) -> &'a [u8] {
         self.bytes
+    }
+
+    /// Returns the places, in the order of their values, by which `first_key_by_places` finds keys.
+    /// Returns `None` if look-ups read the pairs.
+    pub fn places(&self) -> Option<&[u32]> {
+        match &self.places {
+            Some(places) => Some(places.as_slice()),
+            None => None,
+        }
     }
 
     /// Returns how many places the table has, of four bytes each: the number of pairs, or 0 if

@@ -10,10 +10,13 @@ mod automaton;
 mod beginning;
 mod combination;
 mod cursors;
+mod folding;
+mod fuzzy;
 mod glob;
 mod keys_of;
 pub mod laws;
 mod levenshtein;
+mod nearest;
 mod prefix;
 mod range;
 mod search;
@@ -27,9 +30,15 @@ pub use automaton::Automaton;
 pub use beginning::BeginsWith;
 pub use combination::{AnyCase, Both, Either, Not};
 pub use cursors::SearchBelow;
-pub use glob::{Glob, GlobError};
+pub use folding::{ByKind, fold_by};
+pub use fuzzy::Fuzzy;
+pub use glob::{Glob, GlobChars, GlobError, GlobState};
 pub use keys_of::KeysOf;
-pub use levenshtein::{CharsState, Levenshtein, LevenshteinChars, LevenshteinState, Osa, OsaState};
+pub use levenshtein::{
+    CharsState, Levenshtein, LevenshteinChars, LevenshteinState, Osa, OsaChars, OsaCharsState,
+    OsaState,
+};
+pub use nearest::ZeroTrieNearest;
 pub use prefix::StartsWith;
 pub use range::KeyRange;
 pub use search::ZeroTrieSearch;

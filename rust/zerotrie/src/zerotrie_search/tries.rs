@@ -3,6 +3,8 @@
 
 use crate::rstd::prelude::*;
 use crate::zerotrie_search::automaton::Automaton;
+use crate::zerotrie_search::fuzzy::Fuzzy;
+use crate::zerotrie_search::nearest::ZeroTrieNearest;
 use crate::zerotrie_search::range::KeyRange;
 use crate::zerotrie_search::search::ZeroTrieSearch;
 use crate::zerotrie_search::sorted::{ZeroTrieSorted, ZeroTrieSortedIterator, ZeroTrieSortedSearch, last_between};
@@ -178,6 +180,38 @@ pub trait Search: Trie {
     ) -> Result<ZeroTrieSortedSearch<'_, 'p, T>, AllocError> {
         let pairs = self.stream_sorted(alloc, from, to)?;
         Ok(ZeroTrieSortedSearch::new(alloc, pairs, automaton))
+    }
+
+    /// Lists the pairs whose keys few edits make of a word, the nearest first, and those that are as near
+    /// in the order of bytes.
+    ///
+    /// ```
+    /// # use zerotrie::{rstd::examples::*, zerotrie_search::*, zerotrie_base::*, zerotrie_core::*, zerotrie_any::*, zerotrie_ascii::*, zerotrie_hashed::*};
+    /// let words = [("trial", 1), ("trie", 2), ("tries", 3), ("trio", 4)];
+    /// let trie = ZeroTriePerfectHash::try_from_iter(Global, words)?;
+    /// let word = LevenshteinChars::new("trie", 1).ok_or("a long word")?;
+    /// let mut nearest = trie.nearest(Global, word)?;
+    /// assert!(nearest.advance()?);
+    /// assert_eq!((nearest.key(), nearest.value()), (b"trie".as_slice(), 2));
+    /// assert_eq!(nearest.distance(), 0);
+    /// assert!(nearest.advance()?);
+    /// assert_eq!((nearest.key(), nearest.value()), (b"tries".as_slice(), 3));
+    /// assert_eq!(nearest.distance(), 1);
+    /// assert!(nearest.advance()?);
+    /// assert_eq!((nearest.key(), nearest.value()), (b"trio".as_slice(), 4));
+    /// assert!(!nearest.advance()?);
+    /// # Ok::<(), Fail>(())
+    /// ```
+    ///
+    /// It searches as it is asked. On malformed bytes it lists at most as many pairs as bytes for each
+    /// number of edits. An error means that an allocation failed.
+    fn nearest<T: Fuzzy>(
+        &self,
+        alloc: Global,
+        automaton: T,
+    ) -> Result<ZeroTrieNearest<'_, T>, AllocError> {
+        let (options, bytes) = (options_of(self.trie_kind()), self.as_bytes());
+        ZeroTrieNearest::with_options(alloc, options, bytes, automaton)
     }
 
     /// Returns an iterator over the pairs whose keys are between two bounds, in ascending order of

@@ -25,11 +25,12 @@ use crate::zerotrie_core::PairStream;
 /// # Ok::<(), Fail>(())
 /// ```
 ///
-/// It allocates for the streams at first, and then for the longest key alone. A step costs a
-/// comparison of keys for each stream.
+/// It allocates for the streams at first, and then no more, apart from what the streams do. A step
+/// compares the least key so far with the key of each stream.
 pub struct MergeAll<S: PairStream, A: Allocator = Global> {
     inputs: Vec<Input<S>, A>,
-    key: Vec<u8, A>,
+    // The number of the first input with the current key.
+    at: usize,
     ended: bool,
 }
 
@@ -43,7 +44,7 @@ impl<S: PairStream, A: Allocator + Copy> MergeAll<S, A> {
         }
         Ok(MergeAll {
             inputs,
-            key: Vec::new(alloc),
+            at: 0,
             ended: false,
         })
     }
@@ -51,13 +52,13 @@ impl<S: PairStream, A: Allocator + Copy> MergeAll<S, A> {
 
 impl<S: PairStream, A: Allocator> MergeAll<S, A> {
     /// Moves to the next key, and returns whether there is one. An error ends the merge. The only
-    /// error is a failed allocation for a longer key or in a stream.
+    /// error is a failed allocation in a stream: a merge of slices never fails.
     pub fn advance(&mut self) -> Result<bool, AllocError> {
         if self.ended {
             return Ok(false);
         }
         self.ended = true;
-        let found = next_row(&mut self.inputs, &mut self.key)?;
+        let found = next_row(&mut self.inputs, &mut self.at)?;
         self.ended = !found;
         Ok(found)
     }
@@ -65,7 +66,10 @@ impl<S: PairStream, A: Allocator> MergeAll<S, A> {
     /// Returns the current key, the one that the last call of `advance` moved to. Before the first
     /// call and after the end, it is not a key of the streams.
     pub fn key(&self) -> &[u8] {
-        self.key.as_slice()
+        match self.inputs.get(self.at) {
+            Some(input) => input.stream.key(),
+            None => &[],
+        }
     }
 
     /// Returns the value that a stream has for the current key, if it has the key. The streams are
@@ -164,38 +168,46 @@ fn fetch_all<S: PairStream>(inputs: &mut [Input<S>]) -> Result<(), AllocError> {
     Ok(())
 }
 
-/// Returns the lesser of two keys, by their bytes.
-fn lesser_key<'k>(least: Option<&'k [u8]>, waiting: Option<&'k [u8]>) -> Option<&'k [u8]> {
-    match (least, waiting) {
-        (Some(key), Some(other)) => match other.cmp(key) {
-            Ordering::Less => waiting,
-            Ordering::Equal | Ordering::Greater => least,
-        },
-        (Some(_key), None) => least,
-        (None, _) => waiting,
+/// The least key that waits, and which inputs have it.
+#[derive(Clone, Copy, Debug)]
+struct Least<'k> {
+    /// The number of the first one.
+    at: usize,
+    key: &'k [u8],
+    /// No other input has the key.
+    alone: bool,
+}
+
+/// Returns the lesser of the least key so far and that of an input, if one waits there.
+fn lesser<'k>(least: Option<Least<'k>>, at: usize, waiting: Option<&'k [u8]>) -> Option<Least<'k>> {
+    let Some(key) = waiting else {
+        return least;
+    };
+    let first = Least {
+        at,
+        key,
+        alone: true,
+    };
+    let Some(before) = least else {
+        return Some(first);
+    };
+    match key.cmp(before.key) {
+        Ordering::Less => Some(first),
+        Ordering::Equal => Some(Least {
+            alone: false,
+            ..before
+        }),
+        Ordering::Greater => Some(before),
     }
 }
 
 /// Returns the least key that waits.
-fn least<S: PairStream>(inputs: &[Input<S>]) -> Option<&[u8]> {
-    let mut least: Option<&[u8]> = None;
-    for input in inputs {
-        least = lesser_key(least, input.waiting());
+fn find_least<S: PairStream>(inputs: &[Input<S>]) -> Option<Least<'_>> {
+    let mut least: Option<Least<'_>> = None;
+    for at in 0..inputs.len() {
+        least = lesser(least, at, inputs[at].waiting());
     }
     least
-}
-
-/// Copies the least key that waits, and returns whether there is one.
-fn take_least<S: PairStream, A: Allocator>(
-    inputs: &[Input<S>],
-    key: &mut Vec<u8, A>,
-) -> Result<bool, AllocError> {
-    let Some(least) = least(inputs) else {
-        return Ok(false);
-    };
-    key.clear();
-    key.extend_from_slice(least)?;
-    Ok(true)
 }
 
 /// Lists the pairs that wait with this key.
@@ -205,15 +217,25 @@ fn list_all<S: PairStream>(inputs: &mut [Input<S>], key: &[u8]) {
     }
 }
 
-/// Moves to the next row, and returns whether there is one.
-fn next_row<S: PairStream, A: Allocator>(
-    inputs: &mut [Input<S>],
-    key: &mut Vec<u8, A>,
-) -> Result<bool, AllocError> {
-    fetch_all(inputs)?;
-    if !take_least(inputs, key)? {
-        return Ok(false);
+/// Lists the pairs that wait with the key of the input at a place: that one, and those after it
+/// unless it is alone.
+fn list_least<S: PairStream>(inputs: &mut [Input<S>], at: usize, alone: bool) {
+    inputs[at].list();
+    if alone {
+        return;
     }
-    list_all(inputs, key.as_slice());
+    let (front, others) = inputs.split_at_mut(at + 1);
+    list_all(others, front[at].stream.key());
+}
+
+/// Moves to the next row, and returns whether there is one.
+fn next_row<S: PairStream>(inputs: &mut [Input<S>], at: &mut usize) -> Result<bool, AllocError> {
+    fetch_all(inputs)?;
+    let Some(least) = find_least(inputs) else {
+        return Ok(false);
+    };
+    let alone = least.alone;
+    *at = least.at;
+    list_least(inputs, *at, alone);
     Ok(true)
 }

@@ -10,7 +10,7 @@ use crate::zerotrie_core::Trie;
 use crate::zerotrie_search::Search;
 
 /// Copies a key into the room if there is room, and sets its length. Returns `NO_ENTRY` for none.
-fn hand_out_key(found: Option<Vec<u8>>, room: &mut [u8], key_len: &mut usize) -> u32 {
+pub fn hand_out_key(found: Option<Vec<u8>>, room: &mut [u8], key_len: &mut usize) -> u32 {
     match found {
         Some(key) => hand_out(key.as_slice(), room, key_len),
         None => NO_ENTRY,

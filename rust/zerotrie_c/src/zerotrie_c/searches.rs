@@ -59,6 +59,8 @@ fn sought_of<'q>(search: &Search<'q>) -> Result<AnyAutomaton<'q>, u32> {
         2 => word_of(SearchBy::Subsequence, search.text.get()),
         3 => word_of(SearchBy::Fuzzy(search.edits), search.text.get()),
         4 => word_of(SearchBy::FuzzyChars(search.edits), search.text.get()),
+        5 => word_of(SearchBy::Swaps(search.edits), search.text.get()),
+        6 => word_of(SearchBy::SwapsChars(search.edits), search.text.get()),
         _ => Err(UNKNOWN_SEARCH),
     }
 }

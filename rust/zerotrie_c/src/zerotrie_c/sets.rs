@@ -75,7 +75,7 @@ fn plan_with(selection: u32, rule: u32) -> Option<(Selection, Rule)> {
 }
 
 /// Returns the status of an error.
-fn set_status_of(error: SetError) -> u32 {
+pub fn set_status_of(error: SetError) -> u32 {
     match error {
         SetError::UnknownKind => UNKNOWN_KIND,
         SetError::Malformed => MALFORMED_TRIE,

@@ -1,129 +1,149 @@
 // Made from crates/zerotrie_search/src/glob/pattern.rt by rust/make: edit that.
-//! The items of a pattern, read one by one from its bytes.
+//! The items of a pattern, read one by one from its text.
 
 use crate::rstd::prelude::*;
 
-/// An item of a pattern.
+const ANY: u32 = b'?' as u32;
+
+const CARET: u32 = b'^' as u32;
+
+const CLOSE: u32 = b']' as u32;
+
+const DASH: u32 = b'-' as u32;
+
+const ESCAPE: u32 = b'\\' as u32;
+
+const MANY: u32 = b'*' as u32;
+
+const NOT: u32 = b'!' as u32;
+
+const OPEN: u32 = b'[' as u32;
+
+/// A text of letters.
 #[derive(Clone, Copy, Debug)]
-pub(in crate::zerotrie_search) enum Item<'p> {
-    /// Any number of bytes.
-    Many,
-    /// One byte.
-    Any,
-    /// This byte.
-    Byte(u8),
-    /// One byte of this class, or if it is negated, one that is not of it.
-    Class(bool, &'p [u8]),
+pub(in crate::zerotrie_search) enum Text<'p> {
+    /// Each byte is a letter.
+    Bytes(&'p [u8]),
+    /// Each character is a letter.
+    Chars(&'p str),
 }
 
-/// Returns the first letter of the text of a class, and what is left of the text. The letter is a
-/// byte and whether it is escaped.
-fn letter(text: &[u8]) -> Option<((bool, u8), &[u8])> {
-    let (first, rest) = text.split_first()?;
-    if *first != b'\\' {
-        return Some(((false, *first), rest));
-    }
-    let (escaped, rest) = rest.split_first()?;
-    Some(((true, *escaped), rest))
+/// Returns the first character of a text, and what is left after it.
+fn first_char(text: &str) -> Option<(u32, &str)> {
+    let mut left = text.chars();
+    let first = left.next()?;
+    Some((u32::from(first), left.as_str()))
 }
 
-/// Returns the last byte of a range whose first byte is `from`, and what is left of the text after
-/// it. If no range continues here, that is the first byte itself.
-fn range_end(from: u8, text: &[u8]) -> (u8, &[u8]) {
-    let Some(((escaped, dash), after)) = letter(text) else {
-        return (from, text);
-    };
-    if escaped {
-        return (from, text);
-    }
-    if dash != b'-' {
-        return (from, text);
-    }
-    match letter(after) {
-        Some(((_escaped, to), rest)) => (to, rest),
-        None => (from, text),
-    }
-}
-
-/// Returns whether a class has the byte.
-fn class_has(class: &[u8], byte: u8) -> bool {
-    let mut left = class;
-    while let Some(((_escaped, from), rest)) = letter(left) {
-        let (to, more) = range_end(from, rest);
-        if from <= byte && byte <= to {
-            return true;
-        }
-        left = more;
-    }
-    false
-}
-
-/// Returns how many bytes are before the bracket that closes a class.
-fn class_len(text: &[u8]) -> Option<usize> {
-    let mut left = text;
-    let mut len: usize = 0;
-    loop {
-        let (first, rest) = left.split_first()?;
-        if *first == b']' {
-            return Some(len);
-        }
-        left = rest;
-        len += 1;
-        if *first == b'\\' {
-            let (_escaped, rest) = left.split_first()?;
-            left = rest;
-            len += 1;
-        }
-    }
-}
-
-/// Returns the class whose text begins here, and what is left of the pattern after it.
-fn class_item(text: &[u8], negated: bool) -> Option<(Item<'_>, &[u8])> {
-    let len = class_len(text)?;
-    if len == 0 {
-        return None;
-    }
-    Some((Item::Class(negated, &text[..len]), &text[len + 1..]))
-}
-
-/// Returns the first item of a pattern, and what is left of the pattern after it.
-pub(in crate::zerotrie_search) fn first_item(pattern: &[u8]) -> Option<(Item<'_>, &[u8])> {
-    let (first, rest) = pattern.split_first()?;
-    match *first {
-        b'*' => Some((Item::Many, rest)),
-        b'?' => Some((Item::Any, rest)),
-        b'\\' => {
-            let (byte, rest) = rest.split_first()?;
-            Some((Item::Byte(*byte), rest))
-        }
-        b'[' => match rest.split_first() {
-            Some((b'!', text)) => class_item(text, true),
-            _ => class_item(rest, false),
-        },
-        byte => Some((Item::Byte(byte), rest)),
-    }
-}
-
-/// Returns whether an item takes the byte as one of its own.
-pub(in crate::zerotrie_search) fn takes(item: Item<'_>, byte: u8) -> bool {
-    match item {
-        Item::Many => true,
-        Item::Any => true,
-        Item::Byte(same) => same == byte,
-        Item::Class(negated, class) => {
-            if negated {
-                !class_has(class, byte)
-            } else {
-                class_has(class, byte)
+impl<'p> Text<'p> {
+    /// Returns the first letter, and what is left after it.
+    pub(in crate::zerotrie_search) fn first(self) -> Option<(u32, Text<'p>)> {
+        match self {
+            Text::Bytes(bytes) => {
+                let (first, rest) = bytes.split_first()?;
+                Some((u32::from(*first), Text::Bytes(rest)))
+            }
+            Text::Chars(text) => {
+                let (first, rest) = first_char(text)?;
+                Some((first, Text::Chars(rest)))
             }
         }
     }
 }
 
-/// Returns whether an item matches no bytes.
-pub(in crate::zerotrie_search) fn may_be_empty(item: Item<'_>) -> bool {
-    match item {
-        Item::Many => true,
-        _ => false,
+/// An item of a pattern, beside a letter.
+#[derive(Clone, Copy, Debug)]
+pub(in crate::zerotrie_search) struct Item {
+    /// It is any number of letters.
+    pub(in crate::zerotrie_search) is_many: bool,
+    /// It takes the letter.
+    pub(in crate::zerotrie_search) takes: bool,
+}
+
+/// Returns the first letter of a class with whether it is escaped, and what is left after it, or
+/// `None` if the class ends here.
+fn class_letter(text: Text<'_>) -> Option<((bool, u32), Text<'_>)> {
+    let (first, rest) = text.first()?;
+    if first == CLOSE {
+        return None;
     }
+    if first != ESCAPE {
+        return Some(((false, first), rest));
+    }
+    let (escaped, rest) = rest.first()?;
+    Some(((true, escaped), rest))
+}
+
+/// Returns the last letter of a range whose first letter is `from`, and what is left of the class
+/// after it. If no range continues here, that is the first letter itself.
+fn range_end(from: u32, text: Text<'_>) -> (u32, Text<'_>) {
+    let Some(((escaped, dash), after)) = class_letter(text) else {
+        return (from, text);
+    };
+    if escaped {
+        return (from, text);
+    }
+    if dash != DASH {
+        return (from, text);
+    }
+    match class_letter(after) {
+        Some(((_escaped, to), rest)) => (to, rest),
+        None => (from, text),
+    }
+}
+
+/// Returns whether a class has the letter, and what is left after its closing bracket, or `None` if
+/// it has none, or a range without letters.
+fn class_takes(text: Text<'_>, letter: u32) -> Option<(bool, Text<'_>)> {
+    let mut left = text;
+    let mut found = false;
+    while let Some(((_escaped, from), rest)) = class_letter(left) {
+        let (to, more) = range_end(from, rest);
+        if to < from {
+            return None;
+        }
+        found = found | ((from <= letter) & (letter <= to));
+        left = more;
+    }
+    let (close, rest) = left.first()?;
+    (close == CLOSE).then_some((found, rest))
+}
+
+/// Returns a class beside the letter, and what is left of the pattern after it.
+fn class_item(text: Text<'_>, negated: bool, letter: u32) -> Option<(Item, Text<'_>)> {
+    let _first = class_letter(text)?;
+    let (has, rest) = class_takes(text, letter)?;
+    let item = Item {
+        is_many: false,
+        takes: has != negated,
+    };
+    Some((item, rest))
+}
+
+/// Returns the class behind an opening bracket, beside the letter, and what is left of the pattern
+/// after it.
+fn opened(text: Text<'_>, letter: u32) -> Option<(Item, Text<'_>)> {
+    let (first, rest) = text.first()?;
+    if first == NOT || first == CARET {
+        class_item(rest, true, letter)
+    } else {
+        class_item(text, false, letter)
+    }
+}
+
+/// Returns the first item of a pattern beside the letter, and what is left of the pattern after it.
+pub(in crate::zerotrie_search) fn first_item(pattern: Text<'_>, letter: u32) -> Option<(Item, Text<'_>)> {
+    let (first, rest) = pattern.first()?;
+    let is_many = first == MANY;
+    let takes = match first {
+        MANY | ANY => true,
+        OPEN => return opened(rest, letter),
+        ESCAPE => {
+            let (escaped, rest) = rest.first()?;
+            let takes = escaped == letter;
+            return Some((Item { is_many, takes }, rest));
+        }
+        _ => first == letter,
+    };
+    Some((Item { is_many, takes }, rest))
 }

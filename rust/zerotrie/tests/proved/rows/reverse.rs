@@ -4,7 +4,7 @@
 use crate::rstd::prelude::*;
 use super::*;
 use crate::zerotrie_core::{Ext, Hash, Ignore, Simple, ZeroTrieWithOptions, first_fault, first_key_of};
-use crate::zerotrie_reverse::KeysByValue;
+use crate::zerotrie_reverse::{KeysByValue, first_key_by_places};
 
 /// All words of up to four letters, with values that come more than once and rise and fall.
 fn words(alloc: Global) -> Result<Vec<(Vec<u8>, usize)>, AllocError> {
@@ -27,6 +27,10 @@ fn agrees<K: ZeroTrieWithOptions>(alloc: Global, bytes: &[u8], places: usize) ->
     for number in 0..200_usize {
         let value = number * 500;
         if table.first_key_of(alloc, value)? != first_key_of::<K>(alloc, bytes, value)? {
+            return Ok(false);
+        }
+        let places = table.places().ok_or("no places")?;
+        if first_key_by_places::<K>(alloc, bytes, places, value)? != table.first_key_of(alloc, value)? {
             return Ok(false);
         }
     }
