@@ -23,7 +23,7 @@ import sources
 
 QUOTING = ["README.md", "docs/CALLING.md"]
 SIGNATURES = "docs/SIGNATURES.md"
-TOGETHER = 27000  # words of all pages
+TOGETHER = 27800  # words of all pages
 # How many words a page may have: words have a letter or a digit, so the bars of a table are none. CHANGELOG.md grows.
 LIMITS = {
     "README.md": 810,
@@ -31,22 +31,22 @@ LIMITS = {
     "bindings/README.md": 330,
     "bindings/python/README.md": 120,
     "crates/zerotrie_cli/NOTES.md": 670,
-    "crates/zerotrie_cli/README.md": 1090,
-    "crates/zerotrie_index/README.md": 400,
+    "crates/zerotrie_cli/README.md": 1200,
+    "crates/zerotrie_index/README.md": 480,
     "crates/zerotrie_reverse/README.md": 320,
-    "crates/zerotrie_search/README.md": 500,
+    "crates/zerotrie_search/README.md": 520,
     "crates/zerotrie_sets/README.md": 260,
     "crates/zerotrie_tool/README.md": 390,
     "docs/ARCHITECTURE.md": 1290,
-    "docs/C.md": 710,
+    "docs/C.md": 790,
     "docs/CALLING.md": 2150,
-    "docs/CPP.md": 710,
-    "docs/DECISIONS.md": 1430,
+    "docs/CPP.md": 800,
+    "docs/DECISIONS.md": 1510,
     "docs/DIFFERENCES.md": 1300,
     "docs/FORMAT.md": 4210,
     "docs/JAVASCRIPT.md": 550,
-    "docs/MODEL.md": 1570,
-    "docs/PYTHON.md": 760,
+    "docs/MODEL.md": 1580,
+    "docs/PYTHON.md": 845,
     "docs/README.md": 190,
     "docs/RUST.md": 840,
     "docs/SPEED.md": 1090,
