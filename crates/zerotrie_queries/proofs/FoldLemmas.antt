@@ -17,17 +17,21 @@ use Rattle.std.specs.declared.alloc.AllocError.{AllocError}
 use Rattle.zerotrie_core.specs.declared.TrieKind.{TrieKind}
 use Rattle.zerotrie_core.specs.declared.TrieKind.TheVariants.{Simple, Ignore, Hash, Ext}
 use Rattle.zerotrie_index.specs.Tries.{folded_key}
-use Rattle.zerotrie_search.specs.Automata.{finds}
+use Rattle.zerotrie_search.specs.Automata.{finds_in, ignores_case, most_by, word_by}
 use Rattle.zerotrie_search.specs.Searches.{accepted}
 use Rattle.zerotrie_search.specs.Sets.{by_bytes}
 use Rattle.zerotrie_search.specs.Sorted.{within}
-use Rattle.zerotrie_queries.specs.Chosen.{at_edits, by_edits, closest, edits_by, edits_of, folded_bound, is_in, is_matched, is_chosen, is_word, word_in, chosen, IsFolded, AreWordsOf, HasWords}
+use Rattle.zerotrie_queries.specs.Chosen.{at_edits, by_edits, closest, edits_matched, edits_of, folded_bound, measured, is_in, is_matched, is_chosen, is_word, word_of, chosen, IsFolded, AreWordsOf, HasWords}
 use Rattle.zerotrie_queries.specs.Sorted.{picked}
 use Rattle.zerotrie_queries.specs.declared.folding.FoldedWords.{FoldedWords}
 use Rattle.zerotrie_queries.specs.declared.question.Choice.{Choice}
 use Rattle.zerotrie_queries.specs.declared.question.Order.{Order}
-use Rattle.zerotrie_queries.specs.declared.question.Order.TheVariants.{Stored, ByBytes, Closest}
+use Rattle.zerotrie_queries.specs.declared.question.Order.TheVariants.{Stored, ByBytes, Closest, Nearest}
 use Rattle.zerotrie_queries.specs.declared.question.Sought.{Sought}
+use Rattle.zerotrie_search.specs.Nearest.{nearest}
+use Rattle.zerotrie_search.specs.declared.any.SearchBy.{SearchBy}
+use Rattle.zerotrie_search.specs.declared.any.SearchBy.TheVariants as by
+use Rattle.zerotrie_queries.proofs.NearLemmas.{nearest_alike}
 use Rattle.zerotrie_queries.proofs.ChoiceLemmas.{accepted_alike, accepted_within}
 
 some_inj : {A : Type 0} {x y : A} → Some x ≡ Some y → x ≡ y
@@ -65,32 +69,63 @@ prefix_folded kind [] key = refl
 prefix_folded kind (c ∷ prefix) [] = refl
 prefix_folded kind (c ∷ prefix) (b ∷ key) = rw (same_folded kind b c, prefix_folded kind prefix key) refl
 
+-- a word that is as the kind compares keys stays so, and with other edits, too
+word_twice : (kind : TrieKind) (b : SearchBy) (word : List ℕ) → word_by (kind_of kind) b (word_by (kind_of kind) b word) ≡ word_by (kind_of kind) b word
+word_twice kind by.Prefix word = key_twice (kind_of kind) word
+word_twice kind by.Glob word = refl
+word_twice kind by.GlobChars word = refl
+word_twice kind by.Subsequence word = key_twice (kind_of kind) word
+word_twice kind (by.Fuzzy edits) word = key_twice (kind_of kind) word
+word_twice kind (by.FuzzyChars edits) word = key_twice (kind_of kind) word
+word_twice kind (by.Swaps edits) word = key_twice (kind_of kind) word
+word_twice kind (by.SwapsChars edits) word = key_twice (kind_of kind) word
+
+word_edited : (kind : TrieKind) (e : ℕ) (b : SearchBy) (word : List ℕ) → word_by (kind_of kind) (by_edits e b) word ≡ word_by (kind_of kind) b word
+word_edited kind e by.Prefix word = refl
+word_edited kind e by.Glob word = refl
+word_edited kind e by.GlobChars word = refl
+word_edited kind e by.Subsequence word = refl
+word_edited kind e (by.Fuzzy edits) word = refl
+word_edited kind e (by.FuzzyChars edits) word = refl
+word_edited kind e (by.Swaps edits) word = refl
+word_edited kind e (by.SwapsChars edits) word = refl
+
 -- the word of a choice is folded
-word_folded : (kind : TrieKind) (o p : Option Sought) (word : List ℕ) → word ≡ folded_key (kind_of kind) (unwrap_or (option_map (λ s. s.word.now) o) [])
-    → option_map (λ s. s.word.now) p ≡ option_map (λ _. word) o → option_map (λ s. folded_key (kind_of kind) s.word.now) p ≡ option_map (λ s. s.word.now) p
-word_folded kind None None word is has = refl
-word_folded kind None (Some t) word is has = absurd (cc)
-word_folded kind (Some s) None word is has = absurd (cc)
-word_folded kind (Some s) (Some t) word is has =
-    let same : t.word.now ≡ word = some_inj has in
-    ap (λ w. Some w) (ap (folded_key (kind_of kind)) (same ∙ is) ∙ key_twice (kind_of kind) s.word.now ∙ sym (same ∙ is))
+word_folded : (kind : TrieKind) (o p : Option Sought) (word : List ℕ) → word ≡ word_of kind o
+    → option_map (λ s. s.by) p ≡ option_map (λ s. s.by) o → option_map (λ s. s.word.now) p ≡ option_map (λ _. word) o → option_map (λ s. word_by (kind_of kind) s.by s.word.now) p ≡ option_map (λ s. s.word.now) p
+word_folded kind None None word is by has = refl
+word_folded kind None (Some t) word is by has = absurd (cc)
+word_folded kind (Some s) None word is by has = absurd (cc)
+word_folded kind (Some s) (Some t) word is by has =
+    let same : t.word.now ≡ word_by (kind_of kind) s.by s.word.now = some_inj has ∙ is in
+    ap (λ w. Some w) (ap (λ b. word_by (kind_of kind) b t.word.now) (some_inj by) ∙ ap (word_by (kind_of kind) s.by) same ∙ word_twice kind s.by s.word.now ∙ sym same)
 
 -- the words of a choice are folded
 pub words_folded : (kind : TrieKind) (c : Choice) (words : FoldedWords) (d : Choice) → AreWordsOf kind c words → HasWords words c d → IsFolded kind d
 words_folded kind c words d are has = record {
   from = ap (folded_bound kind) (has.from ∙ are.from) ∙ bound_twice kind (bound_map (λ b. b.now) c.range.from) ∙ sym (has.from ∙ are.from);
   to = ap (folded_bound kind) (has.to ∙ are.to) ∙ bound_twice kind (bound_map (λ b. b.now) c.range.to) ∙ sym (has.to ∙ are.to);
-  word = word_folded kind c.sought d.sought words.word.items are.word has.word;
+  word = word_folded kind c.sought d.sought words.word.items are.word has.by has.word;
 }
 
 -- a word that is folded finds the same keys
-matched_folded : (kind : TrieKind) (o p : Option Sought) (word key : List ℕ) → word ≡ folded_key (kind_of kind) (unwrap_or (option_map (λ s. s.word.now) o) [])
+matched_folded : (kind : TrieKind) (o p : Option Sought) (word key : List ℕ) → word ≡ word_of kind o
     → option_map (λ s. s.by) p ≡ option_map (λ s. s.by) o → option_map (λ s. s.word.now) p ≡ option_map (λ _. word) o → is_matched kind p key ≡ is_matched kind o key
 matched_folded kind None None word key is by has = refl
 matched_folded kind None (Some t) word key is by has = absurd (cc)
 matched_folded kind (Some s) None word key is by has = absurd (cc)
 matched_folded kind (Some s) (Some t) word key is by has =
-    let same : folded_key (kind_of kind) t.word.now ≡ folded_key (kind_of kind) s.word.now = ap (folded_key (kind_of kind)) (some_inj has ∙ is) ∙ key_twice (kind_of kind) s.word.now in
+    let same : word_by (kind_of kind) s.by t.word.now ≡ word_by (kind_of kind) s.by s.word.now = ap (word_by (kind_of kind) s.by) (some_inj has ∙ is) ∙ word_twice kind s.by s.word.now in
+    rw (some_inj by, same) refl
+
+-- and by as many edits
+edits_folded : (kind : TrieKind) (o p : Option Sought) (word key : List ℕ) → word ≡ word_of kind o
+    → option_map (λ s. s.by) p ≡ option_map (λ s. s.by) o → option_map (λ s. s.word.now) p ≡ option_map (λ _. word) o → edits_matched kind p key ≡ edits_matched kind o key
+edits_folded kind None None word key is by has = refl
+edits_folded kind None (Some t) word key is by has = absurd (cc)
+edits_folded kind (Some s) None word key is by has = absurd (cc)
+edits_folded kind (Some s) (Some t) word key is by has =
+    let same : word_by (kind_of kind) s.by t.word.now ≡ word_by (kind_of kind) s.by s.word.now = ap (word_by (kind_of kind) s.by) (some_inj has ∙ is) ∙ word_twice kind s.by s.word.now in
     rw (some_inj by, same) refl
 
 -- so are the bounds
@@ -110,23 +145,25 @@ chosen_folded kind c words d are has key =
     let found = matched_folded kind c.sought d.sought words.word.items key are.word has.by has.word in
     rw (begins, inside, found) refl
 
--- other edits leave words as they are
-word_at : (e : ℕ) (o : Option Sought) → option_map (λ s. s.word) (option_map {U = Sought} (λ s. record { by = by_edits e s.by; word = s.word }) o) ≡ option_map (λ s. s.word) o
-word_at e None = refl
-word_at e (Some s) = refl
+measured_folded : (kind : TrieKind) (c : Choice) (words : FoldedWords) (d : Choice) → AreWordsOf kind c words → HasWords words c d → (key : List ℕ) → measured kind d key ≡ measured kind c key
+measured_folded kind c words d are has key =
+    let begins : begins_with (kind_of kind) d.prefix.now key ≡ begins_with (kind_of kind) c.prefix.now key
+    = ap (λ p. begins_with (kind_of kind) p key) (has.prefix ∙ are.prefix) ∙ prefix_folded (kind_of kind) c.prefix.now key in
+    let inside = in_folded kind c d key (has.from ∙ are.from) (has.to ∙ are.to) in
+    let edits = edits_folded kind c.sought d.sought words.word.items key are.word has.by has.word in
+    rw (begins, inside, edits) refl
 
-words_at : (o p : Option Sought) → option_map (λ s. s.word) p ≡ option_map (λ s. s.word) o → unwrap_or (option_map (λ s. s.word.now) p) [] ≡ unwrap_or (option_map (λ s. s.word.now) o) []
-words_at None None h = refl
-words_at None (Some t) h = absurd (cc)
-words_at (Some s) None h = absurd (cc)
-words_at (Some s) (Some t) h = ap (λ w. w.now) (some_inj h)
+-- other edits leave words as they are
+words_at : (kind : TrieKind) (e : ℕ) (o : Option Sought) → word_of kind (option_map {U = Sought} (λ s. record { by = by_edits e s.by; word = s.word }) o) ≡ word_of kind o
+words_at kind e None = refl
+words_at kind e (Some s) = word_edited kind e s.by s.word.now
 
 pub are_at : (kind : TrieKind) (e : ℕ) (c : Choice) (words : FoldedWords) → AreWordsOf kind c words → AreWordsOf kind (at_edits e c) words
 are_at kind e c words h = record {
   prefix = h.prefix;
   from = h.from;
   to = h.to;
-  word = h.word ∙ ap (folded_key (kind_of kind)) (sym (words_at c.sought (at_edits e c).sought (word_at e c.sought)));
+  word = h.word ∙ sym (words_at kind e c.sought);
 }
 
 has_by : (e : ℕ) (o p : Option Sought) → option_map (λ s. s.by) p ≡ option_map (λ s. s.by) o
@@ -152,11 +189,11 @@ has_at e c words d h = record {
   word = has_word e words.word.items c.sought d.sought h.word;
 }
 
-edits_alike : (o p : Option Sought) → option_map (λ s. s.by) p ≡ option_map (λ s. s.by) o → unwrap_or (option_map (λ s. edits_by s.by) p) 0 ≡ unwrap_or (option_map (λ s. edits_by s.by) o) 0
+edits_alike : (o p : Option Sought) → option_map (λ s. s.by) p ≡ option_map (λ s. s.by) o → unwrap_or (option_map (λ s. most_by s.by) p) 0 ≡ unwrap_or (option_map (λ s. most_by s.by) o) 0
 edits_alike None None h = refl
 edits_alike None (Some t) h = absurd (cc)
 edits_alike (Some s) None h = absurd (cc)
-edits_alike (Some s) (Some t) h = ap edits_by (some_inj h)
+edits_alike (Some s) (Some t) h = ap most_by (some_inj h)
 
 -- so do the fewest edits
 closest_alike : (kind : TrieKind) (c d : Choice) (pairs : Pairs) → ((e : ℕ) → chosen kind (at_edits e d) pairs ≡ chosen kind (at_edits e c) pairs) → (e n : ℕ) → closest kind d pairs e n ≡ closest kind c pairs e n
@@ -174,12 +211,15 @@ module _ (kind : TrieKind) (c : Choice) (words : FoldedWords) (d : Choice) (are 
       let each : (e : ℕ) → chosen kind (at_edits e d) (entries (map_of pairs)) ≡ chosen kind (at_edits e c) (entries (map_of pairs)) = λ e. accepted_alike (is_chosen kind (at_edits e d)) (is_chosen kind (at_edits e c)) (chosen_folded kind (at_edits e c) words (at_edits e d) (are_at kind e c words are) (has_at e c words d has)) (entries (map_of pairs)) in
       ap (λ n. closest kind d (entries (map_of pairs)) 0 n) (edits_alike c.sought d.sought has.by)
       ∙ closest_alike kind c d (entries (map_of pairs)) each 0 (edits_of c)
+  picked_folded Nearest pairs =
+      ap (λ n. nearest (measured kind d) (entries (map_of pairs)) 0 (suc n)) (edits_alike c.sought d.sought has.by)
+      ∙ nearest_alike (measured kind d) (measured kind c) (measured_folded kind c words d are has) (entries (map_of pairs)) 0 (suc (edits_of c))
 
 -- other edits leave a choice folded
-folded_at_word : (kind : TrieKind) (e : ℕ) (o : Option Sought) → option_map (λ s. folded_key (kind_of kind) s.word.now) o ≡ option_map (λ s. s.word.now) o
-    → option_map (λ s. folded_key (kind_of kind) s.word.now) (option_map {U = Sought} (λ s. record { by = by_edits e s.by; word = s.word }) o) ≡ option_map (λ s. s.word.now) (option_map {U = Sought} (λ s. record { by = by_edits e s.by; word = s.word }) o)
+folded_at_word : (kind : TrieKind) (e : ℕ) (o : Option Sought) → option_map (λ s. word_by (kind_of kind) s.by s.word.now) o ≡ option_map (λ s. s.word.now) o
+    → option_map (λ s. word_by (kind_of kind) s.by s.word.now) (option_map {U = Sought} (λ s. record { by = by_edits e s.by; word = s.word }) o) ≡ option_map (λ s. s.word.now) (option_map {U = Sought} (λ s. record { by = by_edits e s.by; word = s.word }) o)
 folded_at_word kind e None h = refl
-folded_at_word kind e (Some s) h = h
+folded_at_word kind e (Some s) h = ap (λ w. Some w) (word_edited kind e s.by s.word.now) ∙ h
 
 pub folded_at : (kind : TrieKind) (e : ℕ) (c : Choice) → IsFolded kind c → IsFolded kind (at_edits e c)
 folded_at kind e c h = record { from = h.from; to = h.to; word = folded_at_word kind e c.sought h.word }
@@ -188,18 +228,20 @@ folded_at kind e c h = record { from = h.from; to = h.to; word = folded_at_word 
 pub in_range : (kind : TrieKind) (c : Choice) → IsFolded kind c → (key : List ℕ) → bounds_contain by_bytes (bound_map (λ b. b.now) c.range.from) (bound_map (λ b. b.now) c.range.to) (folded_key (kind_of kind) key) ≡ is_in kind c.range key
 in_range kind c h key = rw (h.from, h.to) refl
 
+-- and its word stays as it is
+pub same_word : (kind : TrieKind) (c : Choice) (s : Sought) → IsFolded kind c → c.sought ≡ Some s → word_by (kind_of kind) s.by s.word.now ≡ s.word.now
+same_word kind c s h is = some_inj (subst (λ o. option_map (λ t. word_by (kind_of kind) t.by t.word.now) o ≡ option_map (λ t. t.word.now) o) is h.word)
+
 -- and a word finds the keys whose folds it finds
-pub found_folded : (kind : TrieKind) (c : Choice) (s : Sought) (accepts : List ℕ → Bool) → IsFolded kind c → c.sought ≡ Some s → is_word s.by s.word.now ≡ true → accepts ≡ finds s.by s.word.now
+pub found_folded : (kind : TrieKind) (c : Choice) (s : Sought) (accepts : List ℕ → Bool) → IsFolded kind c → c.sought ≡ Some s → is_word s.by s.word.now ≡ true → accepts ≡ finds_in (ignores_case (kind_of kind)) s.by s.word.now
     → (key : List ℕ) → accepts (folded_key (kind_of kind) key) ≡ is_matched kind c.sought key
 found_folded kind c s accepts h is word finds key =
-    let same : folded_key (kind_of kind) s.word.now ≡ s.word.now = some_inj (subst (λ o. option_map (λ t. folded_key (kind_of kind) t.word.now) o ≡ option_map (λ t. t.word.now) o) is h.word) in
-    rw (is, same, word, finds) refl
+    rw (is, same_word kind c s h is, word, finds) refl
 
 -- a word that is none of its sort finds none
 pub none_found : (kind : TrieKind) (c : Choice) (s : Sought) → IsFolded kind c → c.sought ≡ Some s → is_word s.by s.word.now ≡ false → (key : List ℕ) → false ≡ is_matched kind c.sought key
 none_found kind c s h is word key =
-    let same : folded_key (kind_of kind) s.word.now ≡ s.word.now = some_inj (subst (λ o. option_map (λ t. folded_key (kind_of kind) t.word.now) o ≡ option_map (λ t. t.word.now) o) is h.word) in
-    rw (is, same, word) refl
+    rw (is, same_word kind c s h is, word) refl
 
 -- all keys are between no bounds
 accepted_all : (accepts : List ℕ → Bool) (m : Map) → accepted accepts (within Unbounded Unbounded m) ≡ accepted accepts (entries m)

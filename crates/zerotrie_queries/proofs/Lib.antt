@@ -14,5 +14,7 @@ mod LimitLemmas
 mod SortedLemmas
 pub mod RecasedLemmas
 mod DiffLemmas
+mod NearLemmas
 mod FoldLemmas
+mod EditsLemmas
 mod WordLemmas

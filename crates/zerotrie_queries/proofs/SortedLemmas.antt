@@ -29,6 +29,8 @@ use Rattle.zerotrie_queries.specs.Sorted.{picked, below_some, AreWithin}
 use Rattle.zerotrie_queries.specs.declared.question.Order.TheVariants.{ByBytes}
 use Rattle.zerotrie_queries.specs.declared.question.Choice.{Choice}
 use Rattle.zerotrie_queries.proofs.ChoiceLemmas.{accepted_alike, accepted_within, few_accepted}
+use Rattle.zerotrie_search.specs.Nearest.{nearest}
+use Rattle.zerotrie_queries.proofs.NearLemmas.{few_near}
 use Rattle.zerotrie_queries.proofs.FoldLemmas.{exact_key, in_range}
 
 -- the pairs that are chosen between bounds are all that are chosen, if each key that is chosen is between them
@@ -45,6 +47,16 @@ few_within kind bytes accepts from to m means =
     let few = lists_few means.lists in
     let short = means.short in
     omega (arith, chosen, between, is, each, few, short)
+
+-- and so are the nearest of them
+pub few_nearest : (kind : Kind) (bytes : List ℕ) (accepts : List ℕ → Bool) (measure : List ℕ → Option ℕ) (n : ℕ) (m : Map) → Means kind bytes m → length (accepted accepts (nearest measure (entries m) 0 n)) < 2 ^ 64
+few_nearest kind bytes accepts measure n m means =
+    let near = few_near accepts measure (entries m) 0 n in
+    let is = ap (λ n. length (entries n)) means.is in
+    let each = entries_count means.pairs in
+    let few = lists_few means.lists in
+    let short = means.short in
+    omega (arith, near, is, each, few, short)
 
 tied : (x : ℕ) → nat_cmp x x ≡ Equal
 tied x = sym (nat_cmp_is x x Equal refl)

@@ -10,7 +10,7 @@ use Rattle.zerotrie_core.specs.Kinds.{kind_of}
 use Rattle.zerotrie_core.specs.Listings.{Left}
 use Rattle.zerotrie_core.specs.declared.TrieKind.{TrieKind}
 use Rattle.zerotrie_index.specs.Tries.{folded_key}
-use Rattle.zerotrie_search.specs.Automata.{finds}
+use Rattle.zerotrie_search.specs.Automata.{edits_to, finds_by, ignores_case, most_by, word_by}
 use Rattle.zerotrie_search.specs.Searches.{accepted}
 use Rattle.zerotrie_search.specs.Sets.{by_bytes}
 use Rattle.zerotrie_search.specs.Globs as globs
@@ -50,28 +50,28 @@ is_in kind r key = bounds_contain by_bytes (folded_bound kind (bound_map (λ b. 
 -- whether a word finds it, if there is one
 abbrev pub is_matched : TrieKind → Option Sought → List ℕ → Bool
 is_matched kind None key = true
-is_matched kind (Some s) key = is_word s.by (folded_key (kind_of kind) s.word.now) && finds s.by (folded_key (kind_of kind) s.word.now) (folded_key (kind_of kind) key)
+is_matched kind (Some s) key = is_word s.by (word_by (kind_of kind) s.by s.word.now) && finds_by (kind_of kind) s.by s.word.now key
 
 -- whether it is chosen
 abbrev pub is_chosen : TrieKind → Choice → List ℕ → Bool
 is_chosen kind c key = (begins_with (kind_of kind) c.prefix.now key && is_in kind c.range key) && is_matched kind c.sought key
 
--- the word by which keys are sought, or no bytes
-abbrev pub word_in : Choice → List ℕ
-word_in c = unwrap_or (option_map (λ s. s.word.now) c.sought) []
+-- the word by which keys are sought, as the kind compares keys, or no bytes
+abbrev pub word_of : TrieKind → Option Sought → List ℕ
+word_of kind sought = unwrap_or (option_map (λ s. word_by (kind_of kind) s.by s.word.now) sought) []
 
 -- A choice whose bounds and word are as the kind compares them.
 pub record IsFolded (kind : TrieKind) (c : Choice) : Type 0 where
   pub from : folded_bound kind (bound_map (λ b. b.now) c.range.from) ≡ bound_map (λ b. b.now) c.range.from
   pub to : folded_bound kind (bound_map (λ b. b.now) c.range.to) ≡ bound_map (λ b. b.now) c.range.to
-  pub word : option_map (λ s. folded_key (kind_of kind) s.word.now) c.sought ≡ option_map (λ s. s.word.now) c.sought
+  pub word : option_map (λ s. word_by (kind_of kind) s.by s.word.now) c.sought ≡ option_map (λ s. s.word.now) c.sought
 
 -- The words of a choice, as the kind compares them.
 pub record AreWordsOf (kind : TrieKind) (c : Choice) (words : FoldedWords) : Type 0 where
   pub prefix : words.prefix.items ≡ folded_key (kind_of kind) c.prefix.now
   pub from : bound_map (λ v. v.items) words.from ≡ folded_bound kind (bound_map (λ b. b.now) c.range.from)
   pub to : bound_map (λ v. v.items) words.to ≡ folded_bound kind (bound_map (λ b. b.now) c.range.to)
-  pub word : words.word.items ≡ folded_key (kind_of kind) (word_in c)
+  pub word : words.word.items ≡ word_of kind c.sought
 
 -- A choice has them in place of those of another one.
 pub record HasWords (words : FoldedWords) (c with_words : Choice) : Type 0 where
@@ -82,18 +82,8 @@ pub record HasWords (words : FoldedWords) (c with_words : Choice) : Type 0 where
   pub word : option_map (λ s. s.word.now) with_words.sought ≡ option_map (λ _. words.word.items) c.sought
 
 -- how many edits are allowed, if keys are sought by edits
-abbrev pub edits_by : SearchBy → ℕ
-edits_by by.Prefix = 0
-edits_by by.Glob = 0
-edits_by by.GlobChars = 0
-edits_by by.Subsequence = 0
-edits_by (by.Swaps edits) = edits
-edits_by (by.SwapsChars edits) = edits
-edits_by (by.Fuzzy edits) = edits
-edits_by (by.FuzzyChars edits) = edits
-
 abbrev pub edits_of : Choice → ℕ
-edits_of c = unwrap_or (option_map (λ s. edits_by s.by) c.sought) 0
+edits_of c = unwrap_or (option_map (λ s. most_by s.by) c.sought) 0
 
 -- the same with other edits
 abbrev pub by_edits : ℕ → SearchBy → SearchBy
@@ -117,6 +107,21 @@ chosen kind c pairs = accepted (is_chosen kind c) pairs
 abbrev pub closest : TrieKind → Choice → Pairs → ℕ → ℕ → Pairs
 closest kind c pairs e zero = chosen kind (at_edits e c) pairs
 closest kind c pairs e (suc n) = if length (chosen kind (at_edits e c) pairs) == 0 then closest kind c pairs (suc e) n else chosen kind (at_edits e c) pairs
+
+-- how many edits make a key of the word by which keys are sought, if some number does; none if it finds the key by no
+-- edits, or if there is no word
+abbrev pub edits_matched : TrieKind → Option Sought → List ℕ → Option ℕ
+edits_matched kind None key = Some 0
+edits_matched kind (Some s) key =
+    if is_word s.by (word_by (kind_of kind) s.by s.word.now) then edits_to (ignores_case (kind_of kind)) s.by (word_by (kind_of kind) s.by s.word.now) (folded_key (kind_of kind) key) else None
+
+-- whether the other conditions of a choice hold
+abbrev pub is_kept : TrieKind → Choice → List ℕ → Bool
+is_kept kind c key = begins_with (kind_of kind) c.prefix.now key && is_in kind c.range key
+
+-- the same number of a key of which the other conditions hold
+abbrev pub measured : TrieKind → Choice → List ℕ → Option ℕ
+measured kind c key = if is_kept kind c key then edits_matched kind c.sought key else None
 
 -- what is left of a prefix begins what follows in a key, if all before was as it
 abbrev pub begins_left : TrieKind → Option (List ℕ) → List ℕ → Bool

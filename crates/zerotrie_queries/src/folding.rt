@@ -4,13 +4,13 @@ ghost use Rattle.std.specs.Prelude.{◌≡◌, IfOk};
 ghost use Rattle.std.specs.Range.Bound.{bound_map};
 ghost use Rattle.zerotrie_core.specs.Kinds.{kind_of};
 ghost use Rattle.zerotrie_index.specs.Tries.{folded_key};
-ghost use Rattle.zerotrie_queries.specs.Chosen.{folded_bound, word_in, AreWordsOf, HasWords};
+ghost use Rattle.zerotrie_queries.specs.Chosen.{folded_bound, word_of, AreWordsOf, HasWords};
 
 use crate::question::{Choice, Sought};
 use std::alloc::{AllocError, Global};
 use std::ops::Bound;
 use zerotrie_core::TrieKind;
-use zerotrie_search::{KeyRange, fold_by};
+use zerotrie_search::{KeyRange, fold_by, fold_word};
 
 /// Returns bytes as a kind compares them.
 fn fold(alloc: Global, kind: TrieKind, bytes: &[u8]) -> Result<Vec<u8>, AllocError>
@@ -49,14 +49,20 @@ fn lent(bound: &Bound<Vec<u8>>) -> Bound<&[u8]>
     }
 }
 
-/// Returns the word by which keys are sought, or no bytes.
-fn word_in<'a>(choice: Choice<'a>) -> &'a [u8]
-    ensures { result.now ≡ word_in choice.entry }
+/// Returns the word by which keys are sought, as a kind compares them, or no bytes.
+fn word_of(
+    alloc: Global,
+    kind: TrieKind,
+    sought: Option<Sought<'_>>,
+) -> Result<Vec<u8>, AllocError>
+    ensures { IfOk result (λ v. v.items ≡ word_of kind sought.entry) }
 {
-    match choice.sought {
-        Some(sought) => sought.word,
-        None => &[],
+    let mut word = Vec::new(alloc);
+    if let Some(sought) = sought {
+        word.extend_from_slice(sought.word)?;
+        fold_word(kind, sought.by, word.as_mut_slice());
     }
+    Ok(word)
 }
 
 /// The words of a choice, as a kind compares them.
@@ -77,7 +83,7 @@ impl FoldedWords {
             prefix: fold(alloc, kind, choice.prefix)?,
             from: fold_bound(alloc, kind, choice.range.from)?,
             to: fold_bound(alloc, kind, choice.range.to)?,
-            word: fold(alloc, kind, word_in(choice))?,
+            word: word_of(alloc, kind, choice.sought)?,
         })
     }
 

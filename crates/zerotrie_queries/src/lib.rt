@@ -15,6 +15,7 @@ mod folding;
 mod json_text;
 mod listing;
 mod lookups;
+mod near;
 mod prefix;
 mod print;
 mod question;

@@ -6,13 +6,15 @@ ghost use Rattle.zerotrie_core.specs.Maps.{Map, beginning};
 ghost use Rattle.zerotrie_core.specs.Texts.{Means};
 ghost use Rattle.zerotrie_core.specs.WellFormed.{IsWellFormed};
 ghost use Rattle.zerotrie_core.specs.Kinds.{kind_of};
+ghost use Rattle.zerotrie_index.specs.Tries.{folded_key};
+ghost use Rattle.zerotrie_search.specs.Automata.{any_accepts, any_edits_to, any_most, free_if};
 ghost use Rattle.zerotrie_search.specs.Searches.{accepted};
 ghost use Rattle.std.specs.Range.Bound.{bound_map};
 ghost use Rattle.zerotrie_core.specs.declared.TrieKind.{TrieKind};
 ghost use Rattle.zerotrie_core.specs.declared.TrieKind.TheVariants.{Ignore};
-ghost use Rattle.zerotrie_queries.specs.Chosen.{at_edits, chosen, closest, edits_of, is_chosen, is_in, is_matched, IsFolded};
+ghost use Rattle.zerotrie_queries.specs.Chosen.{at_edits, chosen, closest, edits_matched, edits_of, is_chosen, is_in, is_matched, measured, IsFolded};
 ghost use Rattle.zerotrie_queries.specs.Sorted.{AreWithin, picked};
-ghost use Rattle.zerotrie_queries.specs.declared.question.Order.TheVariants.{ByBytes, Closest};
+ghost use Rattle.zerotrie_queries.specs.declared.question.Order.TheVariants.{ByBytes, Closest, Nearest};
 ghost use Rattle.zerotrie_queries.specs.Listed.{AreListed, AreListedInPart, AreNoText, AreUnlisted, IsListingNoted};
 ghost use Rattle.zerotrie_files.specs.Faults.{IsNoted};
 ghost use Rattle.zerotrie_queries.specs.declared.listing.ListError.TheVariants.{Failed};
@@ -22,6 +24,7 @@ mod json_object;
 
 use crate::folding::FoldedWords;
 use crate::listing::forms::write_first;
+use crate::near::stream_near;
 use crate::prefix::KindPrefix;
 use crate::print::Form;
 use crate::question::{Choice, Order};
@@ -32,7 +35,9 @@ use std::io::Write;
 use std::ops::Bound;
 use zerotrie_core::{PairStream, Trie, TrieKind, TrieRef};
 use zerotrie_files::Noted;
-use zerotrie_search::{Automaton, Both, ByKind, KeyRange, Not, Search, StartsWith, by_automaton};
+use zerotrie_search::{
+    AnyAutomaton, Automaton, Both, ByKind, Fuzzy, KeyRange, Not, Search, StartsWith, by_automaton,
+};
 
 /// Why pairs are not listed, or not all of them.
 #[derive(Debug, Drop)]
@@ -241,7 +246,7 @@ fn write_stored<W: Write>(
     let Some(sought) = choice.sought else {
         return write_unmatched(alloc, trie, form, choice, limit, output);
     };
-    let Some(any) = sought.automaton() else {
+    let Some(any) = sought.automaton(trie.kind) else {
         let no_key = Not(StartsWith(b""));
         return write_matched(alloc, trie, form, choice, no_key, limit, output);
     };
@@ -360,7 +365,7 @@ fn write_between<W: Write>(
         let any_key = StartsWith(b"");
         return write_matched_between(alloc, trie, form, choice, any_key, limit, from, to, output);
     };
-    let Some(any) = sought.automaton() else {
+    let Some(any) = sought.automaton(trie.kind) else {
         let no_key = Not(StartsWith(b""));
         return write_matched_between(alloc, trie, form, choice, no_key, limit, from, to, output);
     };
@@ -494,7 +499,7 @@ fn has_chosen(alloc: Global, trie: &TrieRef<'_>, choice: Choice<'_>) -> Result<b
     let Some(sought) = choice.sought else {
         return has_matched(alloc, trie, choice, StartsWith(b""));
     };
-    let Some(any) = sought.automaton() else {
+    let Some(any) = sought.automaton(trie.kind) else {
         return has_matched(alloc, trie, choice, Not(StartsWith(b"")));
     };
     let kind = trie.kind;
@@ -548,6 +553,150 @@ fn write_closest<W: Write>(
     write_sorted(alloc, trie, form, choice.with_edits(edits), limit, output)
 }
 
+/// Writes the first pairs whose keys are chosen, the nearest first. The automaton measures keys as the word
+/// of the choice does.
+fn write_near<T: Fuzzy, W: Write>(
+    alloc: Global,
+    trie: &TrieRef<'_>,
+    form: Form,
+    choice: Choice<'_>,
+    automaton: T,
+    limit: Option<usize>,
+    output: &mut Noted<W>,
+) -> io::Result<Option<Vec<u8>>>
+    requires folded { IsFolded trie.now.kind choice }
+    requires most { T.most automaton ≡ edits_of choice }
+    requires measures { (key : List ℕ)
+        → T.measure automaton key ≡ edits_matched trie.now.kind choice.sought key }
+    ensures all { IfOk result (λ key. IfNone key (AreListed form
+        (picked Nearest trie.now.kind choice.entry) limit trie.now.kind trie.now.bytes.now
+        (W.contents output.old.inner) (W.contents output.new.inner))) }
+    ensures none { IfOk result (λ key. IfSome key (λ k. AreNoText form
+        (picked Nearest trie.now.kind choice.entry) limit trie.now.kind trie.now.bytes.now k.items
+        × (output.new ≡ output.old))) }
+    ensures part { OnErr result (AreListedInPart form (picked Nearest trie.now.kind choice.entry)
+        limit trie.now.kind trie.now.bytes.now (W.contents output.old.inner)
+        (W.contents output.new.inner)) }
+    ensures noted { IsNoted result output.old.failed output.new.failed }
+{
+    if !trie.is_well_formed() {
+        return Ok(None);
+    }
+    let prefix = KindPrefix {
+        kind: trie.kind,
+        prefix: choice.prefix,
+    };
+    let kept = Both(prefix, ByKind(trie.kind, choice.range));
+    let seen = stream_near(alloc, trie, automaton, kept)?;
+    let pairs = stream_near(alloc, trie, automaton, kept)?;
+    write_first(alloc, form, seen, pairs, limit, output)
+}
+
+/// Writes the first pairs whose keys are chosen, all of them by no edit, in the order of their bytes.
+fn write_exact<W: Write>(
+    alloc: Global,
+    trie: &TrieRef<'_>,
+    form: Form,
+    choice: Choice<'_>,
+    limit: Option<usize>,
+    output: &mut Noted<W>,
+) -> io::Result<Option<Vec<u8>>>
+    requires folded { IsFolded trie.now.kind choice }
+    requires exact { (key : List ℕ)
+        → measured trie.now.kind choice key ≡ free_if (is_chosen trie.now.kind choice key) }
+    ensures all { IfOk result (λ key. IfNone key (AreListed form
+        (picked Nearest trie.now.kind choice.entry) limit trie.now.kind trie.now.bytes.now
+        (W.contents output.old.inner) (W.contents output.new.inner))) }
+    ensures none { IfOk result (λ key. IfSome key (λ k. AreNoText form
+        (picked Nearest trie.now.kind choice.entry) limit trie.now.kind trie.now.bytes.now k.items
+        × (output.new ≡ output.old))) }
+    ensures part { OnErr result (AreListedInPart form (picked Nearest trie.now.kind choice.entry)
+        limit trie.now.kind trie.now.bytes.now (W.contents output.old.inner)
+        (W.contents output.new.inner)) }
+    ensures noted { IsNoted result output.old.failed output.new.failed }
+{
+    write_sorted(alloc, trie, form, choice, limit, output)
+}
+
+/// Writes the first pairs whose keys are chosen, the nearest first, by the automaton of a word.
+fn write_by_edits<W: Write>(
+    alloc: Global,
+    trie: &TrieRef<'_>,
+    form: Form,
+    choice: Choice<'_>,
+    any: AnyAutomaton<'_>,
+    limit: Option<usize>,
+    output: &mut Noted<W>,
+) -> io::Result<Option<Vec<u8>>>
+    requires folded { IsFolded trie.now.kind choice }
+    requires most { any_most any ≡ edits_of choice }
+    requires edits { (key : List ℕ) → any_edits_to any (folded_key (kind_of trie.now.kind) key)
+        ≡ edits_matched trie.now.kind choice.sought key }
+    requires finds { (key : List ℕ) → any_accepts any (folded_key (kind_of trie.now.kind) key)
+        ≡ is_matched trie.now.kind choice.sought key }
+    ensures all { IfOk result (λ key. IfNone key (AreListed form
+        (picked Nearest trie.now.kind choice.entry) limit trie.now.kind trie.now.bytes.now
+        (W.contents output.old.inner) (W.contents output.new.inner))) }
+    ensures none { IfOk result (λ key. IfSome key (λ k. AreNoText form
+        (picked Nearest trie.now.kind choice.entry) limit trie.now.kind trie.now.bytes.now k.items
+        × (output.new ≡ output.old))) }
+    ensures part { OnErr result (AreListedInPart form (picked Nearest trie.now.kind choice.entry)
+        limit trie.now.kind trie.now.bytes.now (W.contents output.old.inner)
+        (W.contents output.new.inner)) }
+    ensures noted { IsNoted result output.old.failed output.new.failed }
+{
+    let kind = trie.kind;
+    match any {
+        AnyAutomaton::Fuzzy(word) => {
+            write_near(alloc, trie, form, choice, ByKind(kind, word), limit, output)
+        }
+        AnyAutomaton::FuzzyChars(word) => {
+            write_near(alloc, trie, form, choice, ByKind(kind, word), limit, output)
+        }
+        AnyAutomaton::Swaps(word) => {
+            write_near(alloc, trie, form, choice, ByKind(kind, word), limit, output)
+        }
+        AnyAutomaton::SwapsChars(word) => {
+            write_near(alloc, trie, form, choice, ByKind(kind, word), limit, output)
+        }
+        AnyAutomaton::Prefix(_)
+        | AnyAutomaton::Range(_)
+        | AnyAutomaton::Glob(_)
+        | AnyAutomaton::GlobChars(_)
+        | AnyAutomaton::Subsequence(_) => write_exact(alloc, trie, form, choice, limit, output),
+    }
+}
+
+/// Writes the first pairs whose keys are chosen, the nearest first.
+fn write_nearest<W: Write>(
+    alloc: Global,
+    trie: &TrieRef<'_>,
+    form: Form,
+    choice: Choice<'_>,
+    limit: Option<usize>,
+    output: &mut Noted<W>,
+) -> io::Result<Option<Vec<u8>>>
+    requires { IsFolded trie.now.kind choice }
+    ensures all { IfOk result (λ key. IfNone key (AreListed form
+        (picked Nearest trie.now.kind choice.entry) limit trie.now.kind trie.now.bytes.now
+        (W.contents output.old.inner) (W.contents output.new.inner))) }
+    ensures none { IfOk result (λ key. IfSome key (λ k. AreNoText form
+        (picked Nearest trie.now.kind choice.entry) limit trie.now.kind trie.now.bytes.now k.items
+        × (output.new ≡ output.old))) }
+    ensures part { OnErr result (AreListedInPart form (picked Nearest trie.now.kind choice.entry)
+        limit trie.now.kind trie.now.bytes.now (W.contents output.old.inner)
+        (W.contents output.new.inner)) }
+    ensures noted { IsNoted result output.old.failed output.new.failed }
+{
+    let Some(sought) = choice.sought else {
+        return write_exact(alloc, trie, form, choice, limit, output);
+    };
+    match sought.automaton(trie.kind) {
+        Some(any) => write_by_edits(alloc, trie, form, choice, any, limit, output),
+        None => write_exact(alloc, trie, form, choice, limit, output),
+    }
+}
+
 /// Writes the first pairs whose keys are chosen, in an order.
 fn write_ordered<W: Write>(
     alloc: Global,
@@ -574,6 +723,7 @@ fn write_ordered<W: Write>(
         Order::Stored => write_stored(alloc, trie, form, choice, limit, output),
         Order::ByBytes => write_sorted(alloc, trie, form, choice, limit, output),
         Order::Closest => write_closest(alloc, trie, form, choice, limit, output),
+        Order::Nearest => write_nearest(alloc, trie, form, choice, limit, output),
     }
 }
 

@@ -1,11 +1,12 @@
 //! What a file is asked: which keys are looked up in what, and which pairs are listed.
 
 ghost use Rattle.std.specs.Prelude.{◌≡◌, true, false, IfSome, IfNone};
-ghost use Rattle.zerotrie_search.specs.Automata.{any_accepts, finds};
-ghost use Rattle.zerotrie_queries.specs.Chosen.{at_edits, by_edits, edits_by, edits_of, is_word};
+ghost use Rattle.zerotrie_core.specs.Kinds.{kind_of};
+ghost use Rattle.zerotrie_search.specs.Automata.{any_accepts, any_edits_to, any_most, edits_to, finds_in, ignores_case, most_by};
+ghost use Rattle.zerotrie_queries.specs.Chosen.{at_edits, by_edits, edits_of, is_word};
 ghost use Rattle.zerotrie_queries.specs.Finders.{asks_keys};
 
-use zerotrie_core::TrieRef;
+use zerotrie_core::{TrieKind, TrieRef};
 use zerotrie_reverse::KeysByValue;
 use zerotrie_search::{AnyAutomaton, KeyRange, SearchBy};
 
@@ -76,14 +77,18 @@ pub struct Sought<'a> {
 }
 
 impl<'a> Sought<'a> {
-    /// Returns the automaton of the keys that the word finds, or `None` if the word is none of its sort.
+    /// Returns the automaton of the keys that the word finds, as a kind compares them, or `None` if the word
+    /// is none of its sort. The word is as the kind compares keys.
     #[tactic(auto, using(crate::proofs::WordLemmas::word_faultless, crate::proofs::WordLemmas::word_error))]
-    pub(crate) fn automaton(self) -> Option<AnyAutomaton<'a>>
+    pub(crate) fn automaton(self, kind: TrieKind) -> Option<AnyAutomaton<'a>>
         ensures some { IfSome result (λ any. (is_word self.entry.by self.entry.word.now ≡ true)
-            × (any_accepts any ≡ finds self.entry.by self.entry.word.now)) }
+            × (any_accepts any ≡ finds_in (ignores_case (kind_of kind)) self.entry.by self.entry.word.now)) }
+        ensures edits { IfSome result (λ any.
+            (any_edits_to any ≡ edits_to (ignores_case (kind_of kind)) self.entry.by self.entry.word.now)
+            × (any_most any ≡ most_by self.entry.by)) }
         ensures none { IfNone result (is_word self.entry.by self.entry.word.now ≡ false) }
     {
-        match AnyAutomaton::new(self.by, self.word) {
+        match AnyAutomaton::by_kind(kind, self.by, self.word) {
             Ok(automaton) => Some(automaton),
             Err(_) => None,
         }
@@ -91,7 +96,7 @@ impl<'a> Sought<'a> {
 
     /// Returns how many edits are allowed, and 0 if keys are not sought by edits.
     fn edits(self) -> u32
-        ensures { result ≡ edits_by self.entry.by }
+        ensures { result ≡ most_by self.entry.by }
     {
         match self.by {
             SearchBy::Fuzzy(edits)
@@ -123,7 +128,7 @@ impl<'a> Sought<'a> {
 }
 
 /// Which keys a listing has: those that hold all of this. In a trie that ignores case, keys, bounds and
-/// the word are compared in lower case.
+/// the word are compared in lower case, and the letters of a pattern are taken in both cases.
 #[derive(Clone, Copy, Debug)]
 pub struct Choice<'a> {
     /// They begin with these bytes.
@@ -170,4 +175,7 @@ pub enum Order {
     /// That of bytes, and only the pairs that the fewest edits of the word find, of those that its edits
     /// do. If keys are not sought by edits, all pairs.
     Closest,
+    /// The pairs that fewer edits of the word find first, and those that as many find in the order of bytes.
+    /// If keys are not sought by edits, that of bytes.
+    Nearest,
 }

@@ -4,8 +4,8 @@ use Rattle.std.specs.Prelude.{not, nat_le, ◌==◌, ◌&&◌, ◌||◌, if◌th
 use Rattle.std.specs.Option.{option_map, option_map_or}
 use Rattle.std.proofs.Math.Bool.{beq}
 use Rattle.std.proofs.lemmas.Bool.{and_right, and_from, ne_eqb, eq-eqb, le-leb}
-use Rattle.zerotrie_search.specs.Globs.{Class, with_letter, class_at, has, rises, is_within, class_of, opened, escaped, first_item, items_to, left_to, items, no_item, takes, Item, many, any, one, class, Reading}
-use Rattle.zerotrie_search.specs.GlobMasks.{closing, class_has, add_range, or_found, is_many, read}
+use Rattle.zerotrie_search.specs.Globs.{Class, with_letter, class_at, has, rises, is_within, class_of, opened, escaped, first_item, items_to, left_to, items, no_item, Item, many, any, one, class, Reading}
+use Rattle.zerotrie_search.specs.GlobMasks.{closing, class_has, has_one, takes_one, add_range, or_found, is_many, read}
 
 or_end : (x : Bool) → (x || false) ≡ x
 or_end true = refl
@@ -29,6 +29,12 @@ answer p x rest = if p then Some (x, rest) else None
 same_le : (n : ℕ) → nat_le n n ≡ true
 same_le n = le-leb n n (omega arith)
 
+or_four : (a b c d : Bool) → ((a || b) || (c || d)) ≡ ((a || c) || (b || d))
+or_four true b c d = refl
+or_four false true true d = refl
+or_four false true false d = refl
+or_four false false c d = refl
+
 -- no range goes on after the first letter
 abbrev pub IsAlone : Class → Type 0
 IsAlone None = Unit {0}
@@ -36,17 +42,20 @@ IsAlone (Some ([], rest)) = Unit {0}
 IsAlone (Some (dash ∷ [], rest)) = Unit {0}
 IsAlone (Some (dash ∷ to ∷ more, rest)) = (not dash.0 && (dash.1 == 45)) ≡ false
 
-pub alone : (from : Bool × ℕ) (b : ℕ) (c : Class) → IsAlone c → class_has b (with_letter from c) ≡ add_range from.1 from.1 b (class_has b c)
+pub alone : (from : Bool × ℕ) (b : ℕ × ℕ) (c : Class) → IsAlone c → class_has b (with_letter from c) ≡ add_range from.1 from.1 b (class_has b c)
 alone from b None h = refl
-alone from b (Some ([], rest)) h = rw (same_le from.1, or_end (is_within from.1 from.1 b)) refl
-alone from b (Some (dash ∷ [], rest)) h = rw (same_le from.1) refl
+alone from b (Some ([], rest)) h = rw (same_le from.1, or_end (has_one (is_within from.1 from.1) b)) refl
+alone from b (Some (dash ∷ [], rest)) h =
+    rw (same_le from.1) (ap (λ x. Some (x, rest)) (or_four (is_within from.1 from.1 b.0) (is_within dash.1 dash.1 b.0) (is_within from.1 from.1 b.1) (is_within dash.1 dash.1 b.1)))
 alone from b (Some (dash ∷ to ∷ more, rest)) h = rw h (by_case (rises (dash ∷ to ∷ more)))
   where
-    by_case : (r : Bool) → answer r (is_within from.1 from.1 b || has (dash ∷ to ∷ more) b) rest ≡ add_range from.1 from.1 b (answer r (has (dash ∷ to ∷ more) b) rest)
-    by_case true = rw (same_le from.1) refl
+    by_case : (r : Bool) → answer r ((is_within from.1 from.1 b.0 || has (dash ∷ to ∷ more) b.0) || (is_within from.1 from.1 b.1 || has (dash ∷ to ∷ more) b.1)) rest
+      ≡ add_range from.1 from.1 b (answer r (has_one (has (dash ∷ to ∷ more)) b) rest)
+    by_case true =
+        rw (same_le from.1) (ap (λ x. Some (x, rest)) (or_four (is_within from.1 from.1 b.0) (has (dash ∷ to ∷ more) b.0) (is_within from.1 from.1 b.1) (has (dash ∷ to ∷ more) b.1)))
     by_case false = refl
 
-pub alone_is : (from : Bool × ℕ) (b : ℕ) (c d : Class) → c ≡ d → IsAlone d → class_has b (with_letter from c) ≡ add_range from.1 from.1 b (class_has b c)
+pub alone_is : (from : Bool × ℕ) (b : ℕ × ℕ) (c d : Class) → c ≡ d → IsAlone d → class_has b (with_letter from c) ≡ add_range from.1 from.1 b (class_has b c)
 alone_is from b c d is h = alone from b c (subst IsAlone (sym is) h)
 
 pub alone_at_end : (text : List ℕ) → IsAlone (closing text)
@@ -74,7 +83,7 @@ pub not_dash : (e : Bool) (d : ℕ) → (d ≡ 45 → ⊥) → (not e && (d == 4
 not_dash e d other = and_right (not e) (d == 45) (ne_eqb d 45 other)
 
 -- a range
-pub ranged : (from dash to : Bool × ℕ) (b : ℕ) (c : Class) → dash.0 ≡ false → dash.1 ≡ 45
+pub ranged : (from dash to : Bool × ℕ) (b : ℕ × ℕ) (c : Class) → dash.0 ≡ false → dash.1 ≡ 45
     → class_has b (with_letter from (with_letter dash (with_letter to c))) ≡ add_range from.1 to.1 b (class_has b c)
 ranged from dash to b None plain is = refl
 ranged from dash to b (Some (more, rest)) plain is = rw dashed (by_case (rises more))
@@ -82,28 +91,34 @@ ranged from dash to b (Some (more, rest)) plain is = rw dashed (by_case (rises m
     dashed : (not dash.0 && (dash.1 == 45)) ≡ true
     dashed = and_from (not dash.0) (dash.1 == 45) (ap not plain) (eq-eqb dash.1 45 is)
 
-    by_case : (q : Bool) → answer (nat_le from.1 to.1 && q) (is_within from.1 to.1 b || has more b) rest ≡ add_range from.1 to.1 b (answer q (has more b) rest)
-    by_case true = ap (λ p. answer p (is_within from.1 to.1 b || has more b) rest) (and_true (nat_le from.1 to.1))
-    by_case false = ap (λ p. answer p (is_within from.1 to.1 b || has more b) rest) (and_end (nat_le from.1 to.1))
+    found : Bool
+    found = (is_within from.1 to.1 b.0 || has more b.0) || (is_within from.1 to.1 b.1 || has more b.1)
+
+    regrouped : found ≡ (has_one (is_within from.1 to.1) b || has_one (has more) b)
+    regrouped = or_four (is_within from.1 to.1 b.0) (has more b.0) (is_within from.1 to.1 b.1) (has more b.1)
+
+    by_case : (q : Bool) → answer (nat_le from.1 to.1 && q) found rest ≡ add_range from.1 to.1 b (answer q (has_one (has more) b) rest)
+    by_case true = ap (λ p. answer p found rest) (and_true (nat_le from.1 to.1)) ∙ ap (λ x. answer (nat_le from.1 to.1) x rest) regrouped
+    by_case false = ap (λ p. answer p found rest) (and_end (nat_le from.1 to.1))
 
 -- what is found so far
 pub none_found : (o : Option (Bool × List ℕ)) → o ≡ or_found false o
 none_found None = refl
 none_found (Some r) = refl
 
-pub found_more : (found : Bool) (from to b : ℕ) (o : Option (Bool × List ℕ)) → from ≤ to
-    → or_found found (add_range from to b o) ≡ or_found (found || is_within from to b) o
+pub found_more : (found : Bool) (from to : ℕ) (b : ℕ × ℕ) (o : Option (Bool × List ℕ)) → from ≤ to
+    → or_found found (add_range from to b o) ≡ or_found (found || has_one (is_within from to) b) o
 found_more found from to b None h = refl
-found_more found from to b (Some r) h = rw (le-leb from to h) (ap (λ x. Some (x, r.1)) (or_three found (is_within from to b) r.0))
+found_more found from to b (Some r) h = rw (le-leb from to h) (ap (λ x. Some (x, r.1)) (or_three found (has_one (is_within from to) b) r.0))
 
-pub no_range : (found : Bool) (from to b : ℕ) (o : Option (Bool × List ℕ)) → nat_le from to ≡ false → or_found found (add_range from to b o) ≡ None
+pub no_range : (found : Bool) (from to : ℕ) (b : ℕ × ℕ) (o : Option (Bool × List ℕ)) → nat_le from to ≡ false → or_found found (add_range from to b o) ≡ None
 no_range found from to b None h = refl
 no_range found from to b (Some r) h = rw h refl
 
-pub found_at_end : (found : Bool) (b : ℕ) (c : ℕ) (text : List ℕ) → c ≡ 93 → or_found found (class_has b (closing (c ∷ text))) ≡ Some (found, text)
+pub found_at_end : (found : Bool) (b : ℕ × ℕ) (c : ℕ) (text : List ℕ) → c ≡ 93 → or_found found (class_has b (closing (c ∷ text))) ≡ Some (found, text)
 found_at_end found b c text is = rw (eq-eqb c 93 is) (ap (λ x. Some (x, text)) (or_end found))
 
-pub none_at_end : (found : Bool) (b : ℕ) (c : ℕ) (text : List ℕ) → (c ≡ 93 → ⊥) → or_found found (class_has b (closing (c ∷ text))) ≡ None
+pub none_at_end : (found : Bool) (b : ℕ × ℕ) (c : ℕ) (text : List ℕ) → (c ≡ 93 → ⊥) → or_found found (class_has b (closing (c ∷ text))) ≡ None
 none_at_end found b c text other = rw (ne_eqb c 93 other) refl
 
 -- each item has at least one letter
@@ -139,7 +154,7 @@ class_shorter : (pattern text : List ℕ) (negated : Bool) (c : Class) → lengt
 class_shorter pattern text negated None h s = tt
 class_shorter pattern text negated (Some ([], rest)) h s = tt
 class_shorter pattern text negated (Some (l ∷ ls, rest)) h s =
-    in_cases pattern (rises (l ∷ ls)) (Some (class negated (l ∷ ls), rest)) None (omega (arith, h, s)) tt
+    in_cases pattern (rises (l ∷ ls)) (Some (class negated (has (l ∷ ls)), rest)) None (omega (arith, h, s)) tt
 
 pub opened_shorter : (c : ℕ) (rest : List ℕ) → IsShorter (c ∷ rest) (opened rest)
 opened_shorter c [] = tt
@@ -162,11 +177,11 @@ shorter (c ∷ pattern) =
     by_escape [] = tt
     by_escape (d ∷ rest) = omega arith
 
-pub read_shorter : {X : Type 0} (f : X → (Bool × Bool) × List ℕ) (b : ℕ) (p : List ℕ) (o : Option X) (r : Reading) → option_map f o ≡ read b r → IsShorter p r → IfSome o (λ x. length (f x).1 < length p)
+pub read_shorter : {X : Type 0} (f : X → (Bool × Bool) × List ℕ) (b : ℕ × ℕ) (p : List ℕ) (o : Option X) (r : Reading) → option_map f o ≡ read b r → IsShorter p r → IfSome o (λ x. length (f x).1 < length p)
 read_shorter f b p None r is s = tt
 read_shorter f b p (Some x) None is s = absurd (cc)
 read_shorter f b p (Some x) (Some y) is s =
-    let e : ◌≡◌ {A = (Bool × Bool) × List ℕ} (f x) ((is_many y.0, takes y.0 b), y.1) = cc in
+    let e : ◌≡◌ {A = (Bool × Bool) × List ℕ} (f x) ((is_many y.0, takes_one y.0 b), y.1) = cc in
     let len = ap (λ z. length z.1) e in
     omega (arith, len, s)
 
@@ -180,27 +195,27 @@ class_item false false = refl
 abbrev as_item : Bool → Bool × List ℕ → (Bool × Bool) × List ℕ
 as_item negated r = ((false, not (beq r.0 negated)), r.1)
 
-read_class : (b : ℕ) (negated : Bool) (l : Bool × ℕ) (c : Class) → option_map (as_item negated) (class_has b (with_letter l c)) ≡ read b (class_of negated (with_letter l c))
+read_class : (b : ℕ × ℕ) (negated : Bool) (l : Bool × ℕ) (c : Class) → option_map (as_item negated) (class_has b (with_letter l c)) ≡ read b (class_of negated (with_letter l c))
 read_class b negated l None = refl
 read_class b negated l (Some (ls, rest)) = by_case (rises (l ∷ ls))
   where
-    by_case : (r : Bool) → option_map (as_item negated) (answer r (has (l ∷ ls) b) rest) ≡ read b (if r then Some (class negated (l ∷ ls), rest) else None)
-    by_case true = ap (λ t. Some ((false, t), rest)) (sym (class_item negated (has (l ∷ ls) b)))
+    by_case : (r : Bool) → option_map (as_item negated) (answer r (has_one (has (l ∷ ls)) b) rest) ≡ read b (if r then Some (class negated (has (l ∷ ls)), rest) else None)
+    by_case true = ap (λ t. Some ((false, t), rest)) (sym (class_item negated (has_one (has (l ∷ ls)) b)))
     by_case false = refl
 
-pub class_read : (b : ℕ) (negated : Bool) (k : Class) (l : Bool × ℕ) (c : Class) (o : Option (Bool × List ℕ)) → k ≡ with_letter l c → o ≡ class_has b k
+pub class_read : (b : ℕ × ℕ) (negated : Bool) (k : Class) (l : Bool × ℕ) (c : Class) (o : Option (Bool × List ℕ)) → k ≡ with_letter l c → o ≡ class_has b k
     → option_map (λ r. ((false, not (beq r.0 negated)), r.1)) o ≡ read b (class_of negated k)
 class_read b negated k l c o is has_is =
     ap (option_map (as_item negated)) (has_is ∙ ap (class_has b) is) ∙ read_class b negated l c ∙ ap (λ x. read b (class_of negated x)) (sym is)
 
 -- what an item is, beside a letter
-pub read_item : (b : ℕ) (m t : Bool) (rest : List ℕ) (r : Reading) → Some ((m, t), rest) ≡ read b r → (i : Item) × ((r ≡ Some (i, rest)) × (is_many i ≡ m) × (takes i b ≡ t))
+pub read_item : (b : ℕ × ℕ) (m t : Bool) (rest : List ℕ) (r : Reading) → Some ((m, t), rest) ≡ read b r → (i : Item) × ((r ≡ Some (i, rest)) × (is_many i ≡ m) × (takes_one i b ≡ t))
 read_item b m t rest None is = absurd (cc)
 read_item b m t rest (Some (i, left)) is =
-    let e : ◌≡◌ {A = (Bool × Bool) × List ℕ} ((m, t), rest) ((is_many i, takes i b), left) = cc in
+    let e : ◌≡◌ {A = (Bool × Bool) × List ℕ} ((m, t), rest) ((is_many i, takes_one i b), left) = cc in
     (i, (ap (λ l. Some (i, l)) (sym (ap (λ x. x.1) e)), sym (ap (λ x. x.0.0) e), sym (ap (λ x. x.0.1) e)))
 
-pub read_none : (b : ℕ) (r : Reading) → None ≡ read b r → r ≡ None
+pub read_none : (b : ℕ × ℕ) (r : Reading) → None ≡ read b r → r ≡ None
 read_none b None is = refl
 read_none b (Some x) is = absurd (cc)
 

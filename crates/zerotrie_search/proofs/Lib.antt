@@ -10,6 +10,7 @@ mod MarkLemmas
 mod GlobTextLemmas
 mod WordLemmas
 mod WantedLemmas
+mod CaseLemmas
 mod CharLemmas
 mod TableLemmas
 mod PlaceLemmas

@@ -1,5 +1,6 @@
 -- Patterns as masks: a bit for each item, and one for the end.
-use Rattle.std.specs.Prelude.{◌≡◌, ◌<◌, ℕ, List, [], ◌∷◌, ◌==◌, ◌&&◌, ◌||◌, length, drop, nat_le, slice_index, Bool, true, false, Option, Some, None, if◌then◌else◌}
+use Rattle.std.specs.Prelude.{◌≡◌, ◌<◌, ℕ, List, [], ◌∷◌, ◌==◌, ◌&&◌, ◌||◌, not, length, drop, nat_le, slice_index, Bool, true, false, Option, Some, None, if◌then◌else◌}
+use Rattle.std.specs.Char.{to_ascii_lowercase, to_ascii_uppercase}
 use Rattle.std.specs.Int.{bit_at}
 use Rattle.std.specs.Str.{chars}
 use Rattle.std.proofs.Common.{suc}
@@ -18,15 +19,23 @@ abbrev pub closing : List ℕ → Class
 closing [] = None
 closing (c ∷ text) = if c == 93 then Some ([], text) else None
 
--- whether a class has a letter, and what is left behind it; its ranges rise
-abbrev pub class_has : ℕ → Class → Option (Bool × List ℕ)
-class_has b None = None
-class_has b (Some c) = if rises c.0 then Some (has c.0 b, c.1) else None
+-- a letter in its two cases, or twice if its case counts
+abbrev pub cases : (any_case : Bool) → ℕ → ℕ × ℕ
+cases any_case b = if any_case then (to_ascii_lowercase b, to_ascii_uppercase b) else (b, b)
+
+-- whether a set has one of two letters
+abbrev pub has_one : (ℕ → Bool) → ℕ × ℕ → Bool
+has_one set l = set l.0 || set l.1
+
+-- whether a class has one of them, and what is left behind it; its ranges rise
+abbrev pub class_has : ℕ × ℕ → Class → Option (Bool × List ℕ)
+class_has l None = None
+class_has l (Some c) = if rises c.0 then Some (has_one (has c.0) l, c.1) else None
 
 -- the same of a class with a range in front
-abbrev pub add_range : ℕ → ℕ → ℕ → Option (Bool × List ℕ) → Option (Bool × List ℕ)
-add_range from to b None = None
-add_range from to b (Some r) = if nat_le from to then Some (is_within from to b || r.0, r.1) else None
+abbrev pub add_range : ℕ → ℕ → ℕ × ℕ → Option (Bool × List ℕ) → Option (Bool × List ℕ)
+add_range from to l None = None
+add_range from to l (Some r) = if nat_le from to then Some (has_one (is_within from to) l || r.0, r.1) else None
 
 -- and of one whose letters in front have it
 abbrev pub or_found : Bool → Option (Bool × List ℕ) → Option (Bool × List ℕ)
@@ -38,10 +47,17 @@ abbrev pub is_many : Item → Bool
 is_many glob.many = true
 is_many i = false
 
--- whether the first item is a star; whether it takes a letter, and what is left after it
-abbrev pub read : ℕ → glob.Reading → Option ((Bool × Bool) × List ℕ)
-read b None = None
-read b (Some r) = Some ((is_many r.0, takes r.0 b), r.1)
+-- whether an item takes a letter that has these cases
+abbrev pub takes_one : Item → ℕ × ℕ → Bool
+takes_one glob.many l = true
+takes_one glob.any l = true
+takes_one (glob.one c) l = has_one (λ b. c == b) l
+takes_one (glob.class negated set) l = if negated then not (has_one set l) else has_one set l
+
+-- whether the first item is a star; whether it takes such a letter, and what is left after it
+abbrev pub read : ℕ × ℕ → glob.Reading → Option ((Bool × Bool) × List ℕ)
+read l None = None
+read l (Some r) = Some ((is_many r.0, takes_one r.0 l), r.1)
 
 -- what has to match after an item took a letter: a star may take more
 abbrev pub after : Item → List Item → List ℕ → Bool

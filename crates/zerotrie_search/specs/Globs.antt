@@ -1,5 +1,6 @@
 -- Patterns: their items, and the keys that they match.
-use Rattle.std.specs.Prelude.{ℕ, List, [], ◌∷◌, ◌==◌, ◌&&◌, ◌||◌, not, length, nat_le, Bool, true, false, Option, Some, None, if◌then◌else◌}
+use Rattle.std.specs.Prelude.{ℕ, List, [], ◌∷◌, ◌==◌, ◌&&◌, ◌||◌, not, length, map, nat_le, Bool, true, false, Option, Some, None, if◌then◌else◌}
+use Rattle.std.specs.Char.{to_ascii_lowercase, to_ascii_uppercase}
 use Rattle.std.specs.Option.{option_map_or}
 use Rattle.std.specs.Str.{chars, is_utf8}
 use Rattle.std.proofs.Common.{zero, suc}
@@ -53,7 +54,7 @@ pub data Item : Type 0 where
   many : Item
   any : Item
   one : ℕ → Item
-  class : Bool → List (Bool × ℕ) → Item
+  class : Bool → (ℕ → Bool) → Item
 
 -- an item, and what is left of the pattern after it
 abbrev pub Reading : Type 0
@@ -63,7 +64,7 @@ Reading = Option (Item × List ℕ)
 abbrev pub class_of : Bool → Class → Reading
 class_of negated None = None
 class_of negated (Some ([], rest)) = None
-class_of negated (Some (l ∷ ls, rest)) = if rises (l ∷ ls) then Some (class negated (l ∷ ls), rest) else None
+class_of negated (Some (l ∷ ls, rest)) = if rises (l ∷ ls) then Some (class negated (has (l ∷ ls)), rest) else None
 
 -- a class that begins behind its opening bracket
 abbrev pub opened : List ℕ → Reading
@@ -108,7 +109,21 @@ abbrev pub takes : Item → ℕ → Bool
 takes many b = true
 takes any b = true
 takes (one c) b = c == b
-takes (class negated letters) b = if negated then not (has letters b) else has letters b
+takes (class negated set) b = if negated then not (set b) else set b
+
+-- whether a set has a letter in either case
+abbrev pub has_either : (ℕ → Bool) → ℕ → Bool
+has_either set b = set (to_ascii_lowercase b) || set (to_ascii_uppercase b)
+
+-- the item of a pattern that ignores case: each letter that it names is taken in both cases
+abbrev pub in_any_case : Item → Item
+in_any_case many = many
+in_any_case any = any
+in_any_case (one c) = class false (has_either (λ b. c == b))
+in_any_case (class negated set) = class negated (has_either set)
+
+abbrev pub cased : (any_case : Bool) → List Item → List Item
+cased any_case items = if any_case then map in_any_case items else items
 
 -- whether items match a key
 abbrev pub matches : List Item → List ℕ → Bool
@@ -119,6 +134,6 @@ matches (many ∷ more) (b ∷ key) = matches more (b ∷ key) || matches (many 
 matches (i ∷ more) [] = false
 matches (i ∷ more) (b ∷ key) = takes i b && matches more key
 
--- whether a key is text, and a pattern of characters matches it
-abbrev pub matches_text : List ℕ → List ℕ → Bool
-matches_text pattern key = is_utf8 key && matches (items pattern) (chars key)
+-- whether a key is text, and items match its characters
+abbrev pub matches_text : List Item → List ℕ → Bool
+matches_text items key = is_utf8 key && matches items (chars key)

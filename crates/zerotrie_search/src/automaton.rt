@@ -65,3 +65,20 @@ pub trait Automaton {
         None
     }
 }
+
+/// Returns whether an automaton accepts a key.
+///
+/// ```
+/// assert!(rt; accepts(&StartsWith(b"in"), b"into"));
+/// ```
+pub fn accepts<T: Automaton>(automaton: &T, key: &[u8]) -> bool
+    ensures { result ≡ T.accepts automaton.now key.now }
+{
+    let mut left = key;
+    let mut state = automaton.start();
+    while let Some((byte, rest)) = left.split_first() {
+        state = automaton.step(state, *byte);
+        left = rest;
+    }
+    automaton.is_match(state)
+}

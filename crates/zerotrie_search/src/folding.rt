@@ -5,8 +5,11 @@ ghost use Rattle.std.specs.Char.{to_ascii_lowercase};
 ghost use Rattle.zerotrie_base.specs.Kind.{fold_byte};
 ghost use Rattle.zerotrie_base.specs.Kinds.{kind_of};
 ghost use Rattle.zerotrie_core.specs.ByteSets.{is_in};
+ghost use Rattle.zerotrie_search.specs.Automata.{ignores_case, word_by};
 
+use crate::any::SearchBy;
 use crate::automaton::Automaton;
+use crate::fuzzy::Fuzzy;
 use zerotrie_core::{ByteSet, TrieKind, by_kind, folded};
 
 /// Returns a byte as the kind compares it: an ASCII letter in lower case if the kind ignores case.
@@ -34,6 +37,32 @@ pub fn fold_by(kind: TrieKind, bytes: &mut [u8])
     }
 }
 
+/// Makes a word the one as which a kind compares it, as `fold_by` does, but leaves a pattern as it is: its
+/// letters may be the ends of a range.
+pub fn fold_word(kind: TrieKind, by: SearchBy, word: &mut [u8])
+    ensures { word.new ≡ word_by (kind_of kind) by word.old }
+{
+    match by {
+        SearchBy::Glob | SearchBy::GlobChars => {}
+        SearchBy::Prefix
+        | SearchBy::Subsequence
+        | SearchBy::Fuzzy(_)
+        | SearchBy::FuzzyChars(_)
+        | SearchBy::Swaps(_)
+        | SearchBy::SwapsChars(_) => fold_by(kind, word),
+    }
+}
+
+/// Returns whether a kind ignores case.
+pub(crate) fn ignores_case(kind: TrieKind) -> bool
+    ensures { result ≡ ignores_case (kind_of kind) }
+{
+    match kind {
+        TrieKind::Ignore => true,
+        TrieKind::Simple | TrieKind::Hash | TrieKind::Ext => false,
+    }
+}
+
 /// Accepts the keys that the automaton accepts once each byte is as a kind compares it: with ASCII
 /// letters in lower case in the kind that ignores case, and the key itself in another.
 ///
@@ -48,7 +77,8 @@ pub fn fold_by(kind: TrieKind, bytes: &mut [u8])
 /// assert!(rt; automaton.is_match(state));
 /// ```
 ///
-/// So give the automaton a word, a pattern or bounds that `fold_by` made.
+/// So give the automaton bounds or a word that `fold_by` made, and of a pattern use `Glob::in_any_case`.
+/// `fold_word` and `AnyAutomaton::by_kind` choose.
 #[derive(Clone, Copy, Debug)]
 pub struct ByKind<S>(pub TrieKind, pub S);
 
@@ -97,5 +127,23 @@ impl<S: Automaton> Automaton for ByKind<S> {
             TrieKind::Ignore => Some(with_upper_case(&wanted)),
             TrieKind::Simple | TrieKind::Hash | TrieKind::Ext => Some(wanted),
         }
+    }
+}
+
+impl<S: Fuzzy> Fuzzy for ByKind<S> {
+    ghost most = { λ s. S.most s.1 };
+
+    ghost measure = { λ s key. S.measure s.1 (map (fold_byte (kind_of s.0)) key) };
+
+    fn edits(&self) -> u8 {
+        self.1.edits()
+    }
+
+    fn with_edits(&self, edits: u8) -> Self {
+        ByKind(self.0, self.1.with_edits(edits))
+    }
+
+    fn distance(&self, state: S::State) -> Option<usize> {
+        self.1.distance(state)
     }
 }

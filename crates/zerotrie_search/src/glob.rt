@@ -1,8 +1,8 @@
 //! Keys that a pattern of a shell matches.
 
-ghost use Rattle.std.specs.Prelude.{◌≡◌, ◌≢◌, ◌<◌, [], length, IfOk, IfErr};
+ghost use Rattle.std.specs.Prelude.{◌≡◌, ◌≢◌, ◌<◌, [], length, true, false, IfOk, IfErr};
 ghost use Rattle.zerotrie_search.specs.Globs as glob;
-ghost use Rattle.zerotrie_search.specs.Globs.{matches};
+ghost use Rattle.zerotrie_search.specs.Globs.{cased, matches};
 ghost use Rattle.zerotrie_search.specs.GlobMasks.{any_match};
 ghost use Rattle.zerotrie_search.specs.GlobTables.{AreMasks};
 ghost use Rattle.zerotrie_search.specs.declared.TheConstants.{WORD_LIMIT};
@@ -52,14 +52,16 @@ pub enum GlobError {
 #[derive(Clone, Copy)]
 pub struct Glob<'p> {
     pattern: &'p [u8],
+    any_case: bool,
     masks: Masks,
-    ghost are: { AreMasks (glob.items pattern.now) masks },
+    ghost are: { AreMasks (cased any_case (glob.items pattern.now)) masks },
 }
 
 impl<'p> fmt::Debug for Glob<'p> {
     fn fmt<W: fmt::Write>(&self, f: &mut fmt::Formatter<W>) -> fmt::Result {
         f.debug_struct("Glob")
             .field("pattern", &self.pattern)
+            .field("any_case", &self.any_case)
             .finish()
     }
 }
@@ -72,21 +74,54 @@ impl<'p> Glob<'p> {
     /// assert!(rt; matches!(Glob::new(b"[z-a]"), Err(GlobError::Malformed)));
     /// ```
     pub fn new(pattern: &'p [u8]) -> Result<Self, GlobError>
-        ensures ok { IfOk result (λ g. (g.pattern.now ≡ pattern.now) × (glob.no_item pattern.now ≡ [])) }
+        ensures ok { IfOk result (λ g. (g.pattern.now ≡ pattern.now) × (g.any_case ≡ false)
+            × (glob.no_item pattern.now ≡ [])) }
         ensures malformed { IfErr result (λ e. e ≡ Malformed → glob.no_item pattern.now ≢ []) }
         ensures long { IfErr result (λ e. e ≡ TooLong → WORD_LIMIT < length (glob.items pattern.now)) }
     {
-        let masks = Masks::of(Text::Bytes(pattern))?;
-        Ok(Glob { pattern, masks })
+        Self::of(pattern, false)
+    }
+
+    /// Accepts the keys that the pattern matches in any case: an ASCII letter of it, in a class too, is
+    /// taken in both of its cases.
+    ///
+    /// ```
+    /// let automaton = Glob::in_any_case(b"[A-_]*")?;
+    /// let state = automaton.step(automaton.start(), b'k');
+    /// assert!(rt; automaton.is_match(state));
+    /// ```
+    pub fn in_any_case(pattern: &'p [u8]) -> Result<Self, GlobError>
+        ensures ok { IfOk result (λ g. (g.pattern.now ≡ pattern.now) × (g.any_case ≡ true)
+            × (glob.no_item pattern.now ≡ [])) }
+        ensures malformed { IfErr result (λ e. e ≡ Malformed → glob.no_item pattern.now ≢ []) }
+        ensures long { IfErr result (λ e. e ≡ TooLong → WORD_LIMIT < length (glob.items pattern.now)) }
+    {
+        Self::of(pattern, true)
+    }
+
+    /// Accepts the keys that the pattern matches, in any case or as they are.
+    pub(crate) fn of(pattern: &'p [u8], any_case: bool) -> Result<Self, GlobError>
+        ensures ok { IfOk result (λ g. (g.pattern.now ≡ pattern.now) × (g.any_case ≡ any_case)
+            × (glob.no_item pattern.now ≡ [])) }
+        ensures malformed { IfErr result (λ e. e ≡ Malformed → glob.no_item pattern.now ≢ []) }
+        ensures long { IfErr result (λ e. e ≡ TooLong → WORD_LIMIT < length (glob.items pattern.now)) }
+    {
+        let masks = Masks::of(Text::Bytes(pattern), any_case)?;
+        Ok(Glob {
+            pattern,
+            any_case,
+            masks,
+        })
     }
 }
 
 impl<'p> Automaton for Glob<'p> {
     type State = u64;
 
-    ghost accepts = { λ s key. matches (glob.items s.pattern.now) key };
+    ghost accepts = { λ s key. matches (cased s.any_case (glob.items s.pattern.now)) key };
 
-    ghost accepts_from = { λ s marks key. any_match marks 0 (glob.items s.pattern.now) key };
+    ghost accepts_from = { λ s marks key.
+        any_match marks 0 (cased s.any_case (glob.items s.pattern.now)) key };
 
     ghost IsAfter = { λ _ _ _. Unit {0} };
 

@@ -189,22 +189,29 @@ IsListForm count word f = (flag : Bool) × IsFlag count flag × IsFormOf flag wo
 
 -- the order of a list: that of the bytes by a flag, but not if it is only to be counted
 abbrev pub order_by : Bool → Bool → Order
-order_by true count = order.Stored
+order_by true sorted = order.Stored
 order_by false true = order.ByBytes
 order_by false false = order.Stored
 
 abbrev pub IsOrder : Option (List ℕ) → Option (List ℕ) → Order → Type 0
 IsOrder count sorted o = (c : Bool) × (s : Bool) × IsFlag count c × IsFlag sorted s × (o ≡ order_by c s)
 
+-- the order of keys that a number of edits make of a word: the nearest first, but in the order of the bytes by a flag, and in
+-- any if they are only to be counted
+abbrev pub near_by : Bool → Bool → Order
+near_by true sorted = order.Stored
+near_by false true = order.ByBytes
+near_by false false = order.Nearest
+
 -- the order of a search: of keys that are near a word, and without a number of edits, only those of the fewest edits
-abbrev pub search_order : (fuzzy edits : Option (List ℕ)) → Order → Order
-search_order None edits o = o
-search_order (Some word) None o = order.Closest
-search_order (Some word) (Some edits) o = o
+abbrev pub search_order : (fuzzy edits : Option (List ℕ)) → Bool → Bool → Order
+search_order None edits = order_by
+search_order (Some word) None = λ count sorted. order.Closest
+search_order (Some word) (Some edits) = near_by
 
 abbrev pub IsSearchOrder : ArgMatches → Order → Type 0
-IsSearchOrder matches o = (listed : Order) × IsOrder (flag_of matches (codes "count")) (flag_of matches (codes "sorted")) listed
-    × (o ≡ search_order (word_of matches (codes "fuzzy")) (word_of matches (codes "edits")) listed)
+IsSearchOrder matches o = (c : Bool) × (s : Bool) × IsFlag (flag_of matches (codes "count")) c × IsFlag (flag_of matches (codes "sorted")) s
+    × (o ≡ search_order (word_of matches (codes "fuzzy")) (word_of matches (codes "edits")) c s)
 
 -- the decimal number of a word, which may begin with a plus
 abbrev pub IsNumberOf : List ℕ → ℕ → Type 0

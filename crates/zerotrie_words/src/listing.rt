@@ -2,7 +2,7 @@
 
 ghost use Rattle.std.specs.Prelude.{◌≡◌, Some, IfErr, IfOk, IfSome, IfNone, codes};
 ghost use Rattle.zerotrie_words.specs.Refusals.{HasNoNumber, IsNoForm};
-ghost use Rattle.zerotrie_words.specs.Words.{IsLimit, IsListForm, IsOrder, IsSearchOrder, flag_of, form_word, word_of};
+ghost use Rattle.zerotrie_words.specs.Words.{IsLimit, IsListForm, IsOrder, IsSearchOrder, flag_of, form_word, near_by, order_by, word_of};
 ghost use Rattle.zerotrie_queries.specs.declared.print.Form.{Form};
 
 use clap::ArgMatches;
@@ -40,26 +40,45 @@ pub fn form_in(matches: &ArgMatches<'_>) -> Result<Form, &'static str>
     }
 }
 
-/// Returns the order in which pairs are to be printed. What is only to be counted needs none.
-pub fn order_in(matches: &ArgMatches<'_>) -> Order
-    ensures { IsOrder (flag_of matches.now (codes "count")) (flag_of matches.now (codes "sorted"))
-        result }
+/// Returns the order of pairs by the flags of the command line. What is only to be counted needs none.
+fn order_by(count: bool, sorted: bool) -> Order
+    ensures { result ≡ order_by count sorted }
 {
-    match (matches.get_flag("count"), matches.get_flag("sorted")) {
+    match (count, sorted) {
         (false, true) => Order::ByBytes,
         (true, _) | (false, false) => Order::Stored,
     }
 }
 
+/// Returns the order of keys that a number of edits make of a word, by the flags of the command line.
+fn near_by(count: bool, sorted: bool) -> Order
+    ensures { result ≡ near_by count sorted }
+{
+    match (count, sorted) {
+        (false, false) => Order::Nearest,
+        (false, true) => Order::ByBytes,
+        (true, _) => Order::Stored,
+    }
+}
+
+/// Returns the order in which pairs are to be printed.
+pub fn order_in(matches: &ArgMatches<'_>) -> Order
+    ensures { IsOrder (flag_of matches.now (codes "count")) (flag_of matches.now (codes "sorted"))
+        result }
+{
+    order_by(matches.get_flag("count"), matches.get_flag("sorted"))
+}
+
 /// Returns the order in which the pairs of a search are to be printed. If keys are near a word, and no
-/// number of edits is given, only those of the fewest edits are.
+/// number of edits is given, only those of the fewest edits are, and else the nearest come first.
 pub fn search_order_in(matches: &ArgMatches<'_>) -> Order
     ensures { IsSearchOrder matches.now result }
 {
-    let order = order_in(matches);
+    let (count, sorted) = (matches.get_flag("count"), matches.get_flag("sorted"));
     match (matches.get_str("fuzzy"), matches.get_str("edits")) {
         (Some(_), None) => Order::Closest,
-        (None, _) | (Some(_), Some(_)) => order,
+        (Some(_), Some(_)) => near_by(count, sorted),
+        (None, _) => order_by(count, sorted),
     }
 }
 

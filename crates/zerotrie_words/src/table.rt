@@ -312,8 +312,9 @@ const LISTINGS: &[Subcommand] = &[
         about: "Print the pairs whose keys match a pattern or are near a word",
         help: "Example: zerotrie search names.trie --fuzzy ampersend\n\
             All conditions hold: one of --glob, --fuzzy and --subsequence beside\n\
-            --prefix, --from and --below, or these alone. Without --edits the keys\n\
-            of the fewest edits that find any are printed, up to 2.\n\
+            --prefix, --from and --below, or these alone. With --edits the nearest\n\
+            keys come first; without it those of the fewest edits that find any,\n\
+            up to 2, are printed.\n\
             Status: 0 also if no key is found, 2 if FILE is no trie.",
         arguments: &[
             FILE,

@@ -1,9 +1,9 @@
 //! Keys that a pattern of characters matches.
 
-ghost use Rattle.std.specs.Prelude.{◌≡◌, ◌≢◌, ◌<◌, ◌∷◌, ℕ, List, [], length, true, Some, IfSome, IfOk, IfErr};
+ghost use Rattle.std.specs.Prelude.{◌≡◌, ◌≢◌, ◌<◌, ◌∷◌, ℕ, List, [], length, true, false, Some, IfSome, IfOk, IfErr};
 ghost use Rattle.std.specs.Str.{chars};
 ghost use Rattle.zerotrie_search.specs.Globs as glob;
-ghost use Rattle.zerotrie_search.specs.Globs.{matches_text};
+ghost use Rattle.zerotrie_search.specs.Globs.{cased, matches_text};
 ghost use Rattle.zerotrie_search.specs.GlobMasks.{any_match, AreTakers};
 ghost use Rattle.zerotrie_search.specs.GlobTables.{AreMasks};
 ghost use Rattle.zerotrie_search.specs.GlobTexts.{text_match, IsGlobState};
@@ -35,8 +35,9 @@ use zerotrie_core::ByteSet;
 #[derive(Clone, Copy)]
 pub struct GlobChars<'p> {
     pattern: &'p str,
+    any_case: bool,
     masks: Masks,
-    ghost are: { AreMasks (glob.items (chars pattern.now)) masks },
+    ghost are: { AreMasks (cased any_case (glob.items (chars pattern.now))) masks },
 }
 
 /// A bit for each place in the pattern, and the first bytes of a character that is not complete.
@@ -51,6 +52,7 @@ impl<'p> fmt::Debug for GlobChars<'p> {
     fn fmt<W: fmt::Write>(&self, f: &mut fmt::Formatter<W>) -> fmt::Result {
         f.debug_struct("GlobChars")
             .field("pattern", &self.pattern)
+            .field("any_case", &self.any_case)
             .finish()
     }
 }
@@ -63,33 +65,64 @@ impl<'p> GlobChars<'p> {
     /// assert!(rt; matches!(GlobChars::new("[ω-α]*"), Err(GlobError::Malformed)));
     /// ```
     pub fn new(pattern: &'p str) -> Result<Self, GlobError>
-        ensures ok { IfOk result (λ g. (g.pattern.now ≡ pattern.now)
+        ensures ok { IfOk result (λ g. (g.pattern.now ≡ pattern.now) × (g.any_case ≡ false)
             × (glob.no_item (chars pattern.now) ≡ [])) }
         ensures malformed { IfErr result (λ e. e ≡ Malformed → glob.no_item (chars pattern.now) ≢ []) }
         ensures long { IfErr result (λ e. e ≡ TooLong
             → WORD_LIMIT < length (glob.items (chars pattern.now))) }
     {
-        let masks = Masks::of(Text::Chars(pattern))?;
-        Ok(GlobChars { pattern, masks })
+        Self::of(pattern, false)
+    }
+
+    /// Accepts the text that the pattern matches in any case: an ASCII letter of it, in a class too, is
+    /// taken in both of its cases.
+    ///
+    /// ```
+    /// assert!(rt; GlobChars::in_any_case("[A-_]é*").is_ok());
+    /// ```
+    pub fn in_any_case(pattern: &'p str) -> Result<Self, GlobError>
+        ensures ok { IfOk result (λ g. (g.pattern.now ≡ pattern.now) × (g.any_case ≡ true)
+            × (glob.no_item (chars pattern.now) ≡ [])) }
+        ensures malformed { IfErr result (λ e. e ≡ Malformed → glob.no_item (chars pattern.now) ≢ []) }
+        ensures long { IfErr result (λ e. e ≡ TooLong
+            → WORD_LIMIT < length (glob.items (chars pattern.now))) }
+    {
+        Self::of(pattern, true)
+    }
+
+    /// Accepts the text that the pattern matches, in any case or as it is.
+    pub(crate) fn of(pattern: &'p str, any_case: bool) -> Result<Self, GlobError>
+        ensures ok { IfOk result (λ g. (g.pattern.now ≡ pattern.now) × (g.any_case ≡ any_case)
+            × (glob.no_item (chars pattern.now) ≡ [])) }
+        ensures malformed { IfErr result (λ e. e ≡ Malformed → glob.no_item (chars pattern.now) ≢ []) }
+        ensures long { IfErr result (λ e. e ≡ TooLong
+            → WORD_LIMIT < length (glob.items (chars pattern.now))) }
+    {
+        let masks = Masks::of(Text::Chars(pattern), any_case)?;
+        Ok(GlobChars {
+            pattern,
+            any_case,
+            masks,
+        })
     }
 
     /// Returns the marks of the items that take a character.
     #[inline]
     fn takers(&self, letter: u32) -> u64
-        ensures { AreTakers (glob.items (chars self.now.pattern.now)) letter result }
+        ensures { AreTakers (cased self.now.any_case (glob.items (chars self.now.pattern.now))) letter result }
     {
         if letter < 256 {
             self.masks.takers(letter as u8)
         } else {
-            takers_of(Text::Chars(self.pattern), letter)
+            takers_of(Text::Chars(self.pattern), self.any_case, letter)
         }
     }
 
     /// Returns the marks after one more character.
     #[inline]
     fn after_char(&self, marks: u64, letter: u32) -> u64
-        ensures { (key : List ℕ) → any_match result 0 (glob.items (chars self.now.pattern.now)) key
-            ≡ any_match marks 0 (glob.items (chars self.now.pattern.now)) (letter ∷ key) }
+        ensures { (key : List ℕ) → any_match result 0 (cased self.now.any_case (glob.items (chars self.now.pattern.now))) key
+            ≡ any_match marks 0 (cased self.now.any_case (glob.items (chars self.now.pattern.now))) (letter ∷ key) }
     {
         self.masks.step(marks, self.takers(letter))
     }
@@ -102,8 +135,8 @@ impl<'p> GlobChars<'p> {
         requires ascii { byte < 128 }
         ensures state { IsGlobState result }
         ensures is { (key : List ℕ)
-            → text_match (glob.items (chars self.now.pattern.now)) (Some result) key
-            ≡ text_match (glob.items (chars self.now.pattern.now)) (Some state) (byte ∷ key) }
+            → text_match (cased self.now.any_case (glob.items (chars self.now.pattern.now))) (Some result) key
+            ≡ text_match (cased self.now.any_case (glob.items (chars self.now.pattern.now))) (Some state) (byte ∷ key) }
     {
         let pending = state.pending;
         let marks = self.after_char(state.marks, u32::from(byte));
@@ -119,8 +152,8 @@ impl<'p> GlobChars<'p> {
         requires { IsGlobState state }
         ensures state { IfSome result IsGlobState }
         ensures is { (key : List ℕ)
-            → text_match (glob.items (chars self.now.pattern.now)) result key
-            ≡ text_match (glob.items (chars self.now.pattern.now)) (Some state) (byte ∷ key) }
+            → text_match (cased self.now.any_case (glob.items (chars self.now.pattern.now))) result key
+            ≡ text_match (cased self.now.any_case (glob.items (chars self.now.pattern.now))) (Some state) (byte ∷ key) }
     {
         let marks = state.marks;
         let mut pending = state.pending;
@@ -150,9 +183,11 @@ impl<'p> GlobChars<'p> {
 impl<'p> Automaton for GlobChars<'p> {
     type State = Option<GlobState>;
 
-    ghost accepts = { λ s key. matches_text (chars s.pattern.now) key };
+    ghost accepts = { λ s key.
+        matches_text (cased s.any_case (glob.items (chars s.pattern.now))) key };
 
-    ghost accepts_from = { λ s state key. text_match (glob.items (chars s.pattern.now)) state key };
+    ghost accepts_from = { λ s state key.
+        text_match (cased s.any_case (glob.items (chars s.pattern.now))) state key };
 
     ghost IsAfter = { λ _ _ state. IfSome state IsGlobState };
 

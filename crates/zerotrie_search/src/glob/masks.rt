@@ -3,13 +3,13 @@
 ghost use Rattle.std.specs.Prelude.{◌≡◌, ◌≢◌, ◌≤◌, ◌<◌, ◌+◌, ◌∷◌, ℕ, List, [], length, drop, slice_index, true, false, IfOk, IfErr, if◌then◌else◌};
 ghost use Rattle.std.specs.Int.{bit_at};
 ghost use Rattle.zerotrie_search.specs.Globs as glob;
-ghost use Rattle.zerotrie_search.specs.Globs.{items, no_item, matches};
+ghost use Rattle.zerotrie_search.specs.Globs.{cased, items, no_item, matches};
 ghost use Rattle.zerotrie_search.specs.GlobMasks.{letters_in, is_many, after, any_match, AreStars, AreTakers, AreFollowers};
 ghost use Rattle.zerotrie_search.specs.declared.TheConstants.{WORD_LIMIT};
 ghost use Rattle.zerotrie_search.specs.declared.glob.GlobError.TheVariants.{Malformed, TooLong};
 
 use super::GlobError;
-use super::pattern::{Text, first_item};
+use super::pattern::{Text, cases, first_item};
 use crate::WORD_LIMIT;
 
 /// The masks of a pattern.
@@ -58,7 +58,7 @@ fn stars_of(pattern: Text<'_>) -> Result<(u64, u32), GlobError>
     let mut left = pattern;
     let mut place: u32 = 0;
     let mut stars: u64 = 0;
-    while let Some((item, rest)) = first_item(left, 0) {
+    while let Some((item, rest)) = first_item(left, (0, 0)) {
         if place as usize == WORD_LIMIT {
             return Err(GlobError::TooLong);
         }
@@ -73,14 +73,15 @@ fn stars_of(pattern: Text<'_>) -> Result<(u64, u32), GlobError>
 }
 
 /// Returns the marks of the items that take the letter.
-pub(crate) fn takers_of(pattern: Text<'_>, letter: u32) -> u64
+pub(crate) fn takers_of(pattern: Text<'_>, any_case: bool, letter: u32) -> u64
     requires { length (items (letters_in pattern)) ≤ WORD_LIMIT }
-    ensures { AreTakers (items (letters_in pattern.entry)) letter result }
+    ensures { AreTakers (cased any_case (items (letters_in pattern.entry))) letter result }
 {
+    let letters = cases(any_case, letter);
     let mut left = pattern;
     let mut place: u32 = 0;
     let mut takers: u64 = 0;
-    while let Some((item, rest)) = first_item(left, letter) {
+    while let Some((item, rest)) = first_item(left, letters) {
         takers = marked_if(takers, place, item.takes);
         place += 1;
         left = rest;
@@ -89,16 +90,17 @@ pub(crate) fn takers_of(pattern: Text<'_>, letter: u32) -> u64
 }
 
 /// Returns the marks of the items that take each letter below 256.
-fn all_takers_of(pattern: Text<'_>) -> [u64; 256]
+fn all_takers_of(pattern: Text<'_>, any_case: bool) -> [u64; 256]
     requires { length (items (letters_in pattern)) ≤ WORD_LIMIT }
     ensures whole { length result ≡ 256 }
     ensures are { (letter : ℕ) → letter < 256
-        → AreTakers (items (letters_in pattern.entry)) letter (slice_index result letter) }
+        → AreTakers (cased any_case (items (letters_in pattern.entry))) letter
+        (slice_index result letter) }
 {
     let mut takers = [0; 256];
     let mut letter: usize = 0;
     while letter < 256 {
-        takers[letter] = takers_of(pattern, letter as u32);
+        takers[letter] = takers_of(pattern, any_case, letter as u32);
         letter += 1;
     }
     takers
@@ -147,9 +149,10 @@ fn followers_of(stars: u64, last: u32) -> ([u64; 64], u64)
 impl Masks {
     ghost use Rattle.zerotrie_search.specs.GlobTables.{AreMasks};
 
-    /// Returns the masks of a pattern.
-    pub(crate) fn of(pattern: Text<'_>) -> Result<Self, GlobError>
-        ensures ok { IfOk result (λ masks. AreMasks (items (letters_in pattern.entry)) masks
+    /// Returns the masks of a pattern. With `any_case`, its letters are taken in both cases.
+    pub(crate) fn of(pattern: Text<'_>, any_case: bool) -> Result<Self, GlobError>
+        ensures ok { IfOk result (λ masks.
+            AreMasks (cased any_case (items (letters_in pattern.entry))) masks
             × (no_item (letters_in pattern.entry) ≡ [])) }
         ensures malformed { IfErr result (λ e. e ≡ Malformed
             → no_item (letters_in pattern.entry) ≢ []) }
@@ -159,7 +162,7 @@ impl Masks {
         let (stars, last) = stars_of(pattern)?;
         let (followers, first) = followers_of(stars, last);
         Ok(Masks {
-            takers: all_takers_of(pattern),
+            takers: all_takers_of(pattern, any_case),
             followers,
             first,
             last,

@@ -1,11 +1,12 @@
 //! The items of a pattern, read one by one from its text.
 
-ghost use Rattle.std.specs.Prelude.{◌≡◌, ◌≤◌, ◌<◌, ◌∷◌, ℕ, Bool, [], length, MatchOption, IfSome};
+ghost use Rattle.std.specs.Prelude.{◌≡◌, ◌≤◌, ◌<◌, ◌∷◌, ◌==◌, ℕ, Bool, [], length, MatchOption, IfSome};
+ghost use Rattle.std.specs.Char.{to_ascii_lowercase, to_ascii_uppercase};
 ghost use Rattle.std.specs.Option.{option_map};
 ghost use Rattle.std.specs.Str.{chars};
 ghost use Rattle.zerotrie_search.specs.Globs as glob;
-ghost use Rattle.zerotrie_search.specs.Globs.{class_at, with_letter};
-ghost use Rattle.zerotrie_search.specs.GlobMasks.{letters_in, closing, class_has, add_range, read};
+ghost use Rattle.zerotrie_search.specs.Globs.{class_at, is_within, with_letter};
+ghost use Rattle.zerotrie_search.specs.GlobMasks.{letters_in, cases, closing, class_has, add_range, has_one, read};
 
 const ANY: u32 = b'?' as u32;
 
@@ -61,6 +62,53 @@ impl<'p> Text<'p> {
     }
 }
 
+/// Returns an ASCII letter in lower case, and another letter as it is.
+fn lower(letter: u32) -> u32
+    ensures { result ≡ to_ascii_lowercase letter }
+{
+    if 65 <= letter && letter < 91 {
+        letter + 32
+    } else {
+        letter
+    }
+}
+
+/// Returns an ASCII letter in upper case, and another letter as it is.
+fn upper(letter: u32) -> u32
+    ensures { result ≡ to_ascii_uppercase letter }
+{
+    if 97 <= letter && letter < 123 {
+        letter - 32
+    } else {
+        letter
+    }
+}
+
+/// Returns a letter in its two cases, or twice if its case counts.
+pub(crate) fn cases(any_case: bool, letter: u32) -> (u32, u32)
+    ensures { result ≡ cases any_case letter }
+{
+    if any_case {
+        (lower(letter), upper(letter))
+    } else {
+        (letter, letter)
+    }
+}
+
+/// Returns whether a letter has one of these cases.
+fn is_one(letter: u32, cases: (u32, u32)) -> bool
+    ensures { result ≡ has_one (λ b. letter == b) cases }
+{
+    letter == cases.0 || letter == cases.1
+}
+
+/// Returns whether one of the cases of a letter is in a range.
+fn has_case(from: u32, to: u32, cases: (u32, u32)) -> bool
+    ensures { result ≡ has_one (is_within from to) cases }
+{
+    (from <= cases.0 && cases.0 <= to) || (from <= cases.1 && cases.1 <= to)
+}
+
 /// An item of a pattern, beside a letter.
 #[derive(Clone, Copy, Debug)]
 pub(crate) struct Item {
@@ -91,7 +139,7 @@ fn class_letter(text: Text<'_>) -> Option<((bool, u32), Text<'_>)>
 /// Returns the last letter of a range whose first letter is `from`, and what is left of the class
 /// after it. If no range continues here, that is the first letter itself.
 fn range_end(from: u32, text: Text<'_>) -> (u32, Text<'_>)
-    ensures has { (escaped : Bool) (b : ℕ)
+    ensures has { (escaped : Bool) (b : ℕ × ℕ)
         → class_has b (with_letter (escaped, from) (class_at (letters_in text.entry)))
         ≡ add_range from result.0 b (class_has b (class_at (letters_in result.1))) }
     ensures left { length (letters_in result.1) ≤ length (letters_in text.entry) }
@@ -111,9 +159,9 @@ fn range_end(from: u32, text: Text<'_>) -> (u32, Text<'_>)
     }
 }
 
-/// Returns whether a class has the letter, and what is left after its closing bracket, or `None` if
+/// Returns whether a class has a case of the letter, and what is left after its closing bracket, or `None` if
 /// it has none, or a range without letters.
-fn class_takes(text: Text<'_>, letter: u32) -> Option<(bool, Text<'_>)>
+fn class_takes(text: Text<'_>, letter: (u32, u32)) -> Option<(bool, Text<'_>)>
     ensures { option_map (λ r. (r.0, letters_in r.1)) result
         ≡ class_has letter (class_at (letters_in text.entry)) }
 {
@@ -124,7 +172,7 @@ fn class_takes(text: Text<'_>, letter: u32) -> Option<(bool, Text<'_>)>
         if to < from {
             return None;
         }
-        found = found | ((from <= letter) & (letter <= to));
+        found = found | has_case(from, to, letter);
         left = more;
     }
     let (close, rest) = left.first()?;
@@ -132,7 +180,11 @@ fn class_takes(text: Text<'_>, letter: u32) -> Option<(bool, Text<'_>)>
 }
 
 /// Returns a class beside the letter, and what is left of the pattern after it.
-fn class_item(text: Text<'_>, negated: bool, letter: u32) -> Option<(Item, Text<'_>)>
+fn class_item(
+    text: Text<'_>,
+    negated: bool,
+    letter: (u32, u32),
+) -> Option<(Item, Text<'_>)>
     ensures { option_map (λ r. ((r.0.is_many, r.0.takes), letters_in r.1)) result
         ≡ read letter (glob.class_of negated (class_at (letters_in text.entry))) }
 {
@@ -147,7 +199,7 @@ fn class_item(text: Text<'_>, negated: bool, letter: u32) -> Option<(Item, Text<
 
 /// Returns the class behind an opening bracket, beside the letter, and what is left of the pattern
 /// after it.
-fn opened(text: Text<'_>, letter: u32) -> Option<(Item, Text<'_>)>
+fn opened(text: Text<'_>, letter: (u32, u32)) -> Option<(Item, Text<'_>)>
     ensures { option_map (λ r. ((r.0.is_many, r.0.takes), letters_in r.1)) result
         ≡ read letter (glob.opened (letters_in text.entry)) }
 {
@@ -159,8 +211,9 @@ fn opened(text: Text<'_>, letter: u32) -> Option<(Item, Text<'_>)>
     }
 }
 
-/// Returns the first item of a pattern beside the letter, and what is left of the pattern after it.
-pub(crate) fn first_item(pattern: Text<'_>, letter: u32) -> Option<(Item, Text<'_>)>
+/// Returns the first item of a pattern beside a letter with these cases, and what is left of the pattern
+/// after it.
+pub(crate) fn first_item(pattern: Text<'_>, letter: (u32, u32)) -> Option<(Item, Text<'_>)>
     ensures is { option_map (λ r. ((r.0.is_many, r.0.takes), letters_in r.1)) result
         ≡ read letter (glob.first_item (letters_in pattern.entry)) }
     ensures left { IfSome result (λ r. length (letters_in r.1) < length (letters_in pattern.entry)) }
@@ -172,10 +225,10 @@ pub(crate) fn first_item(pattern: Text<'_>, letter: u32) -> Option<(Item, Text<'
         OPEN => return opened(rest, letter),
         ESCAPE => {
             let (escaped, rest) = rest.first()?;
-            let takes = escaped == letter;
+            let takes = is_one(escaped, letter);
             return Some((Item { is_many, takes }, rest));
         }
-        _ => first == letter,
+        _ => is_one(first, letter),
     };
     Some((Item { is_many, takes }, rest))
 }

@@ -7,5 +7,5 @@ use Rattle.zerotrie_search.proofs.glob.GlobAutomaton.can_match.Goals as goal
 
 pub returns : goal.returns
 returns c dead key =
-    ap (λ marks. any_match marks 0 (glob.items c.args.self.now.pattern.now) key) (eqb-true c.args.state 0 (not-false _ dead))
-    ∙ no_marks 0 (glob.items c.args.self.now.pattern.now) key
+    ap (λ marks. any_match marks 0 (glob.cased c.args.self.now.any_case (glob.items c.args.self.now.pattern.now)) key) (eqb-true c.args.state 0 (not-false _ dead))
+    ∙ no_marks 0 (glob.cased c.args.self.now.any_case (glob.items c.args.self.now.pattern.now)) key

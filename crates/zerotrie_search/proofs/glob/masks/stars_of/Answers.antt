@@ -12,7 +12,7 @@ loop-item-preserved c =
     let all = items (letters_in c.args.pattern) in
     let rest = letters_in c.in-Some.rest in
     let item = c.in-Some.item in
-    let r = read_item 0 item.is_many item.takes rest (first_item (letters_in l.left)) c.in-Some.ensures.is in
+    let r = read_item (0, 0) item.is_many item.takes rest (first_item (letters_in l.left)) c.in-Some.ensures.is in
     let here = items_more (letters_in l.left) rest r.0 r.1.0 in
     let len = ap length here in
     let at = l.invariant.at ∙ here in
@@ -30,6 +30,6 @@ returns-then-place-eq-WORD_LIMIT-clause-long c is =
     let l = c.loop-item in
     let rest = letters_in c.in-Some.rest in
     let item = c.in-Some.item in
-    let r = read_item 0 item.is_many item.takes rest (first_item (letters_in l.left)) c.in-Some.ensures.is in
+    let r = read_item (0, 0) item.is_many item.takes rest (first_item (letters_in l.left)) c.in-Some.ensures.is in
     let len = ap length (items_more (letters_in l.left) rest r.0 r.1.0) in
     omega (arith, len, l.invariant.all, c.if-place-eq-WORD_LIMIT.true)

@@ -1,4 +1,5 @@
 use Rattle.std.proofs.Common.{◌∙◌, ap, sym, arith}
+use Rattle.std.specs.Prelude.{◌||◌}
 use Rattle.std.proofs.lemmas.Bool.{lt-leb}
 use Rattle.zerotrie_search.specs.Globs.{class_at}
 use Rattle.zerotrie_search.specs.GlobMasks.{letters_in, class_has, or_found}
@@ -25,3 +26,4 @@ loop-escaped-preserved c =
     let e = c.range_end-to in
     l.invariant ∙ ap (or_found l.found) (ap (class_has b) s.ensures.is ∙ e.ensures.has s._escaped b)
     ∙ found_more l.found s.from e.result.0 b (class_has b (class_at (letters_in e.result.1))) (omega (arith, c.if-to-from.false))
+    ∙ ap (λ x. or_found (l.found || x) (class_has b (class_at (letters_in e.result.1)))) (sym c.has_case-found.ensures)

@@ -1,7 +1,7 @@
 use Rattle.std.proofs.Common.{◌∙◌, ap}
 use Rattle.std.specs.Str.{chars}
 use Rattle.std.proofs.lemmas.Bool.{not-false, eqb-true}
-use Rattle.zerotrie_search.specs.Globs.{items}
+use Rattle.zerotrie_search.specs.Globs.{cased, items}
 use Rattle.zerotrie_search.specs.GlobMasks.{any_match}
 use Rattle.zerotrie_search.proofs.MarkLemmas.{no_marks}
 use Rattle.zerotrie_search.proofs.GlobTextLemmas.{none_marked}
@@ -9,6 +9,6 @@ use Rattle.zerotrie_search.proofs.glob.chars.GlobCharsAutomaton.can_match.Goals 
 
 pub returns-in-Some : goal.returns-in-Some
 returns-in-Some c dead key =
-    let all = items (chars c.args.self.now.pattern.now) in
+    let all = cased c.args.self.now.any_case (items (chars c.args.self.now.pattern.now)) in
     let state = c.in-Some.state in
     rw c.in-Some.is (none_marked all state key (λ cs. ap (λ m. any_match m 0 all cs) (eqb-true state.marks 0 (not-false _ dead)) ∙ no_marks 0 all cs))
