@@ -12,7 +12,7 @@ ghost use Rattle.zerotrie_search.specs.Searches.{accepted};
 ghost use Rattle.std.specs.Range.Bound.{bound_map};
 ghost use Rattle.zerotrie_core.specs.declared.TrieKind.{TrieKind};
 ghost use Rattle.zerotrie_core.specs.declared.TrieKind.TheVariants.{Ignore};
-ghost use Rattle.zerotrie_queries.specs.Chosen.{at_edits, chosen, closest, edits_matched, edits_of, is_chosen, is_in, is_matched, measured, IsFolded};
+ghost use Rattle.zerotrie_queries.specs.Chosen.{at_edits, chosen, closest, edits_matched, edits_of, is_chosen, is_in, is_kept, is_matched, measured, IsFolded};
 ghost use Rattle.zerotrie_queries.specs.Sorted.{AreWithin, picked};
 ghost use Rattle.zerotrie_queries.specs.declared.question.Order.TheVariants.{ByBytes, Closest, Nearest};
 ghost use Rattle.zerotrie_queries.specs.Listed.{AreListed, AreListedInPart, AreNoText, AreUnlisted, IsListingNoted};
@@ -553,6 +553,41 @@ fn write_closest<W: Write>(
     write_sorted(alloc, trie, form, choice.with_edits(edits), limit, output)
 }
 
+/// Writes the first pairs whose keys are chosen, the nearest first. The first automaton measures keys as the
+/// word of the choice does, and the other one accepts the keys of which the other conditions hold.
+fn write_kept<T: Fuzzy, S: Automaton + Copy + Drop, W: Write>(
+    alloc: Global,
+    trie: &TrieRef<'_>,
+    form: Form,
+    choice: Choice<'_>,
+    automaton: T,
+    kept: S,
+    limit: Option<usize>,
+    output: &mut Noted<W>,
+) -> io::Result<Option<Vec<u8>>>
+    requires kept { (key : List ℕ) → S.accepts kept key ≡ is_kept trie.now.kind choice key }
+    requires most { T.most automaton ≡ edits_of choice }
+    requires measures { (key : List ℕ)
+        → T.measure automaton key ≡ edits_matched trie.now.kind choice.sought key }
+    ensures all { IfOk result (λ key. IfNone key (AreListed form
+        (picked Nearest trie.now.kind choice.entry) limit trie.now.kind trie.now.bytes.now
+        (W.contents output.old.inner) (W.contents output.new.inner))) }
+    ensures none { IfOk result (λ key. IfSome key (λ k. AreNoText form
+        (picked Nearest trie.now.kind choice.entry) limit trie.now.kind trie.now.bytes.now k.items
+        × (output.new ≡ output.old))) }
+    ensures part { OnErr result (AreListedInPart form (picked Nearest trie.now.kind choice.entry)
+        limit trie.now.kind trie.now.bytes.now (W.contents output.old.inner)
+        (W.contents output.new.inner)) }
+    ensures noted { IsNoted result output.old.failed output.new.failed }
+{
+    if !trie.is_well_formed() {
+        return Ok(None);
+    }
+    let seen = stream_near(alloc, trie, automaton, kept)?;
+    let pairs = stream_near(alloc, trie, automaton, kept)?;
+    write_first(alloc, form, seen, pairs, limit, output)
+}
+
 /// Writes the first pairs whose keys are chosen, the nearest first. The automaton measures keys as the word
 /// of the choice does.
 fn write_near<T: Fuzzy, W: Write>(
@@ -579,17 +614,12 @@ fn write_near<T: Fuzzy, W: Write>(
         (W.contents output.new.inner)) }
     ensures noted { IsNoted result output.old.failed output.new.failed }
 {
-    if !trie.is_well_formed() {
-        return Ok(None);
-    }
     let prefix = KindPrefix {
         kind: trie.kind,
         prefix: choice.prefix,
     };
     let kept = Both(prefix, ByKind(trie.kind, choice.range));
-    let seen = stream_near(alloc, trie, automaton, kept)?;
-    let pairs = stream_near(alloc, trie, automaton, kept)?;
-    write_first(alloc, form, seen, pairs, limit, output)
+    write_kept(alloc, trie, form, choice, automaton, kept, limit, output)
 }
 
 /// Writes the first pairs whose keys are chosen, all of them by no edit, in the order of their bytes.
@@ -668,6 +698,7 @@ fn write_by_edits<W: Write>(
 }
 
 /// Writes the first pairs whose keys are chosen, the nearest first.
+#[tactic(auto, using(crate::proofs::EditsLemmas::exact_none, crate::proofs::EditsLemmas::edits_found, crate::proofs::EditsLemmas::most_found, crate::proofs::FoldLemmas::found_folded))]
 fn write_nearest<W: Write>(
     alloc: Global,
     trie: &TrieRef<'_>,

@@ -90,7 +90,7 @@ pub use crate::zerotrie_search::{
     AnyAutomaton, AnyCase, Automaton, BeginsWith, Both, ByKind, CharsState, Either, Fuzzy, Glob,
     GlobChars, GlobError, GlobState, KeyRange, Levenshtein, LevenshteinChars, LevenshteinState, Not,
     Osa, OsaChars, OsaCharsState, OsaState, SearchBy, StartsWith, Subsequence, WORD_LIMIT, WordError,
-    fold_by,
+    accepts, fold_by, fold_word,
 };
 
 use crate::Trie;

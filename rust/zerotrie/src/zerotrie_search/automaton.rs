@@ -48,3 +48,20 @@ pub trait Automaton {
         None
     }
 }
+
+/// Returns whether an automaton accepts a key.
+///
+/// ```
+/// # use zerotrie::{rstd::examples::*, zerotrie_search::*, zerotrie_base::*, zerotrie_core::*, zerotrie_any::*, zerotrie_ascii::*, zerotrie_hashed::*};
+/// assert!(accepts(&StartsWith(b"in"), b"into"));
+/// # Ok::<(), Fail>(())
+/// ```
+pub fn accepts<T: Automaton>(automaton: &T, key: &[u8]) -> bool {
+    let mut left = key;
+    let mut state = automaton.start();
+    while let Some((byte, rest)) = left.split_first() {
+        state = automaton.step(state, *byte);
+        left = rest;
+    }
+    automaton.is_match(state)
+}

@@ -2,7 +2,9 @@
 //! Automata over keys as a kind compares them.
 
 use crate::rstd::prelude::*;
+use crate::zerotrie_search::any::SearchBy;
 use crate::zerotrie_search::automaton::Automaton;
+use crate::zerotrie_search::fuzzy::Fuzzy;
 use crate::zerotrie_core::{ByteSet, TrieKind, by_kind, folded};
 
 /// Returns a byte as the kind compares it: an ASCII letter in lower case if the kind ignores case.
@@ -28,6 +30,28 @@ pub fn fold_by(kind: TrieKind, bytes: &mut [u8]) {
     }
 }
 
+/// Makes a word the one as which a kind compares it, as `fold_by` does, but leaves a pattern as it is: its
+/// letters may be the ends of a range.
+pub fn fold_word(kind: TrieKind, by: SearchBy, word: &mut [u8]) {
+    match by {
+        SearchBy::Glob | SearchBy::GlobChars => {}
+        SearchBy::Prefix
+        | SearchBy::Subsequence
+        | SearchBy::Fuzzy(_)
+        | SearchBy::FuzzyChars(_)
+        | SearchBy::Swaps(_)
+        | SearchBy::SwapsChars(_) => fold_by(kind, word),
+    }
+}
+
+/// Returns whether a kind ignores case.
+pub(in crate::zerotrie_search) fn ignores_case(kind: TrieKind) -> bool {
+    match kind {
+        TrieKind::Ignore => true,
+        TrieKind::Simple | TrieKind::Hash | TrieKind::Ext => false,
+    }
+}
+
 /// Accepts the keys that the automaton accepts once each byte is as a kind compares it: with ASCII
 /// letters in lower case in the kind that ignores case, and the key itself in another.
 ///
@@ -44,7 +68,8 @@ pub fn fold_by(kind: TrieKind, bytes: &mut [u8]) {
 /// # Ok::<(), Fail>(())
 /// ```
 ///
-/// So give the automaton a word, a pattern or bounds that `fold_by` made.
+/// So give the automaton bounds or a word that `fold_by` made, and of a pattern use `Glob::in_any_case`.
+/// `fold_word` and `AnyAutomaton::by_kind` choose.
 #[derive(Clone, Copy, Debug)]
 pub struct ByKind<S>(pub TrieKind, pub S);
 
@@ -84,5 +109,19 @@ impl<S: Automaton> Automaton for ByKind<S> {
             TrieKind::Ignore => Some(with_upper_case(&wanted)),
             TrieKind::Simple | TrieKind::Hash | TrieKind::Ext => Some(wanted),
         }
+    }
+}
+
+impl<S: Fuzzy> Fuzzy for ByKind<S> {
+    fn edits(&self) -> u8 {
+        self.1.edits()
+    }
+
+    fn with_edits(&self, edits: u8) -> Self {
+        ByKind(self.0, self.1.with_edits(edits))
+    }
+
+    fn distance(&self, state: S::State) -> Option<usize> {
+        self.1.distance(state)
     }
 }

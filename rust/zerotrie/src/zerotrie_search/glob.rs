@@ -57,6 +57,7 @@ impl core::error::Error for GlobError {}
 #[derive(Clone, Copy)]
 pub struct Glob<'p> {
     pattern: &'p [u8],
+    any_case: bool,
     masks: Masks,
 }
 
@@ -64,6 +65,7 @@ impl<'p> fmt::Debug for Glob<'p> {
     fn fmt(&self, f: &mut fmt::Formatter<'_>) -> fmt::Result {
         f.debug_struct("Glob")
             .field("pattern", &self.pattern)
+            .field("any_case", &self.any_case)
             .finish()
     }
 }
@@ -78,8 +80,31 @@ impl<'p> Glob<'p> {
     /// # Ok::<(), Fail>(())
     /// ```
     pub fn new(pattern: &'p [u8]) -> Result<Self, GlobError> {
-        let masks = Masks::of(Text::Bytes(pattern))?;
-        Ok(Glob { pattern, masks })
+        Self::of(pattern, false)
+    }
+
+    /// Accepts the keys that the pattern matches in any case: an ASCII letter of it, in a class too, is
+    /// taken in both of its cases.
+    ///
+    /// ```
+    /// # use zerotrie::{rstd::examples::*, zerotrie_search::*, zerotrie_base::*, zerotrie_core::*, zerotrie_any::*, zerotrie_ascii::*, zerotrie_hashed::*};
+    /// let automaton = Glob::in_any_case(b"[A-_]*")?;
+    /// let state = automaton.step(automaton.start(), b'k');
+    /// assert!(automaton.is_match(state));
+    /// # Ok::<(), Fail>(())
+    /// ```
+    pub fn in_any_case(pattern: &'p [u8]) -> Result<Self, GlobError> {
+        Self::of(pattern, true)
+    }
+
+    /// Accepts the keys that the pattern matches, in any case or as they are.
+    pub(in crate::zerotrie_search) fn of(pattern: &'p [u8], any_case: bool) -> Result<Self, GlobError> {
+        let masks = Masks::of(Text::Bytes(pattern), any_case)?;
+        Ok(Glob {
+            pattern,
+            any_case,
+            masks,
+        })
     }
 }
 

@@ -26,11 +26,11 @@ mod trail;
 mod tries;
 
 pub use any::{AnyAutomaton, SearchBy, WordError};
-pub use automaton::Automaton;
+pub use automaton::{Automaton, accepts};
 pub use beginning::BeginsWith;
 pub use combination::{AnyCase, Both, Either, Not};
 pub use cursors::SearchBelow;
-pub use folding::{ByKind, fold_by};
+pub use folding::{ByKind, fold_by, fold_word};
 pub use fuzzy::Fuzzy;
 pub use glob::{Glob, GlobChars, GlobError, GlobState};
 pub use keys_of::KeysOf;

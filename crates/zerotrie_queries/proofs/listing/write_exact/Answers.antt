@@ -9,9 +9,8 @@ returns-clause-all g c =
     let kind = c.args.trie.now.kind in
     let bytes = c.args.trie.now.bytes.now in
     let choice = c.args.choice in
-    let same = λ pairs lists. exact_picked kind choice c.requires.exact pairs in
     if_none_weaker c.write_sorted.result
-    (λ p. all_of (picked ByBytes kind choice) (picked Nearest kind choice) kind bytes same c.args.form c.args.limit _ _ p)
+    (λ p. all_of (picked ByBytes kind choice) (picked Nearest kind choice) kind bytes (λ pairs lists. exact_picked kind choice c.requires.exact pairs) c.args.form c.args.limit _ _ p)
     c.write_sorted.ensures.all
 
 pub returns-clause-none : goal.returns-clause-none
@@ -19,9 +18,8 @@ returns-clause-none g c =
     let kind = c.args.trie.now.kind in
     let bytes = c.args.trie.now.bytes.now in
     let choice = c.args.choice in
-    let same = λ pairs lists. exact_picked kind choice c.requires.exact pairs in
     if_some_weaker c.write_sorted.result
-    (λ k p. (none_of (picked ByBytes kind choice) (picked Nearest kind choice) kind bytes same c.args.form c.args.limit k.items p.0, p.1))
+    (λ k p. (none_of (picked ByBytes kind choice) (picked Nearest kind choice) kind bytes (λ pairs lists. exact_picked kind choice c.requires.exact pairs) c.args.form c.args.limit k.items p.0, p.1))
     c.write_sorted.ensures.none
 
 pub returns-clause-part : goal.returns-clause-part
@@ -29,7 +27,6 @@ returns-clause-part g c =
     let kind = c.args.trie.now.kind in
     let bytes = c.args.trie.now.bytes.now in
     let choice = c.args.choice in
-    let same = λ pairs lists. exact_picked kind choice c.requires.exact pairs in
     on_err_so c.write_sorted.result
-    (λ p. part_of (picked ByBytes kind choice) (picked Nearest kind choice) kind bytes same c.args.form c.args.limit _ _ p)
+    (λ p. part_of (picked ByBytes kind choice) (picked Nearest kind choice) kind bytes (λ pairs lists. exact_picked kind choice c.requires.exact pairs) c.args.form c.args.limit _ _ p)
     c.write_sorted.ensures.part

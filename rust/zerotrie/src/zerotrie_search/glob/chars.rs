@@ -29,6 +29,7 @@ use crate::zerotrie_core::ByteSet;
 #[derive(Clone, Copy)]
 pub struct GlobChars<'p> {
     pattern: &'p str,
+    any_case: bool,
     masks: Masks,
 }
 
@@ -44,6 +45,7 @@ impl<'p> fmt::Debug for GlobChars<'p> {
     fn fmt(&self, f: &mut fmt::Formatter<'_>) -> fmt::Result {
         f.debug_struct("GlobChars")
             .field("pattern", &self.pattern)
+            .field("any_case", &self.any_case)
             .finish()
     }
 }
@@ -58,8 +60,29 @@ impl<'p> GlobChars<'p> {
     /// # Ok::<(), Fail>(())
     /// ```
     pub fn new(pattern: &'p str) -> Result<Self, GlobError> {
-        let masks = Masks::of(Text::Chars(pattern))?;
-        Ok(GlobChars { pattern, masks })
+        Self::of(pattern, false)
+    }
+
+    /// Accepts the text that the pattern matches in any case: an ASCII letter of it, in a class too, is
+    /// taken in both of its cases.
+    ///
+    /// ```
+    /// # use zerotrie::{rstd::examples::*, zerotrie_search::*, zerotrie_base::*, zerotrie_core::*, zerotrie_any::*, zerotrie_ascii::*, zerotrie_hashed::*};
+    /// assert!(GlobChars::in_any_case("[A-_]é*").is_ok());
+    /// # Ok::<(), Fail>(())
+    /// ```
+    pub fn in_any_case(pattern: &'p str) -> Result<Self, GlobError> {
+        Self::of(pattern, true)
+    }
+
+    /// Accepts the text that the pattern matches, in any case or as it is.
+    pub(in crate::zerotrie_search) fn of(pattern: &'p str, any_case: bool) -> Result<Self, GlobError> {
+        let masks = Masks::of(Text::Chars(pattern), any_case)?;
+        Ok(GlobChars {
+            pattern,
+            any_case,
+            masks,
+        })
     }
 
     /// Returns the marks of the items that take a character.
@@ -68,7 +91,7 @@ impl<'p> GlobChars<'p> {
         if letter < 256 {
             self.masks.takers(letter as u8)
         } else {
-            takers_of(Text::Chars(self.pattern), letter)
+            takers_of(Text::Chars(self.pattern), self.any_case, letter)
         }
     }
 

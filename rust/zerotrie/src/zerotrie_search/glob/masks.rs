@@ -3,7 +3,7 @@
 
 use crate::rstd::prelude::*;
 use super::GlobError;
-use super::pattern::{Text, first_item};
+use super::pattern::{Text, cases, first_item};
 use crate::zerotrie_search::WORD_LIMIT;
 
 /// The masks of a pattern.
@@ -34,7 +34,7 @@ fn stars_of(pattern: Text<'_>) -> Result<(u64, u32), GlobError> {
     let mut left = pattern;
     let mut place: u32 = 0;
     let mut stars: u64 = 0;
-    while let Some((item, rest)) = first_item(left, 0) {
+    while let Some((item, rest)) = first_item(left, (0, 0)) {
         if place as usize == WORD_LIMIT {
             return Err(GlobError::TooLong);
         }
@@ -49,11 +49,12 @@ fn stars_of(pattern: Text<'_>) -> Result<(u64, u32), GlobError> {
 }
 
 /// Returns the marks of the items that take the letter.
-pub(in crate::zerotrie_search) fn takers_of(pattern: Text<'_>, letter: u32) -> u64 {
+pub(in crate::zerotrie_search) fn takers_of(pattern: Text<'_>, any_case: bool, letter: u32) -> u64 {
+    let letters = cases(any_case, letter);
     let mut left = pattern;
     let mut place: u32 = 0;
     let mut takers: u64 = 0;
-    while let Some((item, rest)) = first_item(left, letter) {
+    while let Some((item, rest)) = first_item(left, letters) {
         takers = marked_if(takers, place, item.takes);
         place += 1;
         left = rest;
@@ -62,11 +63,11 @@ pub(in crate::zerotrie_search) fn takers_of(pattern: Text<'_>, letter: u32) -> u
 }
 
 /// Returns the marks of the items that take each letter below 256.
-fn all_takers_of(pattern: Text<'_>) -> [u64; 256] {
+fn all_takers_of(pattern: Text<'_>, any_case: bool) -> [u64; 256] {
     let mut takers = [0; 256];
     let mut letter: usize = 0;
     while letter < 256 {
-        takers[letter] = takers_of(pattern, letter as u32);
+        takers[letter] = takers_of(pattern, any_case, letter as u32);
         letter += 1;
     }
     takers
@@ -99,12 +100,12 @@ fn followers_of(stars: u64, last: u32) -> ([u64; 64], u64) {
 }
 
 impl Masks {
-    /// Returns the masks of a pattern.
-    pub(in crate::zerotrie_search) fn of(pattern: Text<'_>) -> Result<Self, GlobError> {
+    /// Returns the masks of a pattern. With `any_case`, its letters are taken in both cases.
+    pub(in crate::zerotrie_search) fn of(pattern: Text<'_>, any_case: bool) -> Result<Self, GlobError> {
         let (stars, last) = stars_of(pattern)?;
         let (followers, first) = followers_of(stars, last);
         Ok(Masks {
-            takers: all_takers_of(pattern),
+            takers: all_takers_of(pattern, any_case),
             followers,
             first,
             last,

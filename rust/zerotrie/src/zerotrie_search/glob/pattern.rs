@@ -51,6 +51,43 @@ impl<'p> Text<'p> {
     }
 }
 
+/// Returns an ASCII letter in lower case, and another letter as it is.
+fn lower(letter: u32) -> u32 {
+    if 65 <= letter && letter < 91 {
+        letter + 32
+    } else {
+        letter
+    }
+}
+
+/// Returns an ASCII letter in upper case, and another letter as it is.
+fn upper(letter: u32) -> u32 {
+    if 97 <= letter && letter < 123 {
+        letter - 32
+    } else {
+        letter
+    }
+}
+
+/// Returns a letter in its two cases, or twice if its case counts.
+pub(in crate::zerotrie_search) fn cases(any_case: bool, letter: u32) -> (u32, u32) {
+    if any_case {
+        (lower(letter), upper(letter))
+    } else {
+        (letter, letter)
+    }
+}
+
+/// Returns whether a letter has one of these cases.
+fn is_one(letter: u32, cases: (u32, u32)) -> bool {
+    letter == cases.0 || letter == cases.1
+}
+
+/// Returns whether one of the cases of a letter is in a range.
+fn has_case(from: u32, to: u32, cases: (u32, u32)) -> bool {
+    (from <= cases.0 && cases.0 <= to) || (from <= cases.1 && cases.1 <= to)
+}
+
 /// An item of a pattern, beside a letter.
 #[derive(Clone, Copy, Debug)]
 pub(in crate::zerotrie_search) struct Item {
@@ -92,9 +129,9 @@ fn range_end(from: u32, text: Text<'_>) -> (u32, Text<'_>) {
     }
 }
 
-/// Returns whether a class has the letter, and what is left after its closing bracket, or `None` if
+/// Returns whether a class has a case of the letter, and what is left after its closing bracket, or `None` if
 /// it has none, or a range without letters.
-fn class_takes(text: Text<'_>, letter: u32) -> Option<(bool, Text<'_>)> {
+fn class_takes(text: Text<'_>, letter: (u32, u32)) -> Option<(bool, Text<'_>)> {
     let mut left = text;
     let mut found = false;
     while let Some(((_escaped, from), rest)) = class_letter(left) {
@@ -102,7 +139,7 @@ fn class_takes(text: Text<'_>, letter: u32) -> Option<(bool, Text<'_>)> {
         if to < from {
             return None;
         }
-        found = found | ((from <= letter) & (letter <= to));
+        found = found | has_case(from, to, letter);
         left = more;
     }
     let (close, rest) = left.first()?;
@@ -110,7 +147,11 @@ fn class_takes(text: Text<'_>, letter: u32) -> Option<(bool, Text<'_>)> {
 }
 
 /// Returns a class beside the letter, and what is left of the pattern after it.
-fn class_item(text: Text<'_>, negated: bool, letter: u32) -> Option<(Item, Text<'_>)> {
+fn class_item(
+    text: Text<'_>,
+    negated: bool,
+    letter: (u32, u32),
+) -> Option<(Item, Text<'_>)> {
     let _first = class_letter(text)?;
     let (has, rest) = class_takes(text, letter)?;
     let item = Item {
@@ -122,7 +163,7 @@ fn class_item(text: Text<'_>, negated: bool, letter: u32) -> Option<(Item, Text<
 
 /// Returns the class behind an opening bracket, beside the letter, and what is left of the pattern
 /// after it.
-fn opened(text: Text<'_>, letter: u32) -> Option<(Item, Text<'_>)> {
+fn opened(text: Text<'_>, letter: (u32, u32)) -> Option<(Item, Text<'_>)> {
     let (first, rest) = text.first()?;
     if first == NOT || first == CARET {
         class_item(rest, true, letter)
@@ -131,8 +172,9 @@ fn opened(text: Text<'_>, letter: u32) -> Option<(Item, Text<'_>)> {
     }
 }
 
-/// Returns the first item of a pattern beside the letter, and what is left of the pattern after it.
-pub(in crate::zerotrie_search) fn first_item(pattern: Text<'_>, letter: u32) -> Option<(Item, Text<'_>)> {
+/// Returns the first item of a pattern beside a letter with these cases, and what is left of the pattern
+/// after it.
+pub(in crate::zerotrie_search) fn first_item(pattern: Text<'_>, letter: (u32, u32)) -> Option<(Item, Text<'_>)> {
     let (first, rest) = pattern.first()?;
     let is_many = first == MANY;
     let takes = match first {
@@ -140,10 +182,10 @@ pub(in crate::zerotrie_search) fn first_item(pattern: Text<'_>, letter: u32) -> 
         OPEN => return opened(rest, letter),
         ESCAPE => {
             let (escaped, rest) = rest.first()?;
-            let takes = escaped == letter;
+            let takes = is_one(escaped, letter);
             return Some((Item { is_many, takes }, rest));
         }
-        _ => first == letter,
+        _ => is_one(first, letter),
     };
     Some((Item { is_many, takes }, rest))
 }
