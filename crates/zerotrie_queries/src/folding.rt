@@ -50,11 +50,7 @@ fn lent(bound: &Bound<Vec<u8>>) -> Bound<&[u8]>
 }
 
 /// Returns the word by which keys are sought, as a kind compares them, or no bytes.
-fn word_of(
-    alloc: Global,
-    kind: TrieKind,
-    sought: Option<Sought<'_>>,
-) -> Result<Vec<u8>, AllocError>
+fn word_of(alloc: Global, kind: TrieKind, sought: Option<Sought<'_>>) -> Result<Vec<u8>, AllocError>
     ensures { IfOk result (λ v. v.items ≡ word_of kind sought.entry) }
 {
     let mut word = Vec::new(alloc);

@@ -50,7 +50,7 @@ alone from b (Some (dash ∷ [], rest)) h =
 alone from b (Some (dash ∷ to ∷ more, rest)) h = rw h (by_case (rises (dash ∷ to ∷ more)))
   where
     by_case : (r : Bool) → answer r ((is_within from.1 from.1 b.0 || has (dash ∷ to ∷ more) b.0) || (is_within from.1 from.1 b.1 || has (dash ∷ to ∷ more) b.1)) rest
-      ≡ add_range from.1 from.1 b (answer r (has_one (has (dash ∷ to ∷ more)) b) rest)
+        ≡ add_range from.1 from.1 b (answer r (has_one (has (dash ∷ to ∷ more)) b) rest)
     by_case true =
         rw (same_le from.1) (ap (λ x. Some (x, rest)) (or_four (is_within from.1 from.1 b.0) (has (dash ∷ to ∷ more) b.0) (is_within from.1 from.1 b.1) (has (dash ∷ to ∷ more) b.1)))
     by_case false = refl

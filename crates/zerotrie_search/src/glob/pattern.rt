@@ -180,11 +180,7 @@ fn class_takes(text: Text<'_>, letter: (u32, u32)) -> Option<(bool, Text<'_>)>
 }
 
 /// Returns a class beside the letter, and what is left of the pattern after it.
-fn class_item(
-    text: Text<'_>,
-    negated: bool,
-    letter: (u32, u32),
-) -> Option<(Item, Text<'_>)>
+fn class_item(text: Text<'_>, negated: bool, letter: (u32, u32)) -> Option<(Item, Text<'_>)>
     ensures { option_map (λ r. ((r.0.is_many, r.0.takes), letters_in r.1)) result
         ≡ read letter (glob.class_of negated (class_at (letters_in text.entry))) }
 {

@@ -7,7 +7,6 @@ use Rattle.zerotrie_search.proofs.GlobLemmas.{read_item, read_none, no_items, it
 use Rattle.zerotrie_search.proofs.MarkLemmas.{drop_one, bit_more, bits_none, takers_known}
 use Rattle.zerotrie_search.proofs.glob.masks.takers_of.Goals as goal
 
-
 pub loop-item-preserved : goal.loop-item-preserved
 loop-item-preserved c =
     let l = c.loop-item in

@@ -11,10 +11,12 @@ returns-clause-ok c =
     let read = c.in_ok-stars.ensures.ok in
     let len = length_cased any all in
     let stars = stars_cased any all c.in_ok-stars.stars read.0 in
-    let led = c.followers_of-first.ensures in
-    (record {
-      takers = c.all_takers_of.ensures.are;
-      followers = led.are (cased any all) (len ∙ sym read.1) stars;
-      first = led.first (cased any all) (len ∙ sym read.1) stars;
-      last = read.1 ∙ sym len;
-    }, read.3)
+    let led = c.followers_of-first.ensures in (
+      record {
+        takers = c.all_takers_of.ensures.are;
+        followers = led.are (cased any all) (len ∙ sym read.1) stars;
+        first = led.first (cased any all) (len ∙ sym read.1) stars;
+        last = read.1 ∙ sym len;
+      },
+      read.3,
+    )
