@@ -1,2 +1,3 @@
 mod Rules
 mod SearchLemmas
+mod ReadLemmas

@@ -1,8 +1,8 @@
 -- The arguments of a command line, as clap reads them.
-use Rattle.std.specs.Prelude.{ℕ, List, ◌∷◌, [], Option, Some, None, true, false}
+use Rattle.std.specs.Prelude.{ℕ, List, ◌∷◌, [], Option, Some, None, true, false, codes, map}
 use Rattle.std.specs.Borrow.{Bor}
 use Rattle.clap.specs.Lexer.{usize_max}
-use Rattle.clap.specs.Simple.{new_rule}
+use Rattle.clap.specs.Simple.{App, new_app, new_rule, new_shape, with_rule, with_subcommand}
 use Rattle.clap.specs.Walk.{Rule}
 use Rattle.clap.specs.declared.builder.action.ArgAction.TheVariants.{Set, Append, SetTrue}
 use Rattle.clap.specs.declared.builder.arg.Arg.{Arg}
@@ -13,6 +13,7 @@ use Rattle.zerotrie_words.specs.declared.arguments.Form.{Form}
 use Rattle.zerotrie_words.specs.declared.arguments.Form.TheVariants as form
 use Rattle.zerotrie_words.specs.declared.arguments.Otherwise.{Otherwise}
 use Rattle.zerotrie_words.specs.declared.arguments.Otherwise.TheVariants as otherwise
+use Rattle.zerotrie_words.specs.declared.arguments.Subcommand.{Subcommand}
 
 -- an option with what holds if it is left out: it is required, has a default, or is not there
 abbrev pub left_out : Otherwise → Arg → Arg
@@ -52,3 +53,32 @@ rule_of_form name (form.OneOf value letter words otherwise) = rule_left_out othe
 
 abbrev pub rule_by : Argument → Rule
 rule_by argument = rule_of_form argument.name argument.form
+
+-- a command with these rules, too
+abbrev pub with_rules : App → List Rule → App
+with_rules app [] = app
+with_rules app (rule ∷ rules) = with_rules (with_rule app rule) rules
+
+-- the command of a row
+abbrev pub app_by : Subcommand → App
+app_by row = with_rules (new_app row.name.now) (map rule_by row.arguments.now)
+
+-- a program with the commands of these rows, too
+abbrev pub with_rows : App → List Subcommand → App
+with_rows app [] = app
+with_rows app (row ∷ rows) = with_rows (with_subcommand app (app_by row).top) rows
+
+abbrev pub with_parts : App → List (List Subcommand) → App
+with_parts app [] = app
+with_parts app (rows ∷ parts) = with_parts (with_rows app rows) parts
+
+-- the program before it has commands: it has a version, and needs a command
+abbrev pub bare_program : App
+bare_program = record {
+  top = record (new_shape (codes "zerotrie")) { has_version = true; subcommand_required = true; arg_required_else_help = true };
+  subs = [];
+}
+
+-- the program by rows of commands, in parts
+unfoldable pub program_by : List (List Subcommand) → App
+program_by parts = with_parts bare_program parts

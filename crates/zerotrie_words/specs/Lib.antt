@@ -5,3 +5,4 @@ pub mod Arguments
 pub mod Tasks
 pub mod Replies
 pub mod Requests
+pub mod Reads

@@ -1,5 +1,6 @@
 -- Why the words of a command are refused.
-use Rattle.std.specs.Prelude.{◌≡◌, ◌≢◌, ◌⊎◌, ◌<◌, ◌≤◌, ◌^◌, ◌+◌, ℕ, List, [], ◌∷◌, Option, Some, None, Bool, true, false, codes, eqb, length, unwrap_or}
+use Rattle.std.specs.Prelude.{◌≡◌, ◌≢◌, ◌⊎◌, ◌<◌, ◌≤◌, ◌^◌, ◌+◌, ℕ, List, [], ◌∷◌, Option, Some, None, Bool, true, false, codes, eqb, unwrap_or}
+use Rattle.std.specs.Borrow.{Bor}
 use Rattle.std.specs.List.{starts_with}
 use Rattle.clap.specs.declared.parser.matches.ArgMatches.{ArgMatches}
 use Rattle.zerotrie_core.specs.Kinds.{kind_name}
@@ -18,6 +19,15 @@ use Rattle.zerotrie_words.specs.declared.input.Input.{Input}
 use Rattle.zerotrie_words.specs.declared.input.Input.TheVariants as input
 use Rattle.zerotrie_words.specs.declared.task.Topic.{Topic}
 use Rattle.zerotrie_words.specs.declared.task.Topic.TheVariants as topic
+
+-- a text has a character
+abbrev pub HasText : List ℕ → Type 0
+HasText [] = ⊥
+HasText (c ∷ text) = Unit {0}
+
+-- a message says something
+abbrev pub IsSaid : Bor (List ℕ) → Type 0
+IsSaid why = HasText why.now
 
 -- a word is none of these things' names
 abbrev pub NamesNone : {X : Type 0} → (X → List ℕ) → Option (List ℕ) → Type 0

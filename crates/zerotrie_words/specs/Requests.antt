@@ -1,5 +1,6 @@
 -- The command that the words of a command line ask for.
-use Rattle.std.specs.Prelude.{◌≡◌, ◌≢◌, ◌⊎◌, ℕ, List, Option, None, Bool, false, codes}
+use Rattle.std.specs.Prelude.{◌≡◌, ◌≢◌, ◌⊎◌, ℕ, List, Option, Some, None, Bool, false, codes}
+use Rattle.std.specs.Borrow.{Bor}
 use Rattle.clap.specs.declared.parser.matches.ArgMatches.{ArgMatches}
 use Rattle.zerotrie_sets.specs.declared.combined.Operation.{Operation}
 use Rattle.zerotrie_run.specs.declared.command.Build.{Build}
@@ -10,8 +11,10 @@ use Rattle.zerotrie_run.specs.declared.command.Diff.{Diff}
 use Rattle.zerotrie_run.specs.declared.command.Place.{Place}
 use Rattle.zerotrie_run.specs.declared.command.Place.TheVariants.{File, Stream}
 use Rattle.zerotrie_words.specs.Diffs.{IsDiff}
-use Rattle.zerotrie_words.specs.Refusals.{IsNoBuild, IsNoContent, IsNoKind, IsNoQuestion}
+use Rattle.zerotrie_words.specs.Refusals.{IsNoBuild, IsNoContent, IsNoKind, IsNoQuestion, IsSaid}
 use Rattle.zerotrie_words.specs.Words.{AreTogether, IsAsk, IsFlag, IsForm, IsKind, IsPlan, IsProgress, IsSource, IsTarget, flag_of, given_words, word_of}
+use Rattle.zerotrie_words.specs.declared.reply.Reply.{Reply}
+use Rattle.zerotrie_words.specs.declared.reply.Reply.TheVariants as reply
 use Rattle.zerotrie_words.specs.declared.task.Task.{Task}
 use Rattle.zerotrie_words.specs.declared.task.Task.TheVariants as task
 
@@ -72,3 +75,15 @@ IsNoCommand matches texts task.Build = IsNoBuild matches ⊎ ((from : Place) × 
 IsNoCommand matches texts (task.Ask topic) = IsNoKind (word_of matches (codes "bare")) ⊎ IsNoQuestion matches topic texts
 IsNoCommand matches texts task.Diff = IsNoKind (word_of matches (codes "bare"))
 IsNoCommand matches texts (task.Combine operation) = IsNoContent matches
+
+-- a reply names the path that two places have in common
+abbrev pub NamesOneFile : Place → Place → Reply → Type 0
+NamesOneFile from to said = (path : Bor (List ℕ)) × (other : Bor (List ℕ)) × (from ≡ File path) × (to ≡ File other) × (path.now ≡ other.now) × (said ≡ reply.OneFile path other)
+
+-- what is said of words that are no command: a message, or the path of a build's input and its output
+abbrev pub IsRefusal : ArgMatches → Reply → Type 0
+IsRefusal matches (reply.Help text) = ⊥
+IsRefusal matches (reply.Misuse text) = ⊥
+IsRefusal matches (reply.Refusal why) = IsSaid why
+IsRefusal matches (reply.OneFile path other) = (word_of matches (codes "IN") ≡ Some path.now) × (word_of matches (codes "output") ≡ Some other.now) × (path.now ≡ other.now)
+IsRefusal matches reply.OutOfMemory = ⊥

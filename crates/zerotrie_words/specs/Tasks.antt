@@ -1,5 +1,10 @@
 -- Which command does what.
-use Rattle.std.specs.Prelude.{ℕ, List, Option, Some, None, codes}
+use Rattle.std.specs.Prelude.{◌≡◌, ◌⊎◌, ℕ, List, Option, Some, None, codes}
+use Rattle.std.specs.Option.{option_map}
+use Rattle.clap.specs.Matches.{found_of, subcommand_name_of}
+use Rattle.clap.specs.Simple.{subcommand_rows_of}
+use Rattle.clap.specs.Walk.{rows_of}
+use Rattle.clap.specs.declared.parser.matches.ArgMatches.{ArgMatches}
 use Rattle.zerotrie_sets.specs.declared.combined.Keep.TheVariants as keep
 use Rattle.zerotrie_sets.specs.declared.combined.Operation.TheVariants as operation
 use Rattle.zerotrie_words.specs.declared.task.Task.{Task}
@@ -25,3 +30,16 @@ task_word (task.Combine (operation.Intersection keep.First)) = Some (codes "inte
 task_word (task.Combine (operation.Intersection keep.Last)) = None
 task_word (task.Combine operation.Difference) = Some (codes "minus")
 task_word (task.Combine operation.SymmetricDifference) = None
+
+-- what clap found is no command of a task
+abbrev pub NamesNoTask : ArgMatches → Type 0
+NamesNoTask matches = (name : List ℕ) → subcommand_name_of matches ≡ Some name → (t : Task) → Some name ≡ task_word t → ⊥
+
+-- what clap found is the command of a task, with these matches of its own
+pub record IsTaskOf (matches : ArgMatches) (t : Task) (own : ArgMatches) : Type 0 where
+  pub word : subcommand_name_of matches ≡ task_word t
+  pub rows : option_map (λ p. p.1) (subcommand_rows_of matches) ≡ Some (rows_of (found_of own))
+
+-- what clap found is a command that prints a page: the completions of a shell, or the man page
+abbrev pub AsksForPage : ArgMatches → Type 0
+AsksForPage matches = (subcommand_name_of matches ≡ Some (codes "completions")) ⊎ (subcommand_name_of matches ≡ Some (codes "man"))

@@ -1,8 +1,8 @@
 //! The rows of commands as clap takes them.
 
-ghost use Rattle.std.specs.Prelude.{◌≡◌};
-ghost use Rattle.clap.specs.Walk.{rule_of};
-ghost use Rattle.zerotrie_words.specs.Arguments.{as_named, as_option, left_out, rule_by};
+ghost use Rattle.std.specs.Prelude.{◌≡◌, false, IfOk, map};
+ghost use Rattle.clap.specs.Words.{app_of, rule_of};
+ghost use Rattle.zerotrie_words.specs.Arguments.{app_by, as_named, as_option, left_out, program_by, rule_by, with_rows};
 
 use crate::table::{STATUSES, VERSION};
 use clap::builder::ValueParser;
@@ -94,7 +94,8 @@ fn with_word<'a>(
 impl Argument {
     /// Returns the argument as clap takes it.
     fn to_clap<'a>(&self, alloc: Global) -> Arg<'a>
-        ensures { rule_of result ≡ rule_by self.now }
+        ensures rule { rule_of result ≡ rule_by self.now }
+        ensures local { result.global ≡ false }
     {
         let arg = Arg::new(alloc, self.name).help(self.help);
         match &self.form {
@@ -126,7 +127,9 @@ impl Argument {
 
 impl Subcommand {
     /// Returns the command as clap takes it.
-    fn to_clap<'a>(&self, alloc: Global) -> Result<Command<'a>, AllocError> {
+    fn to_clap<'a>(&self, alloc: Global) -> Result<Command<'a>, AllocError>
+        ensures { IfOk result (λ command. app_of command ≡ app_by self.now) }
+    {
         let mut command = Command::new(alloc, self.name)
             .about(self.about)
             .after_help(self.help);
@@ -137,11 +140,25 @@ impl Subcommand {
     }
 }
 
-/// Returns what the command line may be, by rows of commands.
-pub fn program<'a>(
+/// Adds the commands of these rows to a program.
+fn with_commands<'a>(
     alloc: Global,
-    rows: &[&'static [Subcommand]],
-) -> Result<Command<'a>, AllocError> {
+    mut program: Command<'a>,
+    rows: &[Subcommand],
+) -> Result<Command<'a>, AllocError>
+    ensures { IfOk result (λ whole. app_of whole ≡ with_rows (app_of program.entry) rows.now) }
+{
+    for row in rows {
+        program = program.subcommand(row.to_clap(alloc)?)?;
+    }
+    Ok(program)
+}
+
+/// Returns what the command line may be, by rows of commands.
+pub fn program<'a>(alloc: Global, rows: &[&'static [Subcommand]]) -> Result<Command<'a>, AllocError>
+    ensures { IfOk result (λ program.
+        app_of program ≡ program_by (map (λ part. part.now) rows.now)) }
+{
     let mut program = Command::new(alloc, "zerotrie")
         .bin_name("zerotrie")?
         .version(VERSION)
@@ -150,9 +167,7 @@ pub fn program<'a>(
         .subcommand_required(true)
         .arg_required_else_help(true);
     for part in rows {
-        for row in *part {
-            program = program.subcommand(row.to_clap(alloc)?)?;
-        }
+        program = with_commands(alloc, program, *part)?;
     }
     Ok(program)
 }

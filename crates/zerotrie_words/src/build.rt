@@ -1,7 +1,7 @@
 //! The build that the command line asks for.
 
 ghost use Rattle.std.specs.Prelude.{◌≡◌, Some, IfErr, IfOk, IfSome, IfNone, codes};
-ghost use Rattle.zerotrie_words.specs.Refusals.{ExcludeEachOther, IsNoBuild, IsNoChoice, IsNoContent, IsNoEnd, IsNoInput, IsNoPlan, IsNoProgress, NamesNone};
+ghost use Rattle.zerotrie_words.specs.Refusals.{ExcludeEachOther, IsNoBuild, IsNoChoice, IsNoContent, IsNoEnd, IsNoInput, IsNoPlan, IsNoProgress, IsSaid, NamesNone};
 ghost use Rattle.zerotrie_words.specs.Requests.{IsBuild};
 ghost use Rattle.zerotrie_words.specs.Words.{AreTogether, IsEnd, IsForm, IsFormat, IsInput, IsKind, IsPlan, IsProgress, IsTarget, MayNameEnd, duplicates_word, end_word, flag_of, format_word, word_of};
 ghost use Rattle.zerotrie_lines.specs.declared.reading.LineEnd.{LineEnd};
@@ -21,6 +21,7 @@ fn format_in(matches: &ArgMatches<'_>) -> Result<Input, &'static str>
         (word_of matches.now (codes "IN"))) }
     ensures refused { IfErr result (λ _.
         NamesNone format_word (word_of matches.now (codes "format"))) }
+    ensures said { IfErr result IsSaid }
 {
     match matches.get_str("format") {
         Some(name) => Input::named(name).ok_or("--format asks for a format"),
@@ -46,6 +47,7 @@ fn end_in(matches: &ArgMatches<'_>, input: Input) -> Result<LineEnd, &'static st
     ensures end { IfOk result (IsEnd (word_of matches.now (codes "eol"))) }
     ensures lines { IfOk result (λ _. MayNameEnd input (word_of matches.now (codes "eol"))) }
     ensures refused { IfErr result (λ _. IsNoEnd input (word_of matches.now (codes "eol"))) }
+    ensures said { IfErr result IsSaid }
 {
     match (matches.get_str("eol"), input) {
         (None, _) => Ok(LineEnd::CrLf),
@@ -62,6 +64,7 @@ fn end_in(matches: &ArgMatches<'_>, input: Input) -> Result<LineEnd, &'static st
 fn input_in(matches: &ArgMatches<'_>) -> Result<Source, &'static str>
     ensures input { IfOk result (IsInput matches.now) }
     ensures refused { IfErr result (λ _. IsNoInput matches.now) }
+    ensures said { IfErr result IsSaid }
 {
     let input = format_in(matches)?;
     let end = end_in(matches, input)?;
@@ -98,6 +101,7 @@ fn duplicates_in(matches: &ArgMatches<'_>) -> Result<Duplicates, &'static str>
     ensures choice { IfOk result (λ choice.
         word_of matches.now (codes "duplicates") ≡ Some (duplicates_word choice)) }
     ensures refused { IfErr result (λ _. IsNoChoice (word_of matches.now (codes "duplicates"))) }
+    ensures said { IfErr result IsSaid }
 {
     match matches.get_str("duplicates") {
         Some(name) => {
@@ -112,6 +116,7 @@ fn form_in(matches: &ArgMatches<'_>) -> Result<FileForm, &'static str>
     ensures form { IfOk result (IsForm (flag_of matches.now (codes "tagged"))
         (flag_of matches.now (codes "bare")) (flag_of matches.now (codes "index"))) }
     ensures refused { IfErr result (λ _. ExcludeEachOther matches.now) }
+    ensures said { IfErr result IsSaid }
 {
     match (
         matches.get_flag("tagged"),
@@ -134,6 +139,7 @@ pub fn content_in(matches: &ArgMatches<'_>) -> Result<(Option<TrieKind>, FileFor
         (flag_of matches.now (codes "bare")) (flag_of matches.now (codes "index")) of.1) }
     ensures together { IfOk result (λ of. AreTogether of.1 of.0) }
     ensures refused { IfErr result (λ _. IsNoContent matches.now) }
+    ensures said { IfErr result IsSaid }
 {
     let kind = kind_in(matches, "kind")?;
     let form = form_in(matches)?;
@@ -149,6 +155,7 @@ pub fn content_in(matches: &ArgMatches<'_>) -> Result<(Option<TrieKind>, FileFor
 fn plan_in(matches: &ArgMatches<'_>) -> Result<Plan, &'static str>
     ensures plan { IfOk result (IsPlan matches.now) }
     ensures refused { IfErr result (λ _. IsNoPlan matches.now) }
+    ensures said { IfErr result IsSaid }
 {
     let (kind, form) = content_in(matches)?;
     Ok(Plan {
@@ -183,6 +190,7 @@ fn progress_in(matches: &ArgMatches<'_>, to_terminal: bool) -> Result<bool, &'st
         (flag_of matches.now (codes "quiet"))) }
     ensures refused { IfErr result (λ _. IsNoProgress (flag_of matches.now (codes "progress"))
         (flag_of matches.now (codes "quiet"))) }
+    ensures said { IfErr result IsSaid }
 {
     match (matches.get_flag("progress"), matches.get_flag("quiet")) {
         (false, false) => Ok(to_terminal),
@@ -198,6 +206,7 @@ fn progress_in(matches: &ArgMatches<'_>, to_terminal: bool) -> Result<bool, &'st
 pub fn build_in<'a>(matches: &ArgMatches<'a>, to_terminal: bool) -> Result<Build<'a>, &'static str>
     ensures build { IfOk result (IsBuild matches.now to_terminal) }
     ensures refused { IfErr result (λ _. IsNoBuild matches.now) }
+    ensures said { IfErr result IsSaid }
 {
     Ok(Build {
         from: source_in(matches, "IN"),

@@ -3,7 +3,7 @@
 ghost use Rattle.std.specs.Prelude.{◌≡◌, ℕ, List, Some, IfErr, IfOk, IfSome, IfNone, false, true, codes};
 ghost use Rattle.std.specs.Borrow.{Bor};
 ghost use Rattle.zerotrie_queries.specs.declared.code.Language.{Language};
-ghost use Rattle.zerotrie_words.specs.Refusals.{IsNoCode, IsNoLanguage, IsTaken};
+ghost use Rattle.zerotrie_words.specs.Refusals.{IsNoCode, IsNoLanguage, IsSaid, IsTaken};
 ghost use Rattle.zerotrie_words.specs.Words.{IsCode, IsFlag, IsFree, flag_of, is_alone, language_word, word_of};
 ghost use Rattle.zerotrie_run.specs.declared.command.Question.TheVariants as question;
 
@@ -112,6 +112,7 @@ fn language_in(matches: &ArgMatches<'_>) -> Result<Language, &'static str>
     ensures alone { IfOk result (λ language.
         IsFlag (flag_of matches.now (codes "alone")) (is_alone language)) }
     ensures refused { IfErr result (λ _. IsNoLanguage matches.now) }
+    ensures said { IfErr result IsSaid }
 {
     let Some(name) = matches.get_str("lang") else {
         return Err("--lang asks for a language");
@@ -124,11 +125,24 @@ fn language_in(matches: &ArgMatches<'_>) -> Result<Language, &'static str>
     }
 }
 
+/// Returns what is said of a name that is taken.
+fn taken_refused(language: Language) -> &'static str
+    ensures { IsSaid result }
+{
+    match language {
+        Language::C | Language::CAlone => "--name asks for no name that begins with zerotrie",
+        Language::Rust | Language::Rattle | Language::JavaScript => {
+            "--name asks for no keyword of the language"
+        }
+    }
+}
+
 /// Returns the code that is asked for. It is an error, with the message, if it can't have its name.
 pub fn code_in<'a>(matches: &ArgMatches<'a>) -> Result<Question<'a>, &'static str>
     ensures code { IfOk result (λ asked. (language : Language) × (name : Bor (List ℕ))
         × IsCode matches.now language name.now × (asked ≡ question.Code language name)) }
     ensures refused { IfErr result (λ _. IsNoCode matches.now) }
+    ensures said { IfErr result IsSaid }
 {
     let language = language_in(matches)?;
     let name = matches.get_str("name").unwrap_or(language.usual_name());
@@ -136,12 +150,7 @@ pub fn code_in<'a>(matches: &ArgMatches<'a>) -> Result<Question<'a>, &'static st
         return Err("--name asks for ASCII letters, digits and _, and no digit in front");
     }
     if is_taken(language, name) {
-        return Err(match language {
-            Language::C | Language::CAlone => "--name asks for no name that begins with zerotrie",
-            Language::Rust | Language::Rattle | Language::JavaScript => {
-                "--name asks for no keyword of the language"
-            }
-        });
+        return Err(taken_refused(language));
     }
     Ok(Question::Code(language, name))
 }

@@ -1,7 +1,7 @@
 //! The combination of two tries that the command line asks for.
 
 ghost use Rattle.std.specs.Prelude.{IfErr, IfOk};
-ghost use Rattle.zerotrie_words.specs.Refusals.{IsNoContent};
+ghost use Rattle.zerotrie_words.specs.Refusals.{IsNoContent, IsSaid};
 ghost use Rattle.zerotrie_words.specs.Requests.{IsCombination};
 
 use crate::build::{content_in, target_in};
@@ -18,6 +18,7 @@ pub fn combine_in<'a>(
 ) -> Result<Combine<'a>, &'static str>
     ensures combination { IfOk result (IsCombination matches.now operation) }
     ensures refused { IfErr result (λ _. IsNoContent matches.now) }
+    ensures said { IfErr result IsSaid }
 {
     let (kind, form) = content_in(matches)?;
     Ok(Combine {

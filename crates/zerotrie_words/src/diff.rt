@@ -1,7 +1,7 @@
 //! The comparison that the command line asks for.
 
 ghost use Rattle.std.specs.Prelude.{IfErr, IfOk, codes};
-ghost use Rattle.zerotrie_words.specs.Refusals.{IsNoKind};
+ghost use Rattle.zerotrie_words.specs.Refusals.{IsNoKind, IsSaid};
 ghost use Rattle.zerotrie_words.specs.Words.{word_of};
 ghost use Rattle.zerotrie_words.specs.Diffs.{IsDiff};
 
@@ -14,6 +14,7 @@ use zerotrie_run::Diff;
 pub fn diff_in<'a>(matches: &ArgMatches<'a>) -> Result<Diff<'a>, &'static str>
     ensures diff { IfOk result (IsDiff matches.now) }
     ensures refused { IfErr result (λ _. IsNoKind (word_of matches.now (codes "bare"))) }
+    ensures said { IfErr result IsSaid }
 {
     Ok(Diff {
         old: source_in(matches, "OLD"),

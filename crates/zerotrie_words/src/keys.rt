@@ -1,7 +1,7 @@
 //! The keys, texts and values that the command line asks for.
 
 ghost use Rattle.std.specs.Prelude.{◌≡◌, ◌≢◌, ◌∷◌, [], true, false, IfErr, IfOk, codes, map};
-ghost use Rattle.zerotrie_words.specs.Refusals.{AreNoKeys};
+ghost use Rattle.zerotrie_words.specs.Refusals.{AreNoKeys, IsSaid};
 ghost use Rattle.zerotrie_words.specs.Words.{AreKeysOf, HasNoHyphen, given_words, texts_of};
 
 use crate::task::Topic;
@@ -75,6 +75,7 @@ fn has_hyphen(words: &[&[u8]]) -> bool
 pub fn keys_of<'w, 'a: 'w>(words: &'w Option<Vec<&'a [u8]>>) -> Result<Keys<'w>, &'static str>
     ensures keys { IfOk result (AreKeysOf (texts_of words.now)) }
     ensures refused { IfErr result (λ _. AreNoKeys (texts_of words.now)) }
+    ensures said { IfErr result IsSaid }
 {
     match words {
         Some(words) if is_hyphen(words.as_slice()) => Ok(Keys::Lines),

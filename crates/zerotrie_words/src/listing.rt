@@ -1,7 +1,7 @@
 //! How the command line asks for pairs to be listed.
 
 ghost use Rattle.std.specs.Prelude.{◌≡◌, Some, IfErr, IfOk, IfSome, IfNone, codes};
-ghost use Rattle.zerotrie_words.specs.Refusals.{HasNoNumber, IsNoForm};
+ghost use Rattle.zerotrie_words.specs.Refusals.{HasNoNumber, IsNoForm, IsSaid};
 ghost use Rattle.zerotrie_words.specs.Words.{IsLimit, IsListForm, IsOrder, IsSearchOrder, flag_of, form_word, near_by, order_by, word_of};
 ghost use Rattle.zerotrie_queries.specs.declared.print.Form.{Form};
 
@@ -31,6 +31,7 @@ pub fn form_in(matches: &ArgMatches<'_>) -> Result<Form, &'static str>
         (word_of matches.now (codes "format"))) }
     ensures refused { IfErr result (λ _. IsNoForm (flag_of matches.now (codes "count"))
         (word_of matches.now (codes "format"))) }
+    ensures said { IfErr result IsSaid }
 {
     match (matches.get_flag("count"), matches.get_str("format")) {
         (true, None) => Ok(Form::Count),
@@ -87,6 +88,7 @@ pub fn search_order_in(matches: &ArgMatches<'_>) -> Order
 pub fn limit_in(matches: &ArgMatches<'_>) -> Result<Option<usize>, &'static str>
     ensures limit { IfOk result (IsLimit (word_of matches.now (codes "limit"))) }
     ensures refused { IfErr result (λ _. HasNoNumber 64 (word_of matches.now (codes "limit"))) }
+    ensures said { IfErr result IsSaid }
 {
     let Some(word) = matches.get_str("limit") else {
         return Ok(None);

@@ -1,7 +1,7 @@
 //! The kinds and places that words name.
 
 ghost use Rattle.std.specs.Prelude.{IfErr, IfOk, codes};
-ghost use Rattle.zerotrie_words.specs.Refusals.{IsNoKind};
+ghost use Rattle.zerotrie_words.specs.Refusals.{IsNoKind, IsSaid};
 ghost use Rattle.zerotrie_words.specs.Words.{IsKind, IsPlace, IsSource, word_of};
 
 use clap::ArgMatches;
@@ -13,6 +13,7 @@ use zerotrie_run::Place;
 pub fn kind_in(matches: &ArgMatches<'_>, name: &str) -> Result<Option<TrieKind>, &'static str>
     ensures kind { IfOk result (IsKind (word_of matches.now name.now)) }
     ensures refused { IfErr result (λ _. IsNoKind (word_of matches.now name.now)) }
+    ensures said { IfErr result IsSaid }
 {
     match matches.get_str(name) {
         None | Some("auto") => Ok(None),

@@ -1,7 +1,7 @@
 //! The questions to a trie that the command line asks.
 
 ghost use Rattle.std.specs.Prelude.{◌≡◌, ◌⊎◌, IfErr, IfOk, codes};
-ghost use Rattle.zerotrie_words.specs.Refusals.{IsNoBorder, IsNoKind, IsNoLongest, IsNoQuestion, IsNoView};
+ghost use Rattle.zerotrie_words.specs.Refusals.{IsNoBorder, IsNoKind, IsNoLongest, IsNoQuestion, IsNoView, IsSaid};
 ghost use Rattle.zerotrie_words.specs.Words.{IsAsk, IsBorder, IsCheck, IsFile, IsGet, IsLongest, IsQuestion, IsReportForm, IsSpelling, IsView, flag_of, texts_of, word_of};
 
 use crate::code::code_in;
@@ -45,6 +45,7 @@ fn check_in(matches: &ArgMatches<'_>, topic: Topic) -> Check
 fn file_in<'a>(matches: &ArgMatches<'a>, topic: Topic) -> Result<TrieFile<'a>, &'static str>
     ensures file { IfOk result (IsFile matches.now topic) }
     ensures refused { IfErr result (λ _. IsNoKind (word_of matches.now (codes "bare"))) }
+    ensures said { IfErr result IsSaid }
 {
     Ok(TrieFile {
         place: source_in(matches, "FILE"),
@@ -60,6 +61,7 @@ fn view_in(matches: &ArgMatches<'_>) -> Result<View, &'static str>
         (word_of matches.now (codes "limit"))) }
     ensures refused { IfErr result (λ _. IsNoView (word_of matches.now (codes "VIEW"))
         (word_of matches.now (codes "limit"))) }
+    ensures said { IfErr result IsSaid }
 {
     match (matches.get_str("VIEW"), limit_in(matches)?) {
         (Some("dump"), None) => Ok(View::Dump),
@@ -74,6 +76,7 @@ fn view_in(matches: &ArgMatches<'_>) -> Result<View, &'static str>
 fn border_in(matches: &ArgMatches<'_>) -> Result<Option<u8>, &'static str>
     ensures border { IfOk result (IsBorder (word_of matches.now (codes "at"))) }
     ensures refused { IfErr result (λ _. IsNoBorder (word_of matches.now (codes "at"))) }
+    ensures said { IfErr result IsSaid }
 {
     let Some(word) = matches.get_str("at") else {
         return Ok(None);
@@ -88,6 +91,7 @@ fn border_in(matches: &ArgMatches<'_>) -> Result<Option<u8>, &'static str>
 fn longest_in(matches: &ArgMatches<'_>) -> Result<Asked, &'static str>
     ensures asked { IfOk result (IsLongest matches.now) }
     ensures refused { IfErr result (λ _. IsNoLongest matches.now) }
+    ensures said { IfErr result IsSaid }
 {
     match (matches.get_flag("all"), border_in(matches)?) {
         (false, None) => Ok(Asked::Longest),
@@ -150,6 +154,7 @@ fn question_in<'w, 'a: 'w>(
 ) -> Result<Question<'w>, &'static str>
     ensures question { IfOk result (IsQuestion matches.now topic (texts_of words.now)) }
     ensures refused { IfErr result (λ _. IsNoQuestion matches.now topic (texts_of words.now)) }
+    ensures said { IfErr result IsSaid }
 {
     match topic {
         Topic::Get => {
@@ -196,6 +201,7 @@ pub fn ask_in<'w, 'a: 'w>(
     ensures ask { IfOk result (IsAsk matches.now topic (texts_of words.now)) }
     ensures refused { IfErr result (λ _. IsNoKind (word_of matches.now (codes "bare"))
         ⊎ IsNoQuestion matches.now topic (texts_of words.now)) }
+    ensures said { IfErr result IsSaid }
 {
     let file = file_in(matches, topic)?;
     let question = question_in(matches, topic, words)?;

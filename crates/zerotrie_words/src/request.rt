@@ -1,12 +1,16 @@
 //! The words of a command line as a command.
 
-ghost use Rattle.std.specs.Prelude.{◌≡◌, IfOk, IfErr};
+ghost use Rattle.std.specs.Prelude.{◌≡◌, List, IfOk, IfErr, IfSome, map, string_bytes};
 ghost use Rattle.zerotrie_run.specs.declared.status.Status.TheVariants.{BadUsage};
+ghost use Rattle.zerotrie_words.specs.Arguments.{program_by};
+ghost use Rattle.zerotrie_words.specs.Reads.{IsFaultSaid, IsFoundIn, IsNoRequest, IsRequest};
 ghost use Rattle.zerotrie_words.specs.Replies.{status_of};
-ghost use Rattle.zerotrie_words.specs.Requests.{AreApart, AreOneFile, IsCommand, IsNoCommand, IsQuiet, keys_by};
+ghost use Rattle.zerotrie_words.specs.Requests.{AreApart, AreOneFile, IsCommand, IsNoCommand, IsQuiet, IsRefusal, NamesOneFile, keys_by};
+ghost use Rattle.zerotrie_words.specs.Tasks.{AsksForPage};
 ghost use Rattle.zerotrie_words.specs.Words.{texts_of};
+ghost use Rattle.zerotrie_words.specs.declared.arguments.Subcommand.{Subcommand};
 
-use crate::arguments::program;
+use crate::arguments::{Subcommand, program};
 use crate::build::build_in;
 use crate::combine::combine_in;
 use crate::completions::script_for;
@@ -30,23 +34,38 @@ pub struct Request<'a> {
     keys: Option<Vec<&'a [u8]>>,
 }
 
-/// Returns the words of a command, or what is said in place of it.
-fn matches_in<'a>(alloc: Global, words: &'a [String]) -> Result<ArgMatches<'a>, Reply<'a>> {
-    let known = program(alloc, &commands())?;
+/// Returns what clap finds in words, by rows of commands, or what is said in place of it.
+fn matches_in<'a>(
+    alloc: Global,
+    rows: &[&'static [Subcommand]],
+    words: &'a [String],
+) -> Result<ArgMatches<'a>, Reply<'a>>
+    ensures found { IfOk result (IsFoundIn (program_by (map (λ part. part.now) rows.now))
+        (map (λ word. string_bytes word) words.now)) }
+    ensures refused { IfErr result (IsFaultSaid (program_by (map (λ part. part.now) rows.now))
+        (map (λ word. string_bytes word) words.now)) }
+{
+    let known = program(alloc, rows)?;
     match known.try_get_matches_from(words) {
         Ok(matches) => Ok(matches),
         Err(error) => Err(reply_to(alloc, &error)),
     }
 }
 
-/// Returns the man page, or the completions for a shell, if the words ask for these. `None` if they ask
-/// for something else.
-fn page_in(alloc: Global, matches: &ArgMatches<'_>) -> Result<Option<String>, AllocError> {
+/// Returns the man page, or the completions for a shell, if the words ask for these. `None` if they
+/// ask for something else.
+fn page_in(
+    alloc: Global,
+    rows: &[&'static [Subcommand]],
+    matches: &ArgMatches<'_>,
+) -> Result<Option<String>, AllocError>
+    ensures { IfOk result (λ page. IfSome page (λ _. AsksForPage matches.now)) }
+{
     match matches.subcommand() {
         Some(("completions", words)) => {
-            script_for(alloc, words.get_str("SHELL").unwrap_or(""), &commands())
+            script_for(alloc, words.get_str("SHELL").unwrap_or(""), rows)
         }
-        Some(("man", _)) => Ok(Some(manual(alloc, &commands())?)),
+        Some(("man", _)) => Ok(Some(manual(alloc, rows)?)),
         _ => Ok(None),
     }
 }
@@ -57,6 +76,7 @@ fn kept_apart<'a>(build: Build<'a>) -> Result<Build<'a>, Reply<'a>>
     ensures apart { IfOk result (λ same. (same ≡ build.entry) × AreApart same.from same.to) }
     ensures refused { IfErr result (λ reply. AreOneFile build.entry.from build.entry.to
         × (status_of reply ≡ BadUsage)) }
+    ensures said { IfErr result (NamesOneFile build.entry.from build.entry.to) }
 {
     match (build.from, build.to) {
         (Place::File(from), Place::File(to)) if from == to => Err(Reply::OneFile(from, to)),
@@ -65,12 +85,36 @@ fn kept_apart<'a>(build: Build<'a>) -> Result<Build<'a>, Reply<'a>>
 }
 
 impl<'a> Request<'a> {
-    /// Reads the words of a command line, of which the first is the name of the program.
+    /// Reads the words of a command line, of which the first is the name of the program. It is an
+    /// error if they are wrong, if they ask for help, the version, the man page or completions, or
+    /// if an allocation fails.
     pub fn read(alloc: Global, words: &'a [String]) -> Result<Self, Reply<'a>>
-        ensures { IfOk result (λ r. texts_of r.keys ≡ keys_by r.matches r.task) }
+        ensures keys { IfOk result (λ r. texts_of r.keys ≡ keys_by r.matches r.task) }
+        ensures request { IfOk result (λ r. (rows : List (List Subcommand))
+            × IsRequest (program_by rows) (map (λ word. string_bytes word) words.now)
+            r.task r.matches) }
+        ensures refused { IfErr result (λ reply. (rows : List (List Subcommand))
+            × IsNoRequest (program_by rows) (map (λ word. string_bytes word) words.now) reply) }
     {
-        let mut matches = matches_in(alloc, words)?;
-        if let Some(page) = page_in(alloc, &matches)? {
+        Request::read_by(alloc, &commands(), words)
+    }
+
+    /// Reads the words of a command line, by rows of commands.
+    fn read_by(
+        alloc: Global,
+        rows: &[&'static [Subcommand]],
+        words: &'a [String],
+    ) -> Result<Self, Reply<'a>>
+        ensures keys { IfOk result (λ r. texts_of r.keys ≡ keys_by r.matches r.task) }
+        ensures request { IfOk result (λ r. IsRequest
+            (program_by (map (λ part. part.now) rows.now))
+            (map (λ word. string_bytes word) words.now) r.task r.matches) }
+        ensures refused { IfErr result (IsNoRequest
+            (program_by (map (λ part. part.now) rows.now))
+            (map (λ word. string_bytes word) words.now)) }
+    {
+        let mut matches = matches_in(alloc, rows, words)?;
+        if let Some(page) = page_in(alloc, rows, &matches)? {
             return Err(Reply::Help(page));
         }
         let Some((task, matches)) = task_in(&mut matches) else {
@@ -99,14 +143,15 @@ impl<'a> Request<'a> {
     }
 
     /// Returns the command that the words ask for. A build reports what it made also if messages go
-    /// to a terminal, but not if it is to be quiet. It is an error if an option has a wrong word, if options exclude each other, or
-    /// if a build would replace its own input.
+    /// to a terminal, but not if it is to be quiet. It is an error if an option has a wrong word,
+    /// if options exclude each other, or if a build would replace its own input.
     pub fn command(&self, to_terminal: bool) -> Result<Command<'_>, Reply<'a>>
         ensures command { IfOk result
             (IsCommand self.now.matches (texts_of self.now.keys) to_terminal self.now.task) }
         ensures refused { IfErr result (λ _.
             IsNoCommand self.now.matches (texts_of self.now.keys) self.now.task) }
         ensures status { IfErr result (λ reply. status_of reply ≡ BadUsage) }
+        ensures said { IfErr result (IsRefusal self.now.matches) }
     {
         match self.task {
             Task::Build => {

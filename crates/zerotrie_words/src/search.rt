@@ -3,7 +3,7 @@
 ghost use Rattle.std.specs.Prelude.{◌≡◌, ◌≢◌, false, true, IfErr, IfOk, IfSome, IfNone, None, codes};
 ghost use Rattle.zerotrie_search.specs.Automata.{IsWordError};
 ghost use Rattle.zerotrie_search.specs.declared.any.WordError.{WordError};
-ghost use Rattle.zerotrie_words.specs.Refusals.{HasNoNumber, IsNoSearch, IsNoSought, IsNoWord, IsUseless};
+ghost use Rattle.zerotrie_words.specs.Refusals.{HasNoNumber, IsNoSearch, IsNoSought, IsNoWord, IsSaid, IsUseless};
 ghost use Rattle.zerotrie_words.specs.Words.{AreBytesUsed, AreSwapsUsed, AreUsed, HasNoPart, HasNoRange, IsEdits, IsFlag, IsFront, IsFuzzyBy, IsGlobBy, IsListed, IsRange, IsSought, IsSoughtBy, flag_of, word_of};
 
 use clap::ArgMatches;
@@ -19,7 +19,9 @@ const NOTHING_SOUGHT: &str = "give --glob, --fuzzy, --subsequence, --prefix, --f
 const TOO_MUCH_SOUGHT: &str = "give only one of --glob, --fuzzy and --subsequence";
 
 /// Returns what is said of a word that is none of its sort.
-fn word_refused(by: SearchBy, error: WordError) -> &'static str {
+fn word_refused(by: SearchBy, error: WordError) -> &'static str
+    ensures { IsSaid result }
+{
     match (by, error) {
         (SearchBy::Glob | SearchBy::GlobChars, WordError::Malformed) => {
             "--glob asks for a pattern: a class lacks its end or its letters, a range ends before it begins, or a backslash escapes nothing"
@@ -43,6 +45,7 @@ fn sought_by<'a>(by: SearchBy, word: &'a str) -> Result<Option<Sought<'a>>, &'st
     ensures some { IfOk result (λ o. o ≢ None) }
     ensures word { IfOk result (λ _. (e : WordError) → IsWordError by word.now e → ⊥) }
     ensures refused { IfErr result (λ _. IsNoWord by word.now) }
+    ensures said { IfErr result IsSaid }
 {
     let word = word.as_bytes();
     match AnyAutomaton::new(by, word) {
@@ -67,6 +70,7 @@ fn glob_by(matches: &ArgMatches<'_>) -> SearchBy
 fn edits_in(matches: &ArgMatches<'_>) -> Result<u8, &'static str>
     ensures edits { IfOk result (IsEdits (word_of matches.now (codes "edits"))) }
     ensures refused { IfErr result (λ _. HasNoNumber 8 (word_of matches.now (codes "edits"))) }
+    ensures said { IfErr result IsSaid }
 {
     let Some(word) = matches.get_str("edits") else {
         return Ok(EDITS);
@@ -151,6 +155,7 @@ fn has_idle_bytes(matches: &ArgMatches<'_>) -> bool
 fn useless_in(matches: &ArgMatches<'_>) -> Option<&'static str>
     ensures none { IfNone result (AreUsed matches.now) }
     ensures some { IfSome result (λ _. IsUseless matches.now) }
+    ensures said { IfSome result IsSaid }
 {
     if has_idle_edits(matches) {
         return Some("--edits is for --fuzzy");
@@ -166,6 +171,7 @@ fn useless_in(matches: &ArgMatches<'_>) -> Option<&'static str>
 fn sought_in<'a>(matches: &ArgMatches<'a>) -> Result<Option<Sought<'a>>, &'static str>
     ensures sought { IfOk result (IsSoughtBy matches.now) }
     ensures refused { IfErr result (λ _. IsNoSought matches.now) }
+    ensures said { IfErr result IsSaid }
 {
     if let Some(useless) = useless_in(matches) {
         return Err(useless);
@@ -216,6 +222,7 @@ fn has_part(matches: &ArgMatches<'_>) -> bool
 pub fn choice_in<'a>(matches: &ArgMatches<'a>) -> Result<Choice<'a>, &'static str>
     ensures sought { IfOk result (IsSought matches.now) }
     ensures refused { IfErr result (λ _. IsNoSearch matches.now) }
+    ensures said { IfErr result IsSaid }
 {
     let sought = sought_in(matches)?;
     if sought.is_none() && !has_part(matches) {

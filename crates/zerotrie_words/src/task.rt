@@ -1,8 +1,7 @@
 //! What commands do, by their names.
 
 ghost use Rattle.std.specs.Prelude.{◌≡◌, Some, IfNone, IfSome};
-ghost use Rattle.clap.specs.Matches.{subcommand_name_of};
-ghost use Rattle.zerotrie_words.specs.Tasks.{task_word};
+ghost use Rattle.zerotrie_words.specs.Tasks.{IsTaskOf, NamesNoTask, task_word};
 ghost use Rattle.zerotrie_words.specs.declared.task.Task.{Task};
 
 use clap::ArgMatches;
@@ -64,7 +63,8 @@ impl Task {
 /// Takes the command that clap found, as what it does and its own words. `None` if there is none,
 /// which clap refuses.
 pub fn task_in<'a>(matches: &mut ArgMatches<'a>) -> Option<(Task, ArgMatches<'a>)>
-    ensures { IfSome result (λ found. subcommand_name_of matches.old ≡ task_word found.0) }
+    ensures some { IfSome result (λ found. IsTaskOf matches.old found.0 found.1) }
+    ensures none { IfNone result (NamesNoTask matches.old) }
 {
     let (name, words) = matches.remove_subcommand()?;
     match Task::named(name) {
