@@ -147,11 +147,7 @@ fn class_takes(text: Text<'_>, letter: (u32, u32)) -> Option<(bool, Text<'_>)> {
 }
 
 /// Returns a class beside the letter, and what is left of the pattern after it.
-fn class_item(
-    text: Text<'_>,
-    negated: bool,
-    letter: (u32, u32),
-) -> Option<(Item, Text<'_>)> {
+fn class_item(text: Text<'_>, negated: bool, letter: (u32, u32)) -> Option<(Item, Text<'_>)> {
     let _first = class_letter(text)?;
     let (has, rest) = class_takes(text, letter)?;
     let item = Item {
