@@ -265,7 +265,9 @@ typedef struct zerotrie_cursor {
     size_t end;  /**< where that ends */
 } zerotrie_cursor;
 
-/** How a search finds keys. It compares bytes as they are stored, in IGNORE_CASE too. */
+/** How a search finds keys. In IGNORE_CASE, keys, bounds and words are compared in lower case, and the
+ * letters of a pattern are taken in both cases, so `[A-_]` has `a` too. Listings in the order of bytes
+ * compare bounds as they are. */
 typedef enum zerotrie_search_by ZEROTRIE_ENUM {
     /** the keys between two bounds, in the order of bytes as memcmp has it, a shorter key first */
     ZEROTRIE_BY_RANGE = 0,
@@ -854,7 +856,7 @@ zerotrie_status zerotrie_list_some(zerotrie_kind_number kind, const uint8_t *byt
  * It reads the keys node by node, and passes over those that begin as no key that is found does. So
  * a call costs a look-up of `last` and what it reads: of a range about what it lists, of a pattern
  * or a word with few edits a small part of the trie. Allocates as zerotrie_list_some(), and one
- * state for each byte of the longest key.
+ * state for each byte of the longest key, and in IGNORE_CASE copies of the texts of the search.
  */
 ZEROTRIE_ANSWERS
 zerotrie_status zerotrie_search_some(zerotrie_kind_number kind, const uint8_t *bytes, size_t len,
@@ -881,7 +883,7 @@ zerotrie_status zerotrie_search_check(const zerotrie_search *search);
  *                               sizeof keys, ends, 10, values, 10, distances, 10, &count,
  *                               &next_len);
  *
- * It compares bytes as they are stored, in IGNORE_CASE too. It searches once for each number of
+ * In IGNORE_CASE, keys and the word are compared in lower case. It searches once for each number of
  * edits, from none on, until there is no room: so few near keys cost little. Allocates as
  * zerotrie_search_some().
  */

@@ -397,8 +397,9 @@ class Parts;
 } // namespace detail
 /// @endcond
 
-/// Which keys a search finds. It compares bytes as they are stored, in Kind::IgnoreCase too, and
-/// owns its texts. Trie::search() lists what it finds.
+/// Which keys a search finds. In Kind::IgnoreCase, keys, bounds and words are compared in lower case,
+/// and the letters of a pattern are taken in both cases. It owns its texts. Trie::search() lists what
+/// it finds.
 class Search {
 public:
     /// All keys.
@@ -1059,8 +1060,8 @@ public:
     }
     /// The pairs whose keys at most so many edits make of a word in UTF-8, the nearest first, and those
     /// that are as near in the order of bytes: at most `most` of them. Edits are of characters, and
-    /// neighbours that change places are one. Throws Error if the word is not UTF-8 or has more than 63
-    /// characters, or for more than 7 edits.
+    /// neighbours that change places are one. In Kind::IgnoreCase letters are compared in lower case.
+    /// Throws Error if the word is not UTF-8 or has more than 63 characters, or for more than 7 edits.
     [[nodiscard]] std::vector<Near> nearest(std::string_view word, uint32_t edits = 2,
                                             size_t most = 10) const {
         const auto at = detail::of(bytes_), w = detail::of(word);

@@ -471,6 +471,13 @@ static void changes() {
     for (const auto [key, value] : words.search(zerotrie::Search::swaps_chars("tire"))) swapped += key;
     CHECK(swapped == "tiretrietiretrie");
     CHECK(thrown([&] { (void)words.nearest("trie", 8); }).status == ZEROTRIE_SEARCH_TOO_LONG);
+    const zerotrie::Map names(Kind::IgnoreCase, zerotrie::PairList{{"Content-Type", 1}, {"ETag", 2}});
+    std::string found;
+    for (const auto &what : {zerotrie::Search::glob("content-*"), zerotrie::Search::range("c", "d"), zerotrie::Search::glob("[A-_]tag"),
+                             zerotrie::Search::fuzzy("etag", 0), zerotrie::Search::range("D", std::nullopt)})
+        for (const auto [key, value] : names.search(what)) found += key;
+    CHECK(found == "Content-TypeContent-TypeETagETagETag");
+    CHECK(names.nearest("etga", 1).size() == 1 && names.nearest("etga", 1)[0].key == "ETag" && names.nearest("etga", 1)[0].distance == 1);
     const zerotrie::Trie bad(Kind::SimpleAscii, "into"sv);
     CHECK(thrown([&] { (void)zerotrie::diff(bad, bad).begin(); }).status == ZEROTRIE_MALFORMED_TRIE);
     CHECK(zerotrie::Reverse(bad).places().empty());

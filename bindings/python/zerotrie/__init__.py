@@ -443,7 +443,7 @@ class _Trie(Reader[Word], _InBytes, Mapping[Any, int]):
     def glob(self, pattern: Key) -> Found[Word]:
         """A view of the pairs whose keys a pattern matches, as "s*ing": `*` is any number of bytes,
         `?` one byte, and `[a-z]` or `[!a-z]` a byte that is of a class or is not. A backslash takes
-        the meaning of the byte after it.
+        the meaning of the byte after it. In IGNORE_CASE this and the three below ignore case.
 
         ZeroTrieError if it is malformed, or has more than 63 items.
         """

@@ -11,4 +11,5 @@ mod BoundLemmas
 mod FileLemmas
 mod SetLemmas
 mod ChangeLemmas
+mod FoldLemmas
 mod NearestLemmas

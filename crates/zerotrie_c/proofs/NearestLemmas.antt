@@ -1,17 +1,21 @@
 -- The distances of pairs that are written, and what a call for the nearest comes to.
-use Rattle.std.proofs.Common.{◌≡◌, ℕ, ◌+◌, ◌*◌, ◌<◌, ◌≤◌, ◌⊎◌, ◌↔◌, suc, inl, inr, List, [], ◌∷◌, ◌++◌, length, map, min, set, refl, sym, ◌∙◌, ap, subst, arith, true, false, Option, Some, None, IfSome, IfNone, IsNone}
+use Rattle.std.proofs.Common.{◌≡◌, ◌≢◌, ℕ, ◌+◌, ◌*◌, ◌<◌, ◌≤◌, ◌⊎◌, ◌↔◌, suc, inl, inr, List, [], ◌∷◌, ◌++◌, length, map, min, set, refl, sym, ◌∙◌, ap, subst, arith, true, false, Option, Some, None, IfSome, IfNone, IsNone}
 use Rattle.std.proofs.lemmas.Bool.{cases_lt}
 use Rattle.std.proofs.lemmas.List.{append-nil, map-append, length-map}
 use Rattle.std.specs.FinMap.{entries}
 use Rattle.zerotrie_core.specs.Kind.{Kind}
+use Rattle.zerotrie_core.specs.Kinds.{kind_of}
+use Rattle.zerotrie_core.specs.declared.TrieKind.{TrieKind}
+use Rattle.zerotrie_core.specs.declared.TrieKind.TheVariants.{Ignore}
 use Rattle.zerotrie_core.specs.Maps.{Pairs, Map}
 use Rattle.zerotrie_core.specs.Texts.{Means}
 use Rattle.zerotrie_search.specs.Nearest.{nearest as nearest_of}
 use Rattle.zerotrie_c.specs.Listed.{joined, IsPut, IsWritten, HasNoRoom}
-use Rattle.zerotrie_search.specs.Automata.{IsMalformedWord, IsLongWord}
+use Rattle.zerotrie_search.specs.Automata.{word_by, IsMalformedWord, IsLongWord}
 use Rattle.zerotrie_search.specs.declared.any.SearchBy.{SearchBy}
-use Rattle.zerotrie_c.specs.Searched.{IsRightWord}
-use Rattle.zerotrie_c.specs.Nearest.{edits_by, measured, IsNearestListed, IsNearestTold}
+use Rattle.zerotrie_c.specs.Searched.{IsRightWord, IsWordFault}
+use Rattle.zerotrie_c.specs.Nearest.{measured, measured_given, IsNearestListed, IsNearestTold}
+use Rattle.zerotrie_c.proofs.FoldLemmas.{exact_word, word_fault_by}
 use Rattle.zerotrie_c.proofs.PartLemmas.{Going, set_more, no_room, nothing_written}
 
 -- the distance of each pair is at the front of the room
@@ -122,8 +126,32 @@ module _ {A : Type 0} (letters : A → List ℕ) (edits_of : A → ℕ) (of : Li
     told_any (Some a) is bytes some kept = (some.0, subst (λ n. length some.0 ≤ suc n * length bytes) is.1 some.1, told (Some a) is (λ _ _. some.0) some.2 kept)
     told_any None is bytes some kept = ([], omega arith, told None is (λ _ _. []) some kept)
 
--- what a call for this number of a search comes to on valid bytes
-abbrev pub TellsKnown : Kind → List ℕ → List ℕ → ℕ → ℕ → List ℕ → List ℕ → List ℕ → List ℕ → List ℕ → List ℕ → List ℕ → List ℕ → ℕ → ℕ → ℕ → ℕ → ℕ → Type 0
-TellsKnown kind bytes word edits status old_keys keys old_ends ends old_values values old_distances distances old_count count old_next_len next_len number =
-    IfSome (edits_by number edits) (λ how. (m : Map) → Means kind bytes m → IsNearestTold how (measured number word) word (nearest_of (measured number word) (entries m) 0 (suc edits))
+-- what a call comes to on valid bytes, and on any, for this way to count edits
+abbrev pub TellsKnown : (SearchBy → List ℕ → Option ℕ) → Kind → List ℕ → List ℕ → ℕ → ℕ → List ℕ → List ℕ → List ℕ → List ℕ → List ℕ → List ℕ → List ℕ → List ℕ → ℕ → ℕ → ℕ → ℕ → Option SearchBy → Type 0
+TellsKnown measure kind bytes word edits status old_keys keys old_ends ends old_values values old_distances distances old_count count old_next_len next_len counted =
+    IfSome counted (λ how. (m : Map) → Means kind bytes m → IsNearestTold how (measure how) word (nearest_of (measure how) (entries m) 0 (suc edits))
     status old_keys keys old_ends ends old_values values old_distances distances old_count count old_next_len next_len)
+
+abbrev pub TellsAny : (SearchBy → List ℕ → Option ℕ) → List ℕ → List ℕ → ℕ → ℕ → List ℕ → List ℕ → List ℕ → List ℕ → List ℕ → List ℕ → List ℕ → List ℕ → ℕ → ℕ → ℕ → ℕ → Option SearchBy → Type 0
+TellsAny measure bytes word edits status old_keys keys old_ends ends old_values values old_distances distances old_count count old_next_len next_len counted =
+    IfSome counted (λ how. (pairs : Pairs) × (length pairs ≤ suc edits * length bytes) × IsNearestTold how (measure how) word pairs
+    status old_keys keys old_ends ends old_values values old_distances distances old_count count old_next_len next_len)
+
+module _ (kind : TrieKind) {status : ℕ} {old_keys keys old_ends ends old_values values old_distances distances : List ℕ} {old_count count old_next_len next_len : ℕ} where
+  -- what is told of a word as the kind compares it is told of the word
+  pub told_folded : (how : SearchBy) (word folded : List ℕ) → IsRightWord how word → folded ≡ word_by (kind_of kind) how word → (pairs : (List ℕ → Option ℕ) → Pairs)
+      → IsNearestTold how (measured_given (kind_of kind) how folded) folded (pairs (measured_given (kind_of kind) how folded)) status old_keys keys old_ends ends old_values values old_distances distances old_count count old_next_len next_len
+      → IsNearestTold how (measured (kind_of kind) how word) word (pairs (measured (kind_of kind) how word)) status old_keys keys old_ends ends old_values values old_distances distances old_count count old_next_len next_len
+  told_folded how word folded right is pairs told = elim told [
+    | inl listed ↦ inl (
+      right,
+      subst (λ w. IsNearestListed (measured_given (kind_of kind) how w) (pairs (measured_given (kind_of kind) how w)) status old_keys keys old_ends ends old_values values old_distances distances count old_next_len next_len) is listed.1,
+    )
+    | inr kept ↦ inr (word_fault_by kind how word status (subst (λ w. IsWordFault how w status) is kept.0), kept.1, kept.2, kept.3, kept.4, kept.5, kept.6)
+  ]
+
+-- where case counts, a word is compared as it is
+pub if_exact : (kind : TrieKind) → kind ≢ Ignore → (word : List ℕ) (P : SearchBy → (List ℕ → Option ℕ) → Type 0) (counted : Option SearchBy)
+    → IfSome counted (λ how. P how (measured_given (kind_of kind) how word)) → IfSome counted (λ how. P how (measured (kind_of kind) how word))
+if_exact kind exact word P None h = tt
+if_exact kind exact word P (Some how) h = subst (λ w. P how (measured_given (kind_of kind) how w)) (sym (exact_word kind exact how word)) h

@@ -1,32 +1,26 @@
 -- The keys nearest to a word, as C is told of them.
-use Rattle.std.specs.Prelude.{◌≡◌, ◌⊎◌, ◌==◌, ◌++◌, ℕ, List, [], length, map, min, true, Option, Some, None, if◌then◌else◌}
-use Rattle.std.specs.Str.{chars}
+use Rattle.std.specs.Prelude.{◌≡◌, ◌⊎◌, ◌++◌, ℕ, List, [], length, map, min, nat_le, true, Option, Some, None, if◌then◌else◌}
+use Rattle.zerotrie_core.specs.Kind.{Kind}
 use Rattle.zerotrie_core.specs.Maps.{Pairs}
 use Rattle.zerotrie_core.specs.declared.ZeroTrieBuildError.TheVariants.{BufferTooSmall, OutOfMemory}
-use Rattle.zerotrie_search.specs.Edits.{distance}
-use Rattle.zerotrie_search.specs.Swaps.{osa_distance}
-use Rattle.zerotrie_search.specs.Texts.{text_measure}
+use Rattle.zerotrie_index.specs.Tries.{folded_key}
+use Rattle.zerotrie_search.specs.Automata.{edits_to, ignores_case, word_by}
 use Rattle.zerotrie_search.specs.declared.any.SearchBy.{SearchBy}
-use Rattle.zerotrie_search.specs.declared.any.SearchBy.TheVariants as by
 use Rattle.zerotrie_c.specs.Listed.{IsWritten, IsPut, HasNoRoom}
-use Rattle.zerotrie_c.specs.Searched.{IsWordFault, IsRightWord}
+use Rattle.zerotrie_c.specs.Searched.{search_by, IsWordFault, IsRightWord}
 use Rattle.zerotrie_c.specs.Statuses.{done, status_of}
 
 -- how edits are counted, by the number of the search: of bytes, or of characters; the same with swaps
 abbrev pub edits_by : ℕ → ℕ → Option SearchBy
-edits_by number edits =
-    if number == 3 then Some (by.Fuzzy edits)
-    else (if number == 4 then Some (by.FuzzyChars edits)
-    else (if number == 5 then Some (by.Swaps edits)
-    else (if number == 6 then Some (by.SwapsChars edits) else None)))
+edits_by number edits = if nat_le number 2 then None else search_by number edits
 
--- how many edits make a key of a word, if any number does
-abbrev pub measured : ℕ → List ℕ → List ℕ → Option ℕ
-measured number word =
-    if number == 3 then (λ key. Some (distance word key))
-    else (if number == 4 then text_measure (distance (chars word))
-    else (if number == 5 then (λ key. Some (osa_distance word key))
-    else text_measure (osa_distance (chars word))))
+-- how many edits make a key of a word, if any number does; the key is as a kind compares it, and the word too
+abbrev pub measured : Kind → SearchBy → List ℕ → List ℕ → Option ℕ
+measured kind by word key = edits_to (ignores_case kind) by (word_by kind by word) (folded_key kind key)
+
+-- words of private functions: the same of a word that is as the kind compares it
+abbrev pub measured_given : Kind → SearchBy → List ℕ → List ℕ → Option ℕ
+measured_given kind by word key = edits_to (ignores_case kind) by word (folded_key kind key)
 
 -- What a listing of the nearest comes to: as a part of a listing, and each number of edits is written too.
 abbrev pub IsNearestListed : (List ℕ → Option ℕ) → Pairs → ℕ → List ℕ → List ℕ → List ℕ → List ℕ → List ℕ → List ℕ → List ℕ → List ℕ → ℕ → ℕ → ℕ → Type 0

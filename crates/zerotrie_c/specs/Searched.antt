@@ -3,18 +3,18 @@ use Rattle.std.specs.Prelude.{◌≡◌, ◌≢◌, ◌<◌, ◌⊎◌, ◌==◌
 use Rattle.std.specs.Str.{chars, IsUtf8}
 use Rattle.std.specs.declared.ops.Bound.{Bound}
 use Rattle.std.specs.declared.ops.Bound.TheVariants.{Included, Excluded, Unbounded}
+use Rattle.zerotrie_core.specs.Kind.{Kind}
 use Rattle.zerotrie_core.specs.Maps.{Pairs}
+use Rattle.zerotrie_index.specs.Tries.{folded_key}
 use Rattle.zerotrie_search.specs.Searches.{accepted}
-use Rattle.zerotrie_search.specs.Sets.{from_left, to_left, has_within, some_front}
-use Rattle.zerotrie_search.specs.Globs.{items, no_item, matches}
-use Rattle.zerotrie_search.specs.Edits.{is_near}
-use Rattle.zerotrie_search.specs.Pending.{is_near_text}
-use Rattle.zerotrie_search.specs.Swaps.{is_osa_near}
-use Rattle.zerotrie_search.specs.SwapTexts.{is_osa_near_text}
-use Rattle.zerotrie_search.specs.Automata.{IsMalformedWord, IsLongWord, IsOverSwaps}
+use Rattle.zerotrie_search.specs.Sets.{from_left, to_left, some_front}
+use Rattle.zerotrie_search.specs.Globs.{items, no_item}
+use Rattle.zerotrie_search.specs.Automata.{finds_by, finds_in, word_by, IsMalformedWord, IsLongWord, IsOverSwaps}
 use Rattle.zerotrie_search.specs.declared.any.SearchBy.{SearchBy}
+use Rattle.zerotrie_search.specs.declared.any.SearchBy.TheVariants as by
 use Rattle.zerotrie_c.specs.Statuses.{done, unknown_search, malformed_search, search_too_long}
 use Rattle.zerotrie_c.specs.Listed.{IsListedSome}
+use Rattle.zerotrie_c.specs.declared.folding.FoldedTexts.{FoldedTexts}
 use Rattle.zerotrie_c.specs.declared.searches.Search.{Search}
 
 -- the bound of this number at a key, if one has it
@@ -24,24 +24,33 @@ bound_with number key =
     else (if number == 1 then Some (Included key)
     else (if number == 2 then Some (Excluded key) else None))
 
--- the keys that a search finds as they are, by its number: those in a range; those that a pattern matches; those that
--- have some bytes in their order; those that few edits of bytes make of a word, or of characters; the same with swaps
-abbrev pub finds_whole : Search → List ℕ → Bool
-finds_whole s =
-    if s.by == 0 then (λ key. from_left (bound_with s.from_bound s.text.now) key && to_left (bound_with s.to_bound s.to.now) key)
-    else (if s.by == 1 then matches (items s.text.now)
-    else (if s.by == 2 then has_within s.text.now
-    else (if s.by == 3 then is_near s.edits s.text.now
-    else (if s.by == 4 then is_near_text s.edits (chars s.text.now)
-    else (if s.by == 5 then is_osa_near s.edits s.text.now
-    else is_osa_near_text s.edits (chars s.text.now))))))
+-- how a word finds keys, by the number of the search; no word does in a search between two bounds
+abbrev pub search_by : ℕ → ℕ → Option SearchBy
+search_by number edits =
+    if number == 1 then Some by.Glob
+    else (if number == 2 then Some by.Subsequence
+    else (if number == 3 then Some (by.Fuzzy edits)
+    else (if number == 4 then Some (by.FuzzyChars edits)
+    else (if number == 5 then Some (by.Swaps edits)
+    else (if number == 6 then Some (by.SwapsChars edits) else None)))))
+
+-- the keys between the bounds of a search if it has no word, or those that its word finds, as a kind compares them
+abbrev pub finds_how : Option SearchBy → Kind → Search → List ℕ → Bool
+finds_how None kind s key =
+    from_left (bound_with s.from_bound (folded_key kind s.text.now)) (folded_key kind key)
+    && to_left (bound_with s.to_bound (folded_key kind s.to.now)) (folded_key kind key)
+finds_how (Some by) kind s key = finds_by kind by s.text.now key
+
+-- the keys that a search finds as a whole
+abbrev pub finds_whole : Kind → Search → List ℕ → Bool
+finds_whole kind s = finds_how (search_by s.by s.edits) kind s
 
 -- the keys that are found, or those that begin with one that is, if a search asks for that
 abbrev pub or_beginnings : Bool → (List ℕ → Bool) → List ℕ → Bool
 or_beginnings beginnings finds = if beginnings then some_front finds else finds
 
-abbrev pub finds : Search → List ℕ → Bool
-finds s = or_beginnings s.beginnings (finds_whole s)
+abbrev pub finds : Kind → Search → List ℕ → Bool
+finds kind s = or_beginnings s.beginnings (finds_whole kind s)
 
 -- no search, or no bound of a range, has the number
 abbrev pub IsUnknownSearch : Search → Type 0
@@ -69,12 +78,19 @@ IsSearchFault s status = ((status ≡ unknown_search) × IsUnknownSearch s)
     ⊎ ((status ≡ malformed_search) × IsMalformedSearch s)
     ⊎ ((status ≡ search_too_long) × IsLongSearch s)
 
--- What a part of a search of these pairs comes to: a search without a fault is a listing of the pairs that it finds;
--- one with a fault is refused by it, and nothing is written.
-abbrev pub IsSearchedSome : Search → Pairs → ℕ → List ℕ → List ℕ → List ℕ → List ℕ → List ℕ → List ℕ → ℕ → ℕ → ℕ → ℕ → Type 0
-IsSearchedSome s pairs status old_keys keys old_ends ends old_values values old_count count old_next_len next_len =
+-- What a part of a search of these pairs comes to: a search without a fault is a listing of the pairs that it finds, as
+-- the kind compares keys; one with a fault is refused by it, and nothing is written.
+abbrev pub IsSearchedSome : Kind → Search → Pairs → ℕ → List ℕ → List ℕ → List ℕ → List ℕ → List ℕ → List ℕ → ℕ → ℕ → ℕ → ℕ → Type 0
+IsSearchedSome kind s pairs status old_keys keys old_ends ends old_values values old_count count old_next_len next_len =
     (((fault : ℕ) → IsSearchFault s fault → ⊥)
-    × IsListedSome (accepted (finds s) pairs) status old_keys keys old_ends ends old_values values count old_next_len next_len)
+    × IsListedSome (accepted (finds kind s) pairs) status old_keys keys old_ends ends old_values values count old_next_len next_len)
+    ⊎ (IsSearchFault s status × (keys ≡ old_keys) × (ends ≡ old_ends) × (values ≡ old_values)
+    × (count ≡ old_count) × (next_len ≡ old_next_len))
+
+-- words of private functions: what a search of these pairs writes if it has no fault, or that it has one
+abbrev pub IsFoundSome : Kind → Search → Pairs → ℕ → List ℕ → List ℕ → List ℕ → List ℕ → List ℕ → List ℕ → ℕ → ℕ → ℕ → ℕ → Type 0
+IsFoundSome kind s pairs status old_keys keys old_ends ends old_values values old_count count old_next_len next_len =
+    IsListedSome (accepted (finds kind s) pairs) status old_keys keys old_ends ends old_values values count old_next_len next_len
     ⊎ (IsSearchFault s status × (keys ≡ old_keys) × (ends ≡ old_ends) × (values ≡ old_values)
     × (count ≡ old_count) × (next_len ≡ old_next_len))
 
@@ -88,3 +104,32 @@ IsRightWord by word = (IsMalformedWord by word → ⊥) × (IsLongWord by word �
 
 abbrev pub IsWordFault : SearchBy → List ℕ → ℕ → Type 0
 IsWordFault by word status = ((status ≡ malformed_search) × IsMalformedWord by word) ⊎ ((status ≡ search_too_long) × IsLongWord by word)
+
+-- words of private functions: the keys that a search finds with its texts as they are; the letters of a pattern may be
+-- taken in both cases
+abbrev pub given_how : Option SearchBy → (any_case : Bool) → (from to : Option (Bound (List ℕ))) → List ℕ → List ℕ → Bool
+given_how None any_case from to word = λ key. from_left from key && to_left to key
+given_how (Some by) any_case from to word = finds_in any_case by word
+
+abbrev pub finds_given : (any_case : Bool) → Search → List ℕ → Bool
+finds_given any_case s = given_how (search_by s.by s.edits) any_case (bound_with s.from_bound s.text.now) (bound_with s.to_bound s.to.now) s.text.now
+
+-- words of private functions: the text of a search as a kind compares it; a pattern stays as it is
+abbrev pub text_by : Option SearchBy → Kind → List ℕ → List ℕ
+text_by None kind text = folded_key kind text
+text_by (Some by) kind text = word_by kind by text
+
+-- Words of private functions: the texts of a search, as a kind compares them.
+pub record AreTextsOf (kind : Kind) (s : Search) (texts : FoldedTexts) : Type 0 where
+  pub text : texts.folded_text.items ≡ text_by (search_by s.by s.edits) kind s.text.now
+  pub to : texts.folded_to.items ≡ folded_key kind s.to.now
+
+-- Words of private functions: a search has them in place of those of another one.
+pub record HasTexts (texts : FoldedTexts) (s with_texts : Search) : Type 0 where
+  pub by : with_texts.by ≡ s.by
+  pub edits : with_texts.edits ≡ s.edits
+  pub from_bound : with_texts.from_bound ≡ s.from_bound
+  pub to_bound : with_texts.to_bound ≡ s.to_bound
+  pub text : with_texts.text.now ≡ texts.folded_text.items
+  pub to : with_texts.to.now ≡ texts.folded_to.items
+  pub beginnings : with_texts.beginnings ≡ s.beginnings

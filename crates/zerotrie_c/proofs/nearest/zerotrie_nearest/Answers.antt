@@ -1,82 +1,32 @@
--- Each number of edits has an automaton, and a word that has none is too long.
-use Rattle.std.proofs.Common.{Some, arith, suc, sym, subst}
-use Rattle.std.specs.FinMap.{entries}
-use Rattle.std.specs.Str.{chars}
+-- What is told of the trie of the bytes.
+use Rattle.std.proofs.Common.{Some, refl, subst}
 use Rattle.zerotrie_core.specs.Kinds.{kind_of as kind_that_is}
-use Rattle.zerotrie_core.specs.Texts.{Means}
-use Rattle.zerotrie_search.specs.Edits.{distance}
-use Rattle.zerotrie_search.specs.Nearest.{nearest as nearest_of}
-use Rattle.zerotrie_search.specs.Swaps.{osa_distance}
-use Rattle.zerotrie_search.specs.Texts.{text_measure}
-use Rattle.zerotrie_search.specs.Words.{letters_of}
-use Rattle.zerotrie_search.specs.declared.any.SearchBy.TheVariants as by
-use Rattle.zerotrie_c.proofs.NearestLemmas.{TellsKnown, above, settled, told, told_any}
+use Rattle.zerotrie_c.specs.Nearest.{edits_by, measured}
+use Rattle.zerotrie_c.proofs.NearestLemmas.{TellsKnown, TellsAny, if_exact}
 use Rattle.zerotrie_c.proofs.nearest.zerotrie_nearest.Goals as goal
 
-pub returns-in-3-clause-known : goal.returns-in-3-clause-known
-returns-in-3-clause-known c =
-    let w = c.write_near in
-    rw c.in-Some.ensures.kind (subst (TellsKnown (kind_that_is c.in-Some.trie.kind) c.args.bytes.now c.args.word.now c.args.edits w.result c.args.keys.now w.new.keys c.args.ends.now w.new.ends
-    c.args.values.now w.new.values c.args.distances.now w.new.distances c.args.count.now w.new.count c.args.next_len.now w.new.next_len) (sym c.in-3.is) (λ m means.
-    let here = subst (λ b. Means (kind_that_is c.in-Some.trie.kind) b m) (sym c.in-Some.ensures.bytes) means in
-    let is = settled (λ l. letters_of l.word) (λ l. l.edits) (λ w key. Some (distance w key)) (by.Fuzzy c.args.edits) c.args.word.now c.args.word.now c.capped-most.result c.args.edits 254 c.capped-most.ensures (omega arith) (λ bad. bad) (λ long. long, λ long. long) c.new-near.result c.new-near.ensures.of (above c.capped-most.result (omega (arith, c.capped-most.ensures)) c.new-near.ensures.none) in
-    told (λ l. letters_of l.word) (λ l. l.edits) (λ w key. Some (distance w key)) (by.Fuzzy c.args.edits) c.args.word.now c.args.word.now c.capped-most.result c.args.edits 254 c.capped-most.ensures (omega arith) (λ bad. bad) (λ long. long, λ long. long)
-    c.new-near.result is (λ measure n. nearest_of measure (entries m) 0 (suc n)) (w.ensures.known m here) w.ensures.none))
+pub returns-then-ignores_case-clause-known : goal.returns-then-ignores_case-clause-known
+returns-then-ignores_case-clause-known c =
+    let w = c.write_folded in
+    rw c.in-Some.ensures.kind (subst (λ b. TellsKnown (λ how. measured (kind_that_is c.in-Some.trie.kind) how c.args.word.now) (kind_that_is c.in-Some.trie.kind) b c.args.word.now c.args.edits w.result c.args.keys.now w.new.keys c.args.ends.now w.new.ends
+    c.args.values.now w.new.values c.args.distances.now w.new.distances c.args.count.now w.new.count c.args.next_len.now w.new.next_len (edits_by c.args.by c.args.edits)) c.in-Some.ensures.bytes w.ensures.known)
 
-pub returns-in-3-clause-any : goal.returns-in-3-clause-any
-returns-in-3-clause-any c =
-    rw c.in-Some.ensures.kind (rw c.in-3.is (
-    let is = settled (λ l. letters_of l.word) (λ l. l.edits) (λ w key. Some (distance w key)) (by.Fuzzy c.args.edits) c.args.word.now c.args.word.now c.capped-most.result c.args.edits 254 c.capped-most.ensures (omega arith) (λ bad. bad) (λ long. long, λ long. long) c.new-near.result c.new-near.ensures.of (above c.capped-most.result (omega (arith, c.capped-most.ensures)) c.new-near.ensures.none) in
-    told_any (λ l. letters_of l.word) (λ l. l.edits) (λ w key. Some (distance w key)) (by.Fuzzy c.args.edits) c.args.word.now c.args.word.now c.capped-most.result c.args.edits 254 c.capped-most.ensures (omega arith) (λ bad. bad) (λ long. long, λ long. long)
-    c.new-near.result is c.args.bytes.now (rw c.in-Some.ensures.bytes at c.write_near.ensures.any) c.write_near.ensures.none))
+pub returns-clause-known : goal.returns-clause-known
+returns-clause-known c =
+    let w = c.write_told in
+    rw c.in-Some.ensures.kind (subst (λ b. TellsKnown (λ how. measured (kind_that_is c.in-Some.trie.kind) how c.args.word.now) (kind_that_is c.in-Some.trie.kind) b c.args.word.now c.args.edits w.result c.args.keys.now w.new.keys c.args.ends.now w.new.ends
+    c.args.values.now w.new.values c.args.distances.now w.new.distances c.args.count.now w.new.count c.args.next_len.now w.new.next_len (edits_by c.args.by c.args.edits)) c.in-Some.ensures.bytes
+    (if_exact c.in-Some.trie.kind (c.if-ignores_case.ensures.no refl) c.args.word.now
+    (λ how measure. TellsKnown (λ _. measure) (kind_that_is c.in-Some.trie.kind) c.in-Some.trie.bytes.now c.args.word.now c.args.edits w.result c.args.keys.now w.new.keys c.args.ends.now w.new.ends
+    c.args.values.now w.new.values c.args.distances.now w.new.distances c.args.count.now w.new.count c.args.next_len.now w.new.next_len (Some how))
+    (edits_by c.args.by c.args.edits) w.ensures.known))
 
-pub returns-in-Ok-clause-known : goal.returns-in-Ok-clause-known
-returns-in-Ok-clause-known c =
-    let w = c.write_near-in-4 in
-    rw c.in-Some.ensures.kind (subst (TellsKnown (kind_that_is c.in-Some.trie.kind) c.args.bytes.now c.args.word.now c.args.edits w.result c.args.keys.now w.new.keys c.args.ends.now w.new.ends
-    c.args.values.now w.new.values c.args.distances.now w.new.distances c.args.count.now w.new.count c.args.next_len.now w.new.next_len) (sym c.in-4.is) (λ m means.
-    let here = subst (λ b. Means (kind_that_is c.in-Some.trie.kind) b m) (sym c.in-Some.ensures.bytes) means in
-    let is = settled (λ l. letters_of l.word) (λ l. l.edits) (λ w. text_measure (distance w)) (by.FuzzyChars c.args.edits) c.args.word.now (chars c.args.word.now) c.capped-most.result c.args.edits 254 c.capped-most.ensures (omega arith) (λ bad. bad c.in-Ok.ensures.cases.1) (λ long. long, λ long. long) c.new-near-in-4.result (rw c.in-Ok.ensures.cases.0 at c.new-near-in-4.ensures.of) (rw c.in-Ok.ensures.cases.0 at (above c.capped-most.result (omega (arith, c.capped-most.ensures)) c.new-near-in-4.ensures.none)) in
-    told (λ l. letters_of l.word) (λ l. l.edits) (λ w. text_measure (distance w)) (by.FuzzyChars c.args.edits) c.args.word.now (chars c.args.word.now) c.capped-most.result c.args.edits 254 c.capped-most.ensures (omega arith) (λ bad. bad c.in-Ok.ensures.cases.1) (λ long. long, λ long. long)
-    c.new-near-in-4.result is (λ measure n. nearest_of measure (entries m) 0 (suc n)) (w.ensures.known m here) w.ensures.none))
-
-pub returns-in-Ok-clause-any : goal.returns-in-Ok-clause-any
-returns-in-Ok-clause-any c =
-    rw c.in-Some.ensures.kind (rw c.in-4.is (
-    let is = settled (λ l. letters_of l.word) (λ l. l.edits) (λ w. text_measure (distance w)) (by.FuzzyChars c.args.edits) c.args.word.now (chars c.args.word.now) c.capped-most.result c.args.edits 254 c.capped-most.ensures (omega arith) (λ bad. bad c.in-Ok.ensures.cases.1) (λ long. long, λ long. long) c.new-near-in-4.result (rw c.in-Ok.ensures.cases.0 at c.new-near-in-4.ensures.of) (rw c.in-Ok.ensures.cases.0 at (above c.capped-most.result (omega (arith, c.capped-most.ensures)) c.new-near-in-4.ensures.none)) in
-    told_any (λ l. letters_of l.word) (λ l. l.edits) (λ w. text_measure (distance w)) (by.FuzzyChars c.args.edits) c.args.word.now (chars c.args.word.now) c.capped-most.result c.args.edits 254 c.capped-most.ensures (omega arith) (λ bad. bad c.in-Ok.ensures.cases.1) (λ long. long, λ long. long)
-    c.new-near-in-4.result is c.args.bytes.now (rw c.in-Some.ensures.bytes at c.write_near-in-4.ensures.any) c.write_near-in-4.ensures.none))
-
-pub returns-in-5-clause-known : goal.returns-in-5-clause-known
-returns-in-5-clause-known c =
-    let w = c.write_near-in-5 in
-    rw c.in-Some.ensures.kind (subst (TellsKnown (kind_that_is c.in-Some.trie.kind) c.args.bytes.now c.args.word.now c.args.edits w.result c.args.keys.now w.new.keys c.args.ends.now w.new.ends
-    c.args.values.now w.new.values c.args.distances.now w.new.distances c.args.count.now w.new.count c.args.next_len.now w.new.next_len) (sym c.in-5.is) (λ m means.
-    let here = subst (λ b. Means (kind_that_is c.in-Some.trie.kind) b m) (sym c.in-Some.ensures.bytes) means in
-    let is = settled (λ l. letters_of l.word) (λ l. l.edits) (λ w key. Some (osa_distance w key)) (by.Swaps c.args.edits) c.args.word.now c.args.word.now c.capped-most.result c.args.edits 7 c.capped-most.ensures (omega arith) (λ bad. bad) (λ long. long, λ long. long) c.new-near-in-5.result c.new-near-in-5.ensures.of c.new-near-in-5.ensures.none in
-    told (λ l. letters_of l.word) (λ l. l.edits) (λ w key. Some (osa_distance w key)) (by.Swaps c.args.edits) c.args.word.now c.args.word.now c.capped-most.result c.args.edits 7 c.capped-most.ensures (omega arith) (λ bad. bad) (λ long. long, λ long. long)
-    c.new-near-in-5.result is (λ measure n. nearest_of measure (entries m) 0 (suc n)) (w.ensures.known m here) w.ensures.none))
-
-pub returns-in-5-clause-any : goal.returns-in-5-clause-any
-returns-in-5-clause-any c =
-    rw c.in-Some.ensures.kind (rw c.in-5.is (
-    let is = settled (λ l. letters_of l.word) (λ l. l.edits) (λ w key. Some (osa_distance w key)) (by.Swaps c.args.edits) c.args.word.now c.args.word.now c.capped-most.result c.args.edits 7 c.capped-most.ensures (omega arith) (λ bad. bad) (λ long. long, λ long. long) c.new-near-in-5.result c.new-near-in-5.ensures.of c.new-near-in-5.ensures.none in
-    told_any (λ l. letters_of l.word) (λ l. l.edits) (λ w key. Some (osa_distance w key)) (by.Swaps c.args.edits) c.args.word.now c.args.word.now c.capped-most.result c.args.edits 7 c.capped-most.ensures (omega arith) (λ bad. bad) (λ long. long, λ long. long)
-    c.new-near-in-5.result is c.args.bytes.now (rw c.in-Some.ensures.bytes at c.write_near-in-5.ensures.any) c.write_near-in-5.ensures.none))
-
-pub returns-in-Ok-from_utf8-clause-known : goal.returns-in-Ok-from_utf8-clause-known
-returns-in-Ok-from_utf8-clause-known c =
-    let w = c.write_near-in-6 in
-    rw c.in-Some.ensures.kind (subst (TellsKnown (kind_that_is c.in-Some.trie.kind) c.args.bytes.now c.args.word.now c.args.edits w.result c.args.keys.now w.new.keys c.args.ends.now w.new.ends
-    c.args.values.now w.new.values c.args.distances.now w.new.distances c.args.count.now w.new.count c.args.next_len.now w.new.next_len) (sym c.in-6.is) (λ m means.
-    let here = subst (λ b. Means (kind_that_is c.in-Some.trie.kind) b m) (sym c.in-Some.ensures.bytes) means in
-    let is = settled (λ l. letters_of l.word) (λ l. l.edits) (λ w. text_measure (osa_distance w)) (by.SwapsChars c.args.edits) c.args.word.now (chars c.args.word.now) c.capped-most.result c.args.edits 7 c.capped-most.ensures (omega arith) (λ bad. bad c.in-Ok-from_utf8.ensures.cases.1) (λ long. long, λ long. long) c.new-near-in-6.result (rw c.in-Ok-from_utf8.ensures.cases.0 at c.new-near-in-6.ensures.of) (rw c.in-Ok-from_utf8.ensures.cases.0 at c.new-near-in-6.ensures.none) in
-    told (λ l. letters_of l.word) (λ l. l.edits) (λ w. text_measure (osa_distance w)) (by.SwapsChars c.args.edits) c.args.word.now (chars c.args.word.now) c.capped-most.result c.args.edits 7 c.capped-most.ensures (omega arith) (λ bad. bad c.in-Ok-from_utf8.ensures.cases.1) (λ long. long, λ long. long)
-    c.new-near-in-6.result is (λ measure n. nearest_of measure (entries m) 0 (suc n)) (w.ensures.known m here) w.ensures.none))
-
-pub returns-in-Ok-from_utf8-clause-any : goal.returns-in-Ok-from_utf8-clause-any
-returns-in-Ok-from_utf8-clause-any c =
-    rw c.in-Some.ensures.kind (rw c.in-6.is (
-    let is = settled (λ l. letters_of l.word) (λ l. l.edits) (λ w. text_measure (osa_distance w)) (by.SwapsChars c.args.edits) c.args.word.now (chars c.args.word.now) c.capped-most.result c.args.edits 7 c.capped-most.ensures (omega arith) (λ bad. bad c.in-Ok-from_utf8.ensures.cases.1) (λ long. long, λ long. long) c.new-near-in-6.result (rw c.in-Ok-from_utf8.ensures.cases.0 at c.new-near-in-6.ensures.of) (rw c.in-Ok-from_utf8.ensures.cases.0 at c.new-near-in-6.ensures.none) in
-    told_any (λ l. letters_of l.word) (λ l. l.edits) (λ w. text_measure (osa_distance w)) (by.SwapsChars c.args.edits) c.args.word.now (chars c.args.word.now) c.capped-most.result c.args.edits 7 c.capped-most.ensures (omega arith) (λ bad. bad c.in-Ok-from_utf8.ensures.cases.1) (λ long. long, λ long. long)
-    c.new-near-in-6.result is c.args.bytes.now (rw c.in-Some.ensures.bytes at c.write_near-in-6.ensures.any) c.write_near-in-6.ensures.none))
+pub returns-clause-any : goal.returns-clause-any
+returns-clause-any c =
+    let w = c.write_told in
+    rw c.in-Some.ensures.kind (subst (λ b. TellsAny (λ how. measured (kind_that_is c.in-Some.trie.kind) how c.args.word.now) b c.args.word.now c.args.edits w.result c.args.keys.now w.new.keys c.args.ends.now w.new.ends
+    c.args.values.now w.new.values c.args.distances.now w.new.distances c.args.count.now w.new.count c.args.next_len.now w.new.next_len (edits_by c.args.by c.args.edits)) c.in-Some.ensures.bytes
+    (if_exact c.in-Some.trie.kind (c.if-ignores_case.ensures.no refl) c.args.word.now
+    (λ how measure. TellsAny (λ _. measure) c.in-Some.trie.bytes.now c.args.word.now c.args.edits w.result c.args.keys.now w.new.keys c.args.ends.now w.new.ends
+    c.args.values.now w.new.values c.args.distances.now w.new.distances c.args.count.now w.new.count c.args.next_len.now w.new.next_len (Some how))
+    (edits_by c.args.by c.args.edits) w.ensures.any))

@@ -14,14 +14,15 @@ returns-in-Ok-left_of-clause-known c =
     rw c.in-Some.ensures.kind (λ pairs lists.
     let here = subst (λ b. Lists (kind_of c.in-Some.trie.kind) b pairs) (sym c.in-Some.ensures.bytes) lists in
     let left = ap (λ l. l.pairs) (c.in-Ok-left_of.ensures.lists pairs here) in
-    inl (c.in-Ok.ensures.faultless, rw left at (rw c.in-Ok.ensures.ok at c.write_sought.ensures)))
+    let found = rw left at c.write_found.ensures in
+    elim found [ inl listed ↦ inl (c.in-Ok.ensures.faultless, listed) | inr fault ↦ inr fault ])
 
 pub returns-in-Ok-left_of-clause-any : goal.returns-in-Ok-left_of-clause-any
 returns-in-Ok-left_of-clause-any c =
     rw c.in-Some.ensures.kind (
       c.in-Ok-left_of.pairs.left.pairs,
       rw c.in-Some.ensures.bytes at c.in-Ok-left_of.ensures.most,
-      inl (c.in-Ok.ensures.faultless, rw c.in-Ok.ensures.ok at c.write_sought.ensures),
+      elim c.write_found.ensures [ inl listed ↦ inl (c.in-Ok.ensures.faultless, listed) | inr fault ↦ inr fault ],
     )
 
 pub returns-in-Err-left_of-clause-known : goal.returns-in-Err-left_of-clause-known
@@ -30,7 +31,7 @@ returns-in-Err-left_of-clause-known c =
     let kind = kind_of c.in-Some.trie.kind in
     let nothing = nothing_written c.args.keys.now c.args.ends.now c.args.values.now in
     let left = left_of kind c.args.goes_on c.args.last.now (beginning kind c.args.prefix.now pairs) in
-    inl (c.in-Ok.ensures.faultless, ([], accepted (finds c.args.search.now) left, refl, refl, nothing, inr (inr (refl, refl)))))
+    inl (c.in-Ok.ensures.faultless, ([], accepted (finds kind c.args.search.now) left, refl, refl, nothing, inr (inr (refl, refl)))))
 
 pub returns-in-Err-left_of-clause-any : goal.returns-in-Err-left_of-clause-any
 returns-in-Err-left_of-clause-any c =
