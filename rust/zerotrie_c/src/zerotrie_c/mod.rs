@@ -17,6 +17,7 @@ mod entries;
 pub mod faults;
 pub mod files;
 pub mod flat;
+mod folding;
 pub mod found;
 pub mod fronts;
 pub mod indexes;

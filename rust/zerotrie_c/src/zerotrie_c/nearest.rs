@@ -2,15 +2,17 @@
 //! The keys that few edits make of a word, the nearest first.
 
 use crate::rstd::prelude::*;
+use crate::zerotrie_c::folding::{fold_copy, ignores_case};
 use crate::zerotrie_c::numbers::{
     BUFFER_TOO_SMALL, DONE, MALFORMED_SEARCH, OUT_OF_MEMORY, SEARCH_TOO_LONG, UNKNOWN_KIND,
     UNKNOWN_SEARCH, trie_of,
 };
 use crate::zerotrie_c::parts::put_at;
+use crate::zerotrie_c::searches::{search_by, word_of};
 use crate::rstd::alloc::Global;
-use crate::zerotrie_core::TrieRef;
+use crate::zerotrie_core::{TrieKind, TrieRef};
 use crate::zerotrie_search::{
-    Fuzzy, Levenshtein, LevenshteinChars, Osa, OsaChars, Search, ZeroTrieNearest,
+    ByKind, Fuzzy, Levenshtein, LevenshteinChars, Osa, OsaChars, Search, SearchBy, ZeroTrieNearest,
 };
 
 /// Returns a number of edits, or 255 for a greater one, which no automaton takes.
@@ -54,8 +56,29 @@ fn write_nearest<T: Fuzzy>(
     }
 }
 
-/// Writes the pairs of a trie that are nearest by the automaton of a word, which is over its limit if
-/// there is none.
+/// Writes the pairs of a trie that are nearest by an automaton.
+fn write_by<T: Fuzzy>(
+    alloc: Global,
+    trie: &TrieRef<'_>,
+    automaton: T,
+    keys: &mut [u8],
+    ends: &mut [usize],
+    values: &mut [usize],
+    distances: &mut [usize],
+    count: &mut usize,
+    next_len: &mut usize,
+) -> u32 {
+    match trie.nearest(alloc, automaton) {
+        Ok(pairs) => write_nearest(pairs, keys, ends, values, distances, count, next_len),
+        Err(_) => {
+            *count = 0;
+            OUT_OF_MEMORY
+        }
+    }
+}
+
+/// Writes the pairs of a trie that are nearest by the automaton of a word, with keys as the kind compares
+/// them. The word is over its limit if there is no automaton.
 fn write_near<T: Fuzzy>(
     alloc: Global,
     trie: &TrieRef<'_>,
@@ -70,13 +93,103 @@ fn write_near<T: Fuzzy>(
     let Some(automaton) = automaton else {
         return SEARCH_TOO_LONG;
     };
-    match trie.nearest(alloc, automaton) {
-        Ok(pairs) => write_nearest(pairs, keys, ends, values, distances, count, next_len),
-        Err(_) => {
-            *count = 0;
-            OUT_OF_MEMORY
-        }
+    if ignores_case(trie.kind) {
+        let automaton = ByKind(TrieKind::Ignore, automaton);
+        return write_by(
+            alloc, trie, automaton, keys, ends, values, distances, count, next_len,
+        );
     }
+    write_by(
+        alloc, trie, automaton, keys, ends, values, distances, count, next_len,
+    )
+}
+
+/// Writes the pairs of a trie that are nearest to a word that is as the kind compares it.
+fn write_told(
+    alloc: Global,
+    trie: &TrieRef<'_>,
+    by: u32,
+    word: &[u8],
+    edits: u32,
+    keys: &mut [u8],
+    ends: &mut [usize],
+    values: &mut [usize],
+    distances: &mut [usize],
+    count: &mut usize,
+    next_len: &mut usize,
+) -> u32 {
+    let most = capped(edits);
+    match by {
+        3 => {
+            let near = Levenshtein::new(word, most);
+            write_near(
+                alloc, trie, near, keys, ends, values, distances, count, next_len,
+            )
+        }
+        4 => {
+            let Ok(word) = crate::rstd::str::from_utf8(word) else {
+                return MALFORMED_SEARCH;
+            };
+            let near = LevenshteinChars::new(word, most);
+            write_near(
+                alloc, trie, near, keys, ends, values, distances, count, next_len,
+            )
+        }
+        5 => {
+            let near = Osa::new(word, most);
+            write_near(
+                alloc, trie, near, keys, ends, values, distances, count, next_len,
+            )
+        }
+        6 => {
+            let Ok(word) = crate::rstd::str::from_utf8(word) else {
+                return MALFORMED_SEARCH;
+            };
+            let near = OsaChars::new(word, most);
+            write_near(
+                alloc, trie, near, keys, ends, values, distances, count, next_len,
+            )
+        }
+        _ => UNKNOWN_SEARCH,
+    }
+}
+
+/// Returns how edits are counted, by the number of the search, or `None` if no search with edits has it.
+fn edits_by(number: u32, edits: u32) -> Option<SearchBy> {
+    if number <= 2 {
+        return None;
+    }
+    search_by(number, edits)
+}
+
+/// Writes the pairs of a trie that are nearest to a word, by a copy of the word as the kind compares it.
+fn write_folded(
+    alloc: Global,
+    trie: &TrieRef<'_>,
+    by: u32,
+    word: &[u8],
+    edits: u32,
+    keys: &mut [u8],
+    ends: &mut [usize],
+    values: &mut [usize],
+    distances: &mut [usize],
+    count: &mut usize,
+    next_len: &mut usize,
+) -> u32 {
+    let Some(how) = edits_by(by, edits) else {
+        return UNKNOWN_SEARCH;
+    };
+    if let Err(status) = word_of(trie.kind, how, word) {
+        return status;
+    }
+    let Ok(folded) = fold_copy(alloc, trie.kind, how, word) else {
+        *count = 0;
+        return OUT_OF_MEMORY;
+    };
+    let word = folded.as_slice();
+    write_told(
+        alloc, trie, by, word, edits, keys, ends, values, distances, count, next_len,
+    )
 }
 
 /// Writes the pairs whose keys at most `edits` edits make of a word, the nearest first, and those that
@@ -87,6 +200,8 @@ fn write_near<T: Fuzzy>(
 /// `next_len` and the status are as in `zerotrie_list_some`, and a call does not continue. If no kind or
 /// no search with edits has the number, or the word is refused, nothing is written. It searches once
 /// for each number of edits, as far as there is room.
+///
+/// In the kind that ignores case, keys and the word are compared in lower case.
 pub fn zerotrie_nearest(
     alloc: Global,
     kind: u32,
@@ -104,40 +219,14 @@ pub fn zerotrie_nearest(
     let Some(trie) = trie_of(kind, bytes) else {
         return UNKNOWN_KIND;
     };
-    let most = capped(edits);
-    match by {
-        3 => {
-            let near = Levenshtein::new(word, most);
-            write_near(
-                alloc, &trie, near, keys, ends, values, distances, count, next_len,
-            )
-        }
-        4 => {
-            let Ok(word) = crate::rstd::str::from_utf8(word) else {
-                return MALFORMED_SEARCH;
-            };
-            let near = LevenshteinChars::new(word, most);
-            write_near(
-                alloc, &trie, near, keys, ends, values, distances, count, next_len,
-            )
-        }
-        5 => {
-            let near = Osa::new(word, most);
-            write_near(
-                alloc, &trie, near, keys, ends, values, distances, count, next_len,
-            )
-        }
-        6 => {
-            let Ok(word) = crate::rstd::str::from_utf8(word) else {
-                return MALFORMED_SEARCH;
-            };
-            let near = OsaChars::new(word, most);
-            write_near(
-                alloc, &trie, near, keys, ends, values, distances, count, next_len,
-            )
-        }
-        _ => UNKNOWN_SEARCH,
+    if ignores_case(trie.kind) {
+        return write_folded(
+            alloc, &trie, by, word, edits, keys, ends, values, distances, count, next_len,
+        );
     }
+    write_told(
+        alloc, &trie, by, word, edits, keys, ends, values, distances, count, next_len,
+    )
 }
 
 /// The functions as C calls them: a slice is a pointer and a number of items.

@@ -2,15 +2,17 @@
 //! Searches, a part at a time.
 
 use crate::rstd::prelude::*;
+use crate::zerotrie_c::folding;
+use crate::zerotrie_c::folding::FoldedTexts;
 use crate::zerotrie_c::numbers::{
     DONE, MALFORMED_SEARCH, OUT_OF_MEMORY, SEARCH_TOO_LONG, UNKNOWN_KIND, UNKNOWN_SEARCH, trie_of,
 };
 use crate::zerotrie_c::parts::{left_of, write_some};
 use crate::rstd::alloc::Global;
 use crate::rstd::ops::Bound;
-use crate::zerotrie_core::ZeroTrieStream;
+use crate::zerotrie_core::{TrieKind, ZeroTrieStream};
 use crate::zerotrie_search::{
-    AnyAutomaton, Automaton, BeginsWith, KeyRange, SearchBy, WordError, ZeroTrieSearch,
+    AnyAutomaton, Automaton, BeginsWith, ByKind, KeyRange, SearchBy, WordError, ZeroTrieSearch,
     by_automaton,
 };
 
@@ -38,29 +40,43 @@ pub fn bound_with(number: u32, key: &[u8]) -> Option<Bound<&[u8]>> {
     }
 }
 
-/// Returns the automaton of a word, or the status of what is wrong with the word.
-fn word_of(by: SearchBy, word: &[u8]) -> Result<AnyAutomaton<'_>, u32> {
-    match AnyAutomaton::new(by, word) {
+/// Returns how a word finds keys, by the number of the search, or `None` if no search of a word has it.
+pub fn search_by(number: u32, edits: u32) -> Option<SearchBy> {
+    match number {
+        1 => Some(SearchBy::Glob),
+        2 => Some(SearchBy::Subsequence),
+        3 => Some(SearchBy::Fuzzy(edits)),
+        4 => Some(SearchBy::FuzzyChars(edits)),
+        5 => Some(SearchBy::Swaps(edits)),
+        6 => Some(SearchBy::SwapsChars(edits)),
+        _ => None,
+    }
+}
+
+/// Returns the automaton of a word for keys as a kind compares them, or the status of what is wrong with
+/// the word.
+pub fn word_of(kind: TrieKind, by: SearchBy, word: &[u8]) -> Result<AnyAutomaton<'_>, u32> {
+    match AnyAutomaton::by_kind(kind, by, word) {
         Ok(any) => Ok(any),
         Err(WordError::Malformed) => Err(MALFORMED_SEARCH),
         Err(WordError::TooLong) => Err(SEARCH_TOO_LONG),
     }
 }
 
-/// Returns the automaton of a search, or the status of its fault.
-fn sought_of<'q>(search: &Search<'q>) -> Result<AnyAutomaton<'q>, u32> {
+/// Returns the automaton of a search for keys as a kind compares them, or the status of its fault.
+fn sought_of<'q>(kind: TrieKind, search: &Search<'q>) -> Result<AnyAutomaton<'q>, u32> {
     match search.by {
         0 => {
             let from = bound_with(search.from_bound, search.text.get()).ok_or(UNKNOWN_SEARCH)?;
             let to = bound_with(search.to_bound, search.to.get()).ok_or(UNKNOWN_SEARCH)?;
             Ok(AnyAutomaton::Range(KeyRange { from, to }))
         }
-        1 => word_of(SearchBy::Glob, search.text.get()),
-        2 => word_of(SearchBy::Subsequence, search.text.get()),
-        3 => word_of(SearchBy::Fuzzy(search.edits), search.text.get()),
-        4 => word_of(SearchBy::FuzzyChars(search.edits), search.text.get()),
-        5 => word_of(SearchBy::Swaps(search.edits), search.text.get()),
-        6 => word_of(SearchBy::SwapsChars(search.edits), search.text.get()),
+        1 => word_of(kind, SearchBy::Glob, search.text.get()),
+        2 => word_of(kind, SearchBy::Subsequence, search.text.get()),
+        3 => word_of(kind, SearchBy::Fuzzy(search.edits), search.text.get()),
+        4 => word_of(kind, SearchBy::FuzzyChars(search.edits), search.text.get()),
+        5 => word_of(kind, SearchBy::Swaps(search.edits), search.text.get()),
+        6 => word_of(kind, SearchBy::SwapsChars(search.edits), search.text.get()),
         _ => Err(UNKNOWN_SEARCH),
     }
 }
@@ -68,7 +84,7 @@ fn sought_of<'q>(search: &Search<'q>) -> Result<AnyAutomaton<'q>, u32> {
 /// Returns the status of a search without a trie: `DONE` if it has a meaning, and else its fault,
 /// which is what `zerotrie_search_some` returns for it.
 pub fn zerotrie_search_check(search: &Search<'_>) -> u32 {
-    match sought_of(search) {
+    match sought_of(TrieKind::Simple, search) {
         Ok(_) => DONE,
         Err(status) => status,
     }
@@ -112,11 +128,101 @@ fn write_sought(
     ))
 }
 
+/// Writes the next pairs of a stream that are sought, with keys as the kind that ignores case compares
+/// them.
+fn write_any_case(
+    alloc: Global,
+    pairs: ZeroTrieStream<'_>,
+    sought: AnyAutomaton<'_>,
+    beginnings: bool,
+    keys: &mut [u8],
+    ends: &mut [usize],
+    values: &mut [usize],
+    count: &mut usize,
+    next_len: &mut usize,
+) -> u32 {
+    by_automaton!(sought, automaton => write_accepted(
+        alloc,
+        pairs,
+        ByKind(TrieKind::Ignore, automaton),
+        beginnings,
+        keys,
+        ends,
+        values,
+        count,
+        next_len,
+    ))
+}
+
+/// Writes the next pairs of a stream that a search finds in the kind that ignores case. It compares
+/// copies of the texts of the search, in lower case.
+fn write_folded(
+    alloc: Global,
+    pairs: ZeroTrieStream<'_>,
+    search: &Search<'_>,
+    keys: &mut [u8],
+    ends: &mut [usize],
+    values: &mut [usize],
+    count: &mut usize,
+    next_len: &mut usize,
+) -> u32 {
+    let Ok(texts) = FoldedTexts::new(alloc, TrieKind::Ignore, search) else {
+        *count = 0;
+        return OUT_OF_MEMORY;
+    };
+    let folded = texts.in_place_of(search);
+    match sought_of(TrieKind::Ignore, &folded) {
+        Ok(sought) => write_any_case(
+            alloc,
+            pairs,
+            sought,
+            search.beginnings,
+            keys,
+            ends,
+            values,
+            count,
+            next_len,
+        ),
+        Err(status) => status,
+    }
+}
+
+/// Writes the next pairs of a stream that a search finds, as a kind compares keys. The automaton is that
+/// of the search with its texts as they are.
+fn write_found(
+    alloc: Global,
+    kind: TrieKind,
+    pairs: ZeroTrieStream<'_>,
+    search: &Search<'_>,
+    sought: AnyAutomaton<'_>,
+    keys: &mut [u8],
+    ends: &mut [usize],
+    values: &mut [usize],
+    count: &mut usize,
+    next_len: &mut usize,
+) -> u32 {
+    if folding::ignores_case(kind) {
+        return write_folded(alloc, pairs, search, keys, ends, values, count, next_len);
+    }
+    write_sought(
+        alloc,
+        pairs,
+        sought,
+        search.beginnings,
+        keys,
+        ends,
+        values,
+        count,
+        next_len,
+    )
+}
+
 /// Like `zerotrie_list_some`, of those pairs whose keys a search finds: a range, a pattern, bytes in
 /// their order, or a word with few edits, and with `beginnings` also the keys that begin with one
 /// that it finds.
 ///
-/// A search that has no meaning is refused, and then nothing is written.
+/// In the kind that ignores case, keys, bounds and words are compared in lower case, and the letters of a
+/// pattern are taken in both cases. A search that has no meaning is refused, and then nothing is written.
 pub fn zerotrie_search_some(
     alloc: Global,
     kind: u32,
@@ -134,21 +240,13 @@ pub fn zerotrie_search_some(
     let Some(trie) = trie_of(kind, bytes) else {
         return UNKNOWN_KIND;
     };
-    let sought = match sought_of(search) {
+    let sought = match sought_of(trie.kind, search) {
         Ok(sought) => sought,
         Err(status) => return status,
     };
     match left_of(alloc, &trie, prefix, goes_on, last) {
-        Ok(pairs) => write_sought(
-            alloc,
-            pairs,
-            sought,
-            search.beginnings,
-            keys,
-            ends,
-            values,
-            count,
-            next_len,
+        Ok(pairs) => write_found(
+            alloc, trie.kind, pairs, search, sought, keys, ends, values, count, next_len,
         ),
         Err(_) => {
             *count = 0;
