@@ -74,22 +74,36 @@ def cross(source, at, name, kind):
 
 
 def slice_fields(source):
-    """Makes a slice in a structure for C a pointer with a length. Returns the names of these fields."""
+    """Makes a slice in a structure for C a pointer with a length. Returns the names of these structures and fields."""
     fields = set()
     for at in source.each("#"):
         item = source.match(at, "#[repr(C)]")
         brace = source.find(item, "{") if item else 0
         for kind in range(brace, source.close(brace) if item else 0):
             if source.word(kind) == "&":
-                fields.add(source.word(source.before(source.before(kind))))
+                fields.add((source.word(source.after(source.find(item, "struct"))), source.word(source.before(source.before(kind)))))
                 life = source.word(source.after(kind))
                 source.put(kind, source.close(source.find(kind, "[")) + 1, f"crate::Slice<{life}>")
     return fields
 
 
+def fill(source, first):
+    """Makes the expression that begins here, and that a comma ends, what is at a pointer."""
+    last = source.before(source.find(first, ","))
+    source.put(last, last + 1, f"{source.word(last)})")
+    source.put(first, first + 1, f"crate::Slice::of({source.word(first)}")
+
+
 def read_fields(source, fields):
-    """Reads such a field by a call."""
-    for at in source.each(*fields):
+    """Reads such a field by a call, and fills it by one."""
+    names = {name for name, _ in fields}
+    for at in source.each(*names):
+        brace = source.after(at)
+        if source.word(brace) == "{" and source.word(source.before(at)) not in ("struct", "impl"):
+            for it in range(brace, source.close(brace)):
+                if (source.word(at), source.word(it)) in fields and source.word(source.after(it)) == ":":
+                    fill(source, source.after(source.after(it)))
+    for at in source.each(*(field for _, field in fields)):
         dot = source.before(at)
         if source.word(dot) == "." != source.word(source.before(dot)) and source.word(source.after(at)) != "(":
             source.put(at, at + 1, f"{source.word(at)}.get()")

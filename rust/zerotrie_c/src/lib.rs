@@ -17,6 +17,10 @@ struct Slice<'a> {
 
 #[allow(unsafe_code)]
 impl<'a> Slice<'a> {
+    fn of(bytes: &'a [u8]) -> Self {
+        Slice { ptr: bytes.as_ptr(), len: bytes.len(), of: core::marker::PhantomData }
+    }
+
     fn get(self) -> &'a [u8] {
         // SAFETY: zerotrie.h says what a caller must keep to.
         unsafe { slice(self.ptr, self.len) }

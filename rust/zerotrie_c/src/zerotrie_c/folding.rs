@@ -66,8 +66,8 @@ impl FoldedTexts {
             edits: search.edits,
             from_bound: search.from_bound,
             to_bound: search.to_bound,
-            text: self.folded_text.as_slice(),
-            to: self.folded_to.as_slice(),
+            text: crate::Slice::of(self.folded_text.as_slice()),
+            to: crate::Slice::of(self.folded_to.as_slice()),
             beginnings: search.beginnings,
         }
     }
