@@ -1,12 +1,12 @@
 //! An index: exact look-ups alone, faster than in a trie and over more bytes.
 
-pub use crate::zerotrie_index::{NotAnIndex, ZeroIndexBuildError};
+pub use crate::zerotrie_index::{NotAnIndex, ReadAt, ZeroIndexBuildError};
 
 use crate::Trie;
 use crate::any::lent;
 use crate::by_kind;
 use crate::listing::allocated;
-use crate::rstd::alloc::Global;
+use crate::rstd::alloc::{AllocError, Global};
 use crate::sealed::Sealed;
 use crate::zerotrie_core::ZeroTrieWithOptions;
 use crate::zerotrie_index;
@@ -277,5 +277,63 @@ impl<K: AsRef<[u8]>> FromIterator<(K, usize)> for ZeroIndex<Vec<u8>> {
     /// Where `try_from_iter` returns an error.
     fn from_iter<T: IntoIterator<Item = (K, usize)>>(pairs: T) -> Self {
         Self::try_from_iter(pairs).expect("the pairs should be those of an index")
+    }
+}
+
+/// Why a read fails, or an allocation.
+enum Fault<E> {
+    Read(E),
+    Memory(AllocError),
+}
+
+impl<E> From<AllocError> for Fault<E> {
+    fn from(error: AllocError) -> Self {
+        Fault::Memory(error)
+    }
+}
+
+/// What is read at places, with errors of allocations beside its own.
+struct Source<'s, S>(&'s mut S);
+
+impl<S: ReadAt> ReadAt for Source<'_, S> {
+    type Error = Fault<S::Error>;
+
+    fn fill(&mut self, place: u64, room: &mut [u8]) -> Result<(), Self::Error> {
+        self.0.fill(place, room).map_err(Fault::Read)
+    }
+}
+
+/// Returns the value of a key in an index that is read at places, as in a file, by about three reads.
+///
+/// ```
+/// use zerotrie::index::{ReadAt, ZeroIndex, get_at};
+///
+/// struct Bytes(Vec<u8>);
+///
+/// impl ReadAt for Bytes {
+///     type Error = &'static str;
+///
+///     fn fill(&mut self, place: u64, room: &mut [u8]) -> Result<(), Self::Error> {
+///         let from = usize::try_from(place).unwrap_or(usize::MAX);
+///         let bytes = self.0.get(from..).and_then(|rest| rest.get(..room.len()));
+///         room.copy_from_slice(bytes.ok_or("the index is cut")?);
+///         Ok(())
+///     }
+/// }
+///
+/// let mut index = Bytes(ZeroIndex::try_from_iter([("in", 1), ("on", 2)])?.into_store());
+/// assert_eq!(get_at(&mut index, "on"), Ok(Some(2)));
+/// # Ok::<(), zerotrie::index::ZeroIndexBuildError>(())
+/// ```
+///
+/// An error is that of a read. Of bytes that are no index the result is unspecified.
+pub fn get_at<S: ReadAt, K: AsRef<[u8]>>(
+    source: &mut S,
+    key: K,
+) -> Result<Option<usize>, S::Error> {
+    match zerotrie_index::get_at(Global, &mut Source(source), key.as_ref()) {
+        Ok(value) => Ok(value),
+        Err(Fault::Read(error)) => Err(error),
+        Err(Fault::Memory(error)) => allocated(Err(error)),
     }
 }

@@ -72,7 +72,7 @@ pub use listing::{
     ZeroTrieValues,
 };
 pub use look_ups::LookUps;
-pub use reverse::KeysByValue;
+pub use reverse::{KeysByValue, first_key_by_places};
 pub use sealed::Sealed;
 pub use trie::{ZeroAsciiIgnoreCaseTrie, ZeroTrieExtendedCapacity, ZeroTriePerfectHash, ZeroTrieSimpleAscii};
 #[cfg(feature = "json")]

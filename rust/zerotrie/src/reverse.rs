@@ -1,7 +1,9 @@
 //! Keys by their values.
 
+use crate::Trie;
 use crate::by_kind;
 use crate::listing::allocated;
+use crate::rstd;
 use crate::rstd::alloc::{AllocError, Global};
 use crate::zerotrie_core::{TrieKind, ZeroTrieWithOptions};
 use crate::zerotrie_reverse;
@@ -59,4 +61,39 @@ impl<'a> KeysByValue<'a> {
     pub fn len(&self) -> usize {
         self.0.len()
     }
+
+    /// Returns the places, in the order of their values, by which `first_key_by_places` finds keys, or
+    /// `None` if a look-up reads the pairs.
+    pub fn places(&self) -> Option<&[u32]> {
+        self.0.places()
+    }
+}
+
+fn first_key<K: ZeroTrieWithOptions>(
+    bytes: &[u8],
+    places: &[u32],
+    value: usize,
+) -> Result<Option<rstd::vec::Vec<u8>>, AllocError> {
+    zerotrie_reverse::first_key_by_places::<K>(Global, bytes, places, value)
+}
+
+/// Returns the first key that has a value, by places that were kept apart from the table.
+///
+/// ```
+/// use zerotrie::{ZeroTrieSimpleAscii, first_key_by_places};
+///
+/// let trie = ZeroTrieSimpleAscii::try_from_iter([("a", 5), ("b", 6), ("c", 5)])?;
+/// let places = trie.keys_by_value().places().unwrap().to_vec();
+/// assert_eq!(first_key_by_places(&trie, &places, 5), Some(b"a".to_vec()));
+/// # Ok::<(), zerotrie::ZeroTrieBuildError>(())
+/// ```
+///
+/// Places of another trie do no harm, but the result is unspecified.
+pub fn first_key_by_places<T: Trie + ?Sized>(
+    trie: &T,
+    places: &[u32],
+    value: usize,
+) -> Option<Vec<u8>> {
+    let key = by_kind!(trie.kind(), first_key::<_>(trie.as_bytes(), places, value));
+    allocated(key).map(|key| key.into_inner())
 }
