@@ -115,19 +115,40 @@ fn refusal_here<'a>(rt: &HostRuntime, command: &Command<'a>) -> Option<Reply<'a>
     }
 }
 
-/// Does what the words of the command line ask.
+/// Does what a request asks, for the file with this number.
+fn obey_for(rt: &HostRuntime, request: &Request<'_>, file: usize) -> Status {
+    let command = match request.command(file, rt.stderr().is_terminal()) {
+        Ok(command) => command,
+        Err(reply) => return say(rt, &reply),
+    };
+    if let Some(reply) = refusal_here(rt, &command) {
+        return say(rt, &reply);
+    }
+    if let Some(name) = request.heading(file) {
+        // if this can't be written, what is printed next can't, and says so
+        let _ = println!(rt; "{name}:");
+    }
+    run_here(rt, request, command)
+}
+
+/// Does what the words of the command line ask, for one file after the other, and ends as the worst of
+/// these runs does. Words that are wrong are told once.
 fn obey(rt: &HostRuntime, words: &[String]) -> Status {
     let request = match Request::read(rt.alloc(), words) {
         Ok(request) => request,
         Err(reply) => return say(rt, &reply),
     };
-    match request.command(rt.stderr().is_terminal()) {
-        Ok(command) => match refusal_here(rt, &command) {
-            Some(reply) => say(rt, &reply),
-            None => run_here(rt, &request, command),
-        },
-        Err(reply) => say(rt, &reply),
+    let mut worst = Status::Done;
+    for file in 0..request.files() {
+        let status = obey_for(rt, &request, file);
+        if status.number() > worst.number() {
+            worst = status;
+        }
+        if worst == Status::BadUsage || worst == Status::Closed {
+            return worst;
+        }
     }
+    worst
 }
 
 /// Returns the words that the program was called with.

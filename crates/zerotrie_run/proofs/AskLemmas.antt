@@ -15,7 +15,7 @@ use Rattle.zerotrie_queries.specs.Printed.{listed}
 use Rattle.zerotrie_queries.specs.Answers.{AreAnswered}
 use Rattle.zerotrie_queries.specs.declared.question.Query.{Query}
 use Rattle.zerotrie_queries.specs.Sorted.{picked}
-use Rattle.zerotrie_queries.specs.Listed.{limited}
+use Rattle.zerotrie_queries.specs.Listed.{limited, nearest_lines}
 use Rattle.zerotrie_queries.proofs.PartLemmas.{part_all}
 use Rattle.zerotrie_queries.proofs.AnswerLemmas.{begun_all}
 use Rattle.zerotrie_files.specs.Disks.{Story}
@@ -33,7 +33,7 @@ use Rattle.zerotrie_run.specs.declared.command.Place.TheVariants.{Stream}
 use Rattle.zerotrie_run.specs.declared.command.Keys.{Keys}
 use Rattle.zerotrie_run.specs.declared.command.Keys.TheVariants.{Words, Lines}
 use Rattle.zerotrie_run.specs.declared.command.Question.{Question}
-use Rattle.zerotrie_run.specs.declared.command.Question.TheVariants.{LookUp, List as Listing, Code, Report, Verify, View}
+use Rattle.zerotrie_run.specs.declared.command.Question.TheVariants.{LookUp, List as Listing, Distances, Code, Report, Verify, View}
 
 -- a flush leaves what was answered
 pub kept_texts : (of : Query) (Has : Dictionary → Type 0) (texts : List (List ℕ)) (a b c : Option (List ℕ)) (all : Bool) → AreAnswered of Has texts a b all → Keeps b c
@@ -45,6 +45,7 @@ kept_answer : (q : Question) (input : Option (List ℕ)) (kind : TrieKind) (byte
     → Answers q input kind bytes a c all
 kept_answer (LookUp of keys) input kind bytes a b c all h k = (h.0, h.1, kept_texts of (TrieFinds kind bytes) h.0 a b c all h.2 k)
 kept_answer (Listing form choice order limit) input kind bytes a b c all h k = (h.0, λ pairs lists. let x = h.1 pairs lists in (x.0, Appends-kept a b c (listed form (limited limit (picked order kind choice pairs))) x.1 k))
+kept_answer (Distances choice limit) input kind bytes a b c all h k = (h.0, λ pairs lists. Appends-kept a b c (nearest_lines kind choice limit pairs) (h.1 pairs lists) k)
 kept_answer (Code language name) input kind bytes a b c all h k = (h.0, Appends-kept a b c (whole_code language kind name.now bytes) h.1 k)
 kept_answer Verify input kind bytes a b c all h k = (h.0, Keeps-trans a b c h.1 k)
 kept_answer (Report form) input kind bytes a b c all h k = (h.0, Appends-kept a b c (reported form (report_of kind bytes)) h.1 k)
@@ -53,6 +54,7 @@ kept_answer (View view) input kind bytes a b c all h k = (h.0, Appends-kept a b 
 kept_index : (q : Question) (input : Option (List ℕ)) (bytes : List ℕ) (a b c : Option (List ℕ)) (all : Bool) → IndexAnswers q input bytes a b all → Keeps b c → IndexAnswers q input bytes a c all
 kept_index (LookUp of keys) input bytes a b c all h k = (h.0, h.1, kept_texts of (IndexFinds of.asked bytes) h.0 a b c all h.2 k)
 kept_index (Listing form choice order limit) input bytes a b c all h k = (h.0, Keeps-trans a b c h.1 k)
+kept_index (Distances choice limit) input bytes a b c all h k = (h.0, Keeps-trans a b c h.1 k)
 kept_index (Code language name) input bytes a b c all h k = (h.0, Keeps-trans a b c h.1 k)
 kept_index Verify input bytes a b c all h k = (h.0, Keeps-trans a b c h.1 k)
 kept_index (Report form) input bytes a b c all h k = (h.0, Keeps-trans a b c h.1 k)
@@ -72,6 +74,7 @@ other_input : (q : Question) (i j : Option (List ℕ)) (kind : TrieKind) (bytes 
     → Answers q j kind bytes a b all
 other_input (LookUp of keys) i j kind bytes a b all apart h = (h.0, other_keys keys i j h.0 apart h.1, h.2)
 other_input (Listing form choice order limit) i j kind bytes a b all apart h = h
+other_input (Distances choice limit) i j kind bytes a b all apart h = h
 other_input (Code language name) i j kind bytes a b all apart h = h
 other_input Verify i j kind bytes a b all apart h = h
 other_input (Report form) i j kind bytes a b all apart h = h
@@ -80,6 +83,7 @@ other_input (View view) i j kind bytes a b all apart h = h
 other_input_index : (q : Question) (i j : Option (List ℕ)) (bytes : List ℕ) (a b : Option (List ℕ)) (all : Bool) → (of_lines q ≡ true → ⊥) → IndexAnswers q i bytes a b all → IndexAnswers q j bytes a b all
 other_input_index (LookUp of keys) i j bytes a b all apart h = (h.0, other_keys keys i j h.0 apart h.1, h.2)
 other_input_index (Listing form choice order limit) i j bytes a b all apart h = h
+other_input_index (Distances choice limit) i j bytes a b all apart h = h
 other_input_index (Code language name) i j bytes a b all apart h = h
 other_input_index Verify i j bytes a b all apart h = h
 other_input_index (Report form) i j bytes a b all apart h = h
@@ -117,6 +121,7 @@ by_table kind bytes asked t k b is d h = (is, subst (λ x. KindFinds x t.bytes d
 trie_in_part : (q : Question) (input : Option (List ℕ)) (kind : TrieKind) (bytes : List ℕ) (a b : Option (List ℕ)) (all : Bool) → Answers q input kind bytes a b all → AnswersInPart q input kind bytes a b
 trie_in_part (LookUp of keys) input kind bytes a b all h = keys_in_part of keys input (TrieFinds kind bytes) a b all h
 trie_in_part (Listing form choice order limit) input kind bytes a b all h = λ pairs lists. part_all a b (listed form (limited limit (picked order kind choice pairs))) (h.1 pairs lists).1
+trie_in_part (Distances choice limit) input kind bytes a b all h = λ pairs lists. part_all a b (nearest_lines kind choice limit pairs) (h.1 pairs lists)
 trie_in_part (Code language name) input kind bytes a b all h = part_all a b (whole_code language kind name.now bytes) h.1
 trie_in_part Verify input kind bytes a b all h = h.1
 trie_in_part (Report form) input kind bytes a b all h = part_all a b (reported form (report_of kind bytes)) h.1
@@ -125,6 +130,7 @@ trie_in_part (View view) input kind bytes a b all h = part_all a b (shown view k
 index_in_part : (q : Question) (input : Option (List ℕ)) (bytes : List ℕ) (a b : Option (List ℕ)) (all : Bool) → IndexAnswers q input bytes a b all → IndexAnswersInPart q input bytes a b
 index_in_part (LookUp of keys) input bytes a b all h = keys_in_part of keys input (IndexFinds of.asked bytes) a b all h
 index_in_part (Listing form choice order limit) input bytes a b all h = h.1
+index_in_part (Distances choice limit) input bytes a b all h = h.1
 index_in_part (Code language name) input bytes a b all h = h.1
 index_in_part Verify input bytes a b all h = h.1
 index_in_part (Report form) input bytes a b all h = h.1
@@ -138,6 +144,7 @@ answer_in_part (of_index bytes) q input a b all h = index_in_part q input bytes 
 other_part : (q : Question) (i j : Option (List ℕ)) (kind : TrieKind) (bytes : List ℕ) (a b : Option (List ℕ)) → (of_lines q ≡ true → ⊥) → AnswersInPart q i kind bytes a b → AnswersInPart q j kind bytes a b
 other_part (LookUp of keys) i j kind bytes a b apart h = (h.0, other_keys keys i j h.0 apart h.1, h.2)
 other_part (Listing form choice order limit) i j kind bytes a b apart h = h
+other_part (Distances choice limit) i j kind bytes a b apart h = h
 other_part (Code language name) i j kind bytes a b apart h = h
 other_part Verify i j kind bytes a b apart h = h
 other_part (Report form) i j kind bytes a b apart h = h
@@ -146,6 +153,7 @@ other_part (View view) i j kind bytes a b apart h = h
 other_part_index : (q : Question) (i j : Option (List ℕ)) (bytes : List ℕ) (a b : Option (List ℕ)) → (of_lines q ≡ true → ⊥) → IndexAnswersInPart q i bytes a b → IndexAnswersInPart q j bytes a b
 other_part_index (LookUp of keys) i j bytes a b apart h = (h.0, other_keys keys i j h.0 apart h.1, h.2)
 other_part_index (Listing form choice order limit) i j bytes a b apart h = h
+other_part_index (Distances choice limit) i j bytes a b apart h = h
 other_part_index (Code language name) i j bytes a b apart h = h
 other_part_index Verify i j bytes a b apart h = h
 other_part_index (Report form) i j bytes a b apart h = h

@@ -7,6 +7,8 @@ use Rattle.zerotrie_run.specs.Combined.{RunsCombine}
 use Rattle.zerotrie_run.specs.declared.command.Command.{Command}
 use Rattle.zerotrie_run.specs.declared.command.Command.TheVariants as commands
 use Rattle.zerotrie_run.specs.declared.command.Place.TheVariants.{Stream}
+use Rattle.zerotrie_run.specs.declared.command.Summary.{Summary}
+use Rattle.zerotrie_run.specs.declared.command.Summary.TheVariants.{Never, IfEmpty, Always}
 use Rattle.zerotrie_run.specs.declared.status.Status.{Status}
 use Rattle.zerotrie_run.specs.declared.status.Status.TheVariants.{BadUsage}
 
@@ -31,9 +33,15 @@ LeavesInput (commands.Ask file question) status = LeavesInputOf file question (S
 LeavesInput (commands.Diff diff) status = (status ≡ BadUsage) ⊎ AreFiles diff.old diff.new
 LeavesInput (commands.Combine c) status = (status ≡ BadUsage) ⊎ AreFiles c.first c.second
 
--- whether what a command made is told
+-- whether what was made may be told
+abbrev pub may_tell : Summary → Bool
+may_tell Never = false
+may_tell IfEmpty = true
+may_tell Always = true
+
+-- whether what a command made may be
 abbrev pub tells_made : Command → Bool
-tells_made (commands.Build build) = build.progress
+tells_made (commands.Build build) = may_tell build.summary
 tells_made (commands.Ask file question) = false
 tells_made (commands.Diff diff) = false
 tells_made (commands.Combine c) = false

@@ -20,7 +20,7 @@ use Rattle.zerotrie_queries.specs.Finders.{Dictionary, TrieFinds, IndexFinds, as
 use Rattle.zerotrie_index.specs.Layout.{IsIndex}
 use Rattle.zerotrie_sealed.specs.Sealed.{IsSealedIndex}
 use Rattle.zerotrie_queries.specs.Sorted.{picked}
-use Rattle.zerotrie_queries.specs.Listed.{AreListed, AreListedInPart, AreNoText}
+use Rattle.zerotrie_queries.specs.Listed.{AreListed, AreListedInPart, AreMeasured, AreMeasuredInPart, AreNoText}
 use Rattle.zerotrie_queries.specs.declared.question.Query.{Query}
 use Rattle.zerotrie_queries.specs.code.Code.{whole_code}
 use Rattle.zerotrie_queries.specs.views.Views.{shown}
@@ -39,7 +39,7 @@ use Rattle.zerotrie_run.specs.declared.command.Place.TheVariants.{File, Stream}
 use Rattle.zerotrie_run.specs.declared.command.Keys.{Keys}
 use Rattle.zerotrie_run.specs.declared.command.Keys.TheVariants.{Words, Lines}
 use Rattle.zerotrie_run.specs.declared.command.Question.{Question}
-use Rattle.zerotrie_run.specs.declared.command.Question.TheVariants.{LookUp, List as Listing, Code, Report, Verify, View}
+use Rattle.zerotrie_run.specs.declared.command.Question.TheVariants.{LookUp, List as Listing, Distances, Code, Report, Verify, View}
 use Rattle.zerotrie_run.specs.declared.command.Check.{Check}
 use Rattle.zerotrie_run.specs.declared.command.Check.TheVariants as check
 use Rattle.zerotrie_run.specs.declared.command.TrieFile.{TrieFile}
@@ -105,6 +105,7 @@ are_lines Lines = true
 abbrev pub of_lines : Question → Bool
 of_lines (LookUp query keys) = are_lines keys
 of_lines (Listing form choice order limit) = false
+of_lines (Distances choice limit) = false
 of_lines (Code language name) = false
 of_lines (Report form) = false
 of_lines Verify = false
@@ -124,6 +125,7 @@ Opens file all kind bytes = OpensBy file.check file.bare all kind bytes
 abbrev pub asks_index : Question → Bool
 asks_index (LookUp query keys) = asks_keys query.asked
 asks_index (Listing form choice order limit) = false
+asks_index (Distances choice limit) = false
 asks_index (Code language name) = false
 asks_index (Report form) = false
 asks_index Verify = true
@@ -176,6 +178,7 @@ KeysAnswered query keys input MayHave old new all = (ks : List (List ℕ)) × Ar
 abbrev pub Answers : Question → (input : Option (List ℕ)) → TrieKind → List ℕ → (old new : Option (List ℕ)) → Bool → Type 0
 Answers (LookUp query keys) input kind bytes old new all = KeysAnswered query keys input (TrieFinds kind bytes) old new all
 Answers (Listing form choice order limit) input kind bytes old new all = (all ≡ true) × AreListed form (picked order kind choice) limit kind bytes old new
+Answers (Distances choice limit) input kind bytes old new all = (all ≡ true) × AreMeasured choice limit kind bytes old new
 Answers (Code language name) input kind bytes old new all = (all ≡ true) × Appends old new (whole_code language kind name.now bytes)
 Answers Verify input kind bytes old new all = (all ≡ true) × Keeps old new
 Answers (Report form) input kind bytes old new all = (all ≡ true) × Appends old new (reported form (report_of kind bytes))
@@ -185,6 +188,7 @@ Answers (View view) input kind bytes old new all = (all ≡ true) × Appends old
 abbrev pub IndexAnswers : Question → (input : Option (List ℕ)) → List ℕ → (old new : Option (List ℕ)) → Bool → Type 0
 IndexAnswers (LookUp query keys) input bytes old new all = KeysAnswered query keys input (IndexFinds query.asked bytes) old new all
 IndexAnswers (Listing form choice order limit) input bytes old new all = (all ≡ true) × Keeps old new
+IndexAnswers (Distances choice limit) input bytes old new all = (all ≡ true) × Keeps old new
 IndexAnswers (Code language name) input bytes old new all = (all ≡ true) × Keeps old new
 IndexAnswers Verify input bytes old new all = (all ≡ true) × Keeps old new
 IndexAnswers (Report form) input bytes old new all = (all ≡ true) × Keeps old new
@@ -203,6 +207,7 @@ KeysAnsweredInPart query keys input MayHave old new = (ks : List (List ℕ)) × 
 abbrev pub AnswersInPart : Question → (input : Option (List ℕ)) → TrieKind → List ℕ → (old new : Option (List ℕ)) → Type 0
 AnswersInPart (LookUp query keys) input kind bytes old new = KeysAnsweredInPart query keys input (TrieFinds kind bytes) old new
 AnswersInPart (Listing form choice order limit) input kind bytes old new = AreListedInPart form (picked order kind choice) limit kind bytes old new
+AnswersInPart (Distances choice limit) input kind bytes old new = AreMeasuredInPart choice limit kind bytes old new
 AnswersInPart (Code language name) input kind bytes old new = AppendsPart old new (whole_code language kind name.now bytes)
 AnswersInPart Verify input kind bytes old new = Keeps old new
 AnswersInPart (Report form) input kind bytes old new = AppendsPart old new (reported form (report_of kind bytes))
@@ -212,6 +217,7 @@ AnswersInPart (View view) input kind bytes old new = AppendsPart old new (shown 
 abbrev pub IndexAnswersInPart : Question → (input : Option (List ℕ)) → List ℕ → (old new : Option (List ℕ)) → Type 0
 IndexAnswersInPart (LookUp query keys) input bytes old new = KeysAnsweredInPart query keys input (IndexFinds query.asked bytes) old new
 IndexAnswersInPart (Listing form choice order limit) input bytes old new = Keeps old new
+IndexAnswersInPart (Distances choice limit) input bytes old new = Keeps old new
 IndexAnswersInPart (Code language name) input bytes old new = Keeps old new
 IndexAnswersInPart Verify input bytes old new = Keeps old new
 IndexAnswersInPart (Report form) input bytes old new = Keeps old new
@@ -226,6 +232,7 @@ ContentAnswersInPart (of_index bytes) question input old new = IndexAnswersInPar
 abbrev pub IsUnprintable : Question → TrieKind → List ℕ → List ℕ → Type 0
 IsUnprintable (LookUp query keys) kind bytes key = ⊥
 IsUnprintable (Listing form choice order limit) kind bytes key = AreNoText form (picked order kind choice) limit kind bytes key
+IsUnprintable (Distances choice limit) kind bytes key = ⊥
 IsUnprintable (Code language name) kind bytes key = ⊥
 IsUnprintable Verify kind bytes key = ⊥
 IsUnprintable (Report form) kind bytes key = ⊥

@@ -1,5 +1,5 @@
 -- What is told of a run on standard error.
-use Rattle.std.specs.Prelude.{◌≡◌, ◌⊎◌, ℕ, List, [], ◌++◌, length, Option, Some, Bool, true, false, Result, Ok, Err, Vec, codes}
+use Rattle.std.specs.Prelude.{◌≡◌, ◌⊎◌, ◌==◌, ℕ, List, [], ◌++◌, length, Option, Some, Bool, true, false, Result, Ok, Err, Vec, codes}
 use Rattle.std.specs.Io.KnownBytes.{Appends}
 use Rattle.zerotrie_files.specs.Disks.{Story}
 use Rattle.zerotrie_queries.specs.declared.file.OpenError.{OpenError}
@@ -20,6 +20,8 @@ use Rattle.zerotrie_run.specs.declared.status.Status.TheVariants.{Done, Absent, 
 use Rattle.zerotrie_run.specs.declared.command.Build.{Build}
 use Rattle.zerotrie_run.specs.declared.command.Command.{Command}
 use Rattle.zerotrie_run.specs.declared.command.Command.TheVariants as commands
+use Rattle.zerotrie_run.specs.declared.command.Summary.{Summary}
+use Rattle.zerotrie_run.specs.declared.command.Summary.TheVariants.{Never, IfEmpty, Always}
 use Rattle.zerotrie_run.specs.declared.command.TrieFile.{TrieFile}
 use Rattle.zerotrie_run.specs.declared.command.Question.{Question}
 use Rattle.zerotrie_run.specs.declared.command.Question.TheVariants.{Verify}
@@ -87,15 +89,21 @@ abbrev pub NotesNumber : TrieFile → Option (List ℕ) → Option Story → (ol
 NotesNumber file input files old new = (held : List ℕ) × IsRead file.place input files held
     × (HasNumberToo file.bare held → (text : List ℕ) × IsLineOn (source_name file.place) text × Appends old new text)
 
+-- whether a file with this many keys is told
+abbrev pub is_told : Summary → ℕ → Bool
+is_told Never keys = false
+is_told IfEmpty keys = keys == 0
+is_told Always keys = true
+
 -- a file that was made is told or not
 abbrev pub told_made : Bool → List ℕ → ℕ → ℕ → List ℕ
 told_made true place keys len = made_line place keys len
 told_made false place keys len = []
 
--- what a build made is told, if that was asked for: how many keys the file has, and how long it is
+-- what a build made is told, as its summary says: how many keys the file has, and how long it is
 abbrev pub TellsDone : Build → Option (List ℕ) → Option Story → (old new : Option (List ℕ)) → Type 0
 TellsDone build input files old new = (all : List ℕ) × IsRead build.from input files all × (file : Made) × IsMade build.plan all file
-    × Appends old new (told_made build.progress (target_name build.to) file.keys (length file.file.items))
+    × Appends old new (told_made (is_told build.summary file.keys) (target_name build.to) file.keys (length file.file.items))
 
 -- a line tells why a file that was read has no trie, by its first fault
 abbrev pub TellsUnopened : TrieFile → Option (List ℕ) → Option Story → (old new : Option (List ℕ)) → Type 0

@@ -26,8 +26,8 @@ use std::io::{BufWriter, Read, Write};
 use zerotrie_core::TrieRef;
 use zerotrie_files::{Disk, Noted, Store};
 use zerotrie_queries::{
-    Asked, Finder, ListError, OpenError, Query, looks_like_text, write_answers, write_list,
-    write_trie_code, write_trie_report, write_trie_view,
+    Asked, Finder, ListError, OpenError, Query, looks_like_text, write_answers,
+    write_distances, write_list, write_trie_code, write_trie_report, write_trie_view,
 };
 use zerotrie_reverse::Reverse;
 
@@ -199,6 +199,10 @@ fn answer<R: Read, W: Write + Drop>(
                 Err(ListError::Failed(error)) => Err(AskError::from(error)),
             }
         }
+        Question::Distances(choice, limit) => {
+            write_distances(alloc, trie, choice, limit, output)?;
+            Ok(true)
+        }
         Question::Code(language, name) => {
             write_trie_code(alloc, trie, language, name, output)?;
             Ok(true)
@@ -241,6 +245,7 @@ fn answer_of_index<R: Read, W: Write + Drop>(
             answer_keys(alloc, &finder, query, keys, input, output)
         }
         Question::List(_, _, _, _)
+        | Question::Distances(_, _)
         | Question::Code(_, _)
         | Question::Verify
         | Question::Report(_)

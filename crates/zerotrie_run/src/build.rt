@@ -6,11 +6,12 @@ ghost use Rattle.zerotrie_run.specs.Failures.{BuildFailed, ReadFailed, WriteFail
 ghost use Rattle.zerotrie_run.specs.Runs.{world, IsFreshAt, IsMade, IsNotBegun, EndsBuild, HandsOn, build_fails, build_refusal};
 ghost use Rattle.std.specs.Io.Buffered.{writer_contents};
 ghost use Rattle.zerotrie_making.specs.declared.error.MakeError.TheVariants.{OutOfMemory};
-ghost use Rattle.zerotrie_run.specs.Told.{HasCause, TellsMore, TellsDone};
+ghost use Rattle.zerotrie_run.specs.Told.{HasCause, TellsMore, TellsDone, is_told};
+ghost use Rattle.zerotrie_run.specs.Commands.{may_tell};
 ghost use Rattle.zerotrie_run.specs.declared.build.BuildError.TheVariants.{NotMade};
 ghost use Rattle.zerotrie_run.specs.declared.command.Place.TheVariants.{Stream};
 
-use crate::command::{Build, Place};
+use crate::command::{Build, Place, Summary};
 use crate::messages::build::made_text;
 use crate::messages::line::{target_name, tell};
 use crate::place::{read_place, write_place};
@@ -57,8 +58,18 @@ impl From<AllocError> for BuildError {
     }
 }
 
-/// Makes a file of pairs, and writes it to its place. It reports that at the end, if that was asked
-/// for.
+/// Returns whether it is reported that a file with this many keys was made.
+fn is_told(summary: Summary, keys: usize) -> bool
+    ensures { result ≡ is_told summary keys }
+{
+    match summary {
+        Summary::Never => false,
+        Summary::IfEmpty => keys == 0,
+        Summary::Always => true,
+    }
+}
+
+/// Makes a file of pairs, and writes it to its place. It reports that at the end, as its summary says.
 #[tactic(auto, using(crate::proofs::MadeLemmas::file_of_made))]
 fn make_file<D: Disk, R: Read, W: Write + Drop, M: Write>(
     alloc: Global,
@@ -83,7 +94,7 @@ fn make_file<D: Disk, R: Read, W: Write + Drop, M: Write>(
         (M.contents messages.old.inner) (M.contents messages.new.inner)) }
     ensures tells { messages.new.failed ≡ false
         → TellsMore (M.contents messages.old.inner) (M.contents messages.new.inner) }
-    ensures quiet { build.entry.progress ≡ false → messages.new ≡ messages.old }
+    ensures quiet { may_tell build.entry.summary ≡ false → messages.new ≡ messages.old }
     ensures noted { build_fails result ≡ false
         → NothingFailed input.old input.new output.old output.new files.old files.new }
     ensures failed { IfErr result (BuildFailed (ReadFailed input.new files.new)
@@ -99,7 +110,8 @@ fn make_file<D: Disk, R: Read, W: Write + Drop, M: Write>(
         Err(error) => return Err(BuildError::NotMade(error)),
     };
     let place = target_name(build.to);
-    let done = made_text(alloc, build.progress, place, made.keys, made.file.len())?;
+    let is_told = is_told(build.summary, made.keys);
+    let done = made_text(alloc, is_told, place, made.keys, made.file.len())?;
     match write_place(alloc, build.to, made.file.as_slice(), files, output) {
         Ok(()) => {
             tell(messages, done.as_slice());
@@ -134,7 +146,7 @@ pub fn spare<D: Disk>(
 }
 
 /// Makes a file of pairs, and writes it to its place, unless there is a file already that is to be left
-/// as it is. It reports that at the end, if that was asked for.
+/// as it is. It reports that at the end, as its summary says.
 pub fn build<D: Disk, R: Read, W: Write + Drop, M: Write>(
     alloc: Global,
     build: Build<'_>,
@@ -160,7 +172,7 @@ pub fn build<D: Disk, R: Read, W: Write + Drop, M: Write>(
         (M.contents messages.old.inner) (M.contents messages.new.inner)) }
     ensures tells { messages.new.failed ≡ false
         → TellsMore (M.contents messages.old.inner) (M.contents messages.new.inner) }
-    ensures quiet { build.entry.progress ≡ false → messages.new ≡ messages.old }
+    ensures quiet { may_tell build.entry.summary ≡ false → messages.new ≡ messages.old }
     ensures noted { build_fails result ≡ false
         → NothingFailed input.old input.new output.old output.new files.old files.new }
     ensures failed { IfErr result (BuildFailed (ReadFailed input.new files.new)

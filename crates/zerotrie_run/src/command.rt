@@ -68,6 +68,8 @@ pub enum Question<'a> {
     LookUp(Query, Keys<'a>),
     /// The first pairs whose keys are chosen, in an order: at most this many, or all.
     List(Form, Choice<'a>, Order, Option<usize>),
+    /// The same with the nearest first, each with how many edits make it of the word of the choice.
+    Distances(Choice<'a>, Option<usize>),
     /// The trie as source code, by a name.
     Code(Language, &'a str),
     /// Nothing: whether the file has a trie.
@@ -99,6 +101,17 @@ pub struct TrieFile<'a> {
     pub check: Check,
 }
 
+/// When a build reports how many keys its file has, and how long it is.
+#[derive(Clone, Copy, PartialEq, Eq, Debug)]
+pub enum Summary {
+    /// Never.
+    Never,
+    /// If the file has no keys: its input may have been cut off.
+    IfEmpty,
+    /// Always.
+    Always,
+}
+
 /// How a file is made, of what, and where.
 #[derive(Clone, Copy, Debug)]
 pub struct Build<'a> {
@@ -107,8 +120,8 @@ pub struct Build<'a> {
     pub plan: Plan,
     /// Whether a file that is there already is left as it is, and the build refused.
     pub no_clobber: bool,
-    /// Whether it is told at the end how many keys the file has, and how long it is.
-    pub progress: bool,
+    /// When it is reported at the end what was made.
+    pub summary: Summary,
 }
 
 /// Two files of tries that are compared. All bytes of each are tested.
@@ -165,6 +178,7 @@ fn reads_lines(question: Question<'_>) -> bool
         Question::LookUp(_, Keys::Lines) => true,
         Question::LookUp(_, Keys::Words(_))
         | Question::List(_, _, _, _)
+        | Question::Distances(_, _)
         | Question::Code(_, _)
         | Question::Verify
         | Question::Report(_)

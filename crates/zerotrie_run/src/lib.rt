@@ -14,6 +14,8 @@ mod program;
 mod status;
 mod stdin_lines;
 
-pub use command::{Build, Check, Combine, Command, Diff, Keys, Place, Question, Side, TrieFile};
+pub use command::{
+    Build, Check, Combine, Command, Diff, Keys, Place, Question, Side, Summary, TrieFile,
+};
 pub use program::run;
 pub use status::Status;

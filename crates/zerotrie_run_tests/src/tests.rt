@@ -68,7 +68,7 @@ const BUILD: Build<'static> = Build {
     to: Place::File("names.trie"),
     plan: PLAN,
     no_clobber: false,
-    progress: false,
+    summary: Summary::IfEmpty,
 };
 
 /// The file of an index of the names, by the page on the format.
@@ -146,7 +146,7 @@ const BUILDS: [Row; 4] = [
     Row {
         files: &[("names.tsv", NAMES)],
         command: Command::Build(Build {
-            progress: true,
+            summary: Summary::Always,
             ..BUILD
         }),
         status: Status::Done,

@@ -14,7 +14,7 @@ use Rattle.zerotrie_queries.specs.declared.print.Form.{Form}
 use Rattle.zerotrie_search.specs.Automata.{IsWordError}
 use Rattle.zerotrie_search.specs.declared.any.SearchBy.{SearchBy}
 use Rattle.zerotrie_search.specs.declared.any.WordError.{WordError}
-use Rattle.zerotrie_words.specs.Words.{HasNoHyphen, IsFlag, IsForm, IsFormat, IsNumberOf, duplicates_word, end_word, flag_of, form_by, form_word, format_word, is_alone, language_word, word_of, IsFoundBy, SeeksNothing}
+use Rattle.zerotrie_words.specs.Words.{HasNoHyphen, IsFlag, IsForm, IsFormat, IsNumberOf, IsTsv, duplicates_word, end_word, flag_of, form_by, form_word, format_word, is_alone, language_word, word_of, IsFoundBy, IsGlobBy, SeeksNothing}
 use Rattle.zerotrie_words.specs.declared.input.Input.{Input}
 use Rattle.zerotrie_words.specs.declared.input.Input.TheVariants as input
 use Rattle.zerotrie_words.specs.declared.task.Topic.{Topic}
@@ -95,14 +95,17 @@ IsNoProgress progress quiet = IsFlag progress true × IsFlag quiet true
 abbrev pub IsNoBuild : ArgMatches → Type 0
 IsNoBuild matches = IsNoPlan matches ⊎ IsNoProgress (flag_of matches (codes "progress")) (flag_of matches (codes "quiet"))
 
--- a format is named of pairs that are only to be counted, or the word is no format
-abbrev pub IsNoFormOf : Bool → Option (List ℕ) → Type 0
-IsNoFormOf true word = word ≢ None
-IsNoFormOf false None = ⊥
-IsNoFormOf false (Some word) = (form : Form) → Some word ≢ form_word form
+-- a format is named, or `--raw`, of pairs that are only to be counted; `--raw` of another format than `tsv`; or the word is no format
+abbrev pub IsNoFormOf : (count raw : Bool) → Option (List ℕ) → Type 0
+IsNoFormOf true true word = Unit {0}
+IsNoFormOf true false word = word ≢ None
+IsNoFormOf false true word = IsTsv word → ⊥
+IsNoFormOf false false None = ⊥
+IsNoFormOf false false (Some word) = (form : Form) → Some word ≢ form_word form
 
-abbrev pub IsNoForm : Option (List ℕ) → Option (List ℕ) → Type 0
-IsNoForm count word = (flag : Bool) × IsFlag count flag × IsNoFormOf flag word
+abbrev pub IsNoForm : ArgMatches → Type 0
+IsNoForm matches = (count : Bool) × (raw : Bool) × IsFlag (flag_of matches (codes "count")) count × IsFlag (flag_of matches (codes "raw")) raw
+    × IsNoFormOf count raw (word_of matches (codes "format"))
 
 -- the words are no view: a limit is no number, or is for a dump, or the view is neither
 abbrev pub IsNoView : Option (List ℕ) → Option (List ℕ) → Type 0
@@ -143,16 +146,31 @@ sought_count matches = given (word_of matches (codes "glob")) + given (word_of m
 abbrev pub IsUseless : ArgMatches → Type 0
 IsUseless matches = ((word_of matches (codes "edits") ≢ None) × (word_of matches (codes "fuzzy") ≡ None))
     ⊎ ((IsFlag (flag_of matches (codes "no-transpose")) true × (word_of matches (codes "fuzzy") ≡ None))
-    ⊎ (IsFlag (flag_of matches (codes "bytes")) true × (word_of matches (codes "glob") ≡ None) × (word_of matches (codes "fuzzy") ≡ None)))
+    ⊎ ((IsFlag (flag_of matches (codes "beginnings")) true × (word_of matches (codes "fuzzy") ≡ None))
+    ⊎ (IsFlag (flag_of matches (codes "bytes")) true × (word_of matches (codes "glob") ≡ None) × (word_of matches (codes "not") ≡ None) × (word_of matches (codes "fuzzy") ≡ None))))
 
 -- the words are not one by which keys are sought: there is more than one, a word is none of its sort, or an option is of no use
 abbrev pub IsNoSought : ArgMatches → Type 0
 IsNoSought matches = (2 ≤ sought_count matches) ⊎ (IsUseless matches ⊎ (HasNoNumber 8 (word_of matches (codes "edits"))
     ⊎ ((word : List ℕ) × (by : SearchBy) × IsFoundBy matches word by × IsNoWord by word)))
 
+-- the pattern that no key is to match is none
+abbrev pub IsNoWithout : ArgMatches → Type 0
+IsNoWithout matches = (word : List ℕ) × (by : SearchBy) × (word_of matches (codes "not") ≡ Some word) × IsGlobBy (flag_of matches (codes "bytes")) by × IsNoWord by word
+
 -- the words are no search: they ask for nothing, or keys are not sought by them
 abbrev pub IsNoSearch : ArgMatches → Type 0
-IsNoSearch matches = SeeksNothing matches ⊎ IsNoSought matches
+IsNoSearch matches = SeeksNothing matches ⊎ (IsNoSought matches ⊎ IsNoWithout matches)
+
+-- distances are to be printed, but keys are not near a word, or something says otherwise how they are listed
+abbrev pub IsNoMeasuring : ArgMatches → Type 0
+IsNoMeasuring matches = (word_of matches (codes "fuzzy") ≡ None) ⊎ (IsFlag (flag_of matches (codes "beginnings")) true ⊎ ((word_of matches (codes "format") ≢ None)
+    ⊎ (IsFlag (flag_of matches (codes "raw")) true ⊎ (IsFlag (flag_of matches (codes "count")) true ⊎ IsFlag (flag_of matches (codes "sorted")) true))))
+
+-- how the pairs of a search are to be listed can't be had
+abbrev pub IsNoSearchForm : (distances : Bool) → ArgMatches → Type 0
+IsNoSearchForm true matches = IsNoMeasuring matches
+IsNoSearchForm false matches = IsNoForm matches
 
 -- the words are no code: no language, or a name that is none or is taken
 abbrev pub IsTaken : Language → List ℕ → Type 0
@@ -171,8 +189,9 @@ abbrev pub IsNoQuestion : ArgMatches → Topic → Option (List (List ℕ)) → 
 IsNoQuestion matches topic.Get texts = AreNoKeys texts
 IsNoQuestion matches topic.Longest texts = IsNoLongest matches ⊎ AreNoKeys texts
 IsNoQuestion matches topic.Keys texts = AreNoKeys texts
-IsNoQuestion matches topic.List texts = IsNoForm (flag_of matches (codes "count")) (word_of matches (codes "format")) ⊎ HasNoNumber 64 (word_of matches (codes "limit"))
-IsNoQuestion matches topic.Search texts = IsNoForm (flag_of matches (codes "count")) (word_of matches (codes "format")) ⊎ (IsNoSearch matches ⊎ HasNoNumber 64 (word_of matches (codes "limit")))
+IsNoQuestion matches topic.List texts = IsNoForm matches ⊎ HasNoNumber 64 (word_of matches (codes "limit"))
+IsNoQuestion matches topic.Search texts = ((distances : Bool) × IsFlag (flag_of matches (codes "distance")) distances × IsNoSearchForm distances matches)
+    ⊎ (IsNoSearch matches ⊎ HasNoNumber 64 (word_of matches (codes "limit")))
 IsNoQuestion matches topic.Verify texts = ⊥
 IsNoQuestion matches topic.Stats texts = ⊥
 IsNoQuestion matches topic.Inspect texts = IsNoView (word_of matches (codes "VIEW")) (word_of matches (codes "limit"))

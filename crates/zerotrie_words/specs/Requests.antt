@@ -1,8 +1,13 @@
 -- The command that the words of a command line ask for.
-use Rattle.std.specs.Prelude.{◌≡◌, ◌≢◌, ◌⊎◌, ℕ, List, Option, Some, None, Bool, false, codes}
+use Rattle.std.specs.Prelude.{◌≡◌, ◌≢◌, ◌⊎◌, ℕ, List, Option, Some, None, Bool, true, false, codes, length, nat_lt, if◌then◌else◌}
 use Rattle.std.specs.Borrow.{Bor}
+use Rattle.std.specs.List.{slice_get}
+use Rattle.std.specs.Option.{option_map}
 use Rattle.clap.specs.declared.parser.matches.ArgMatches.{ArgMatches}
+use Rattle.zerotrie_sets.specs.declared.combined.Keep.{Keep}
+use Rattle.zerotrie_sets.specs.declared.combined.Keep.TheVariants.{First, Last}
 use Rattle.zerotrie_sets.specs.declared.combined.Operation.{Operation}
+use Rattle.zerotrie_sets.specs.declared.combined.Operation.TheVariants.{Union, Intersection, Difference, SymmetricDifference}
 use Rattle.zerotrie_run.specs.declared.command.Build.{Build}
 use Rattle.zerotrie_run.specs.declared.command.Combine.{Combine}
 use Rattle.zerotrie_run.specs.declared.command.Command.{Command}
@@ -11,24 +16,41 @@ use Rattle.zerotrie_run.specs.declared.command.Diff.{Diff}
 use Rattle.zerotrie_run.specs.declared.command.Place.{Place}
 use Rattle.zerotrie_run.specs.declared.command.Place.TheVariants.{File, Stream}
 use Rattle.zerotrie_words.specs.Diffs.{IsDiff}
-use Rattle.zerotrie_words.specs.Refusals.{IsNoBuild, IsNoContent, IsNoKind, IsNoQuestion, IsSaid}
-use Rattle.zerotrie_words.specs.Words.{AreTogether, IsAsk, IsFlag, IsForm, IsKind, IsPlan, IsProgress, IsSource, IsTarget, flag_of, given_words, word_of}
+use Rattle.zerotrie_words.specs.Refusals.{IsNoBuild, IsNoContent, IsNoKind, IsNoQuestion, IsSaid, NamesNone}
+use Rattle.zerotrie_words.specs.Words.{AreTogether, IsAsk, IsFlag, IsForm, IsKind, IsPlan, IsSource, IsSummary, IsTarget, files_of, flag_of, given_words, word_of}
 use Rattle.zerotrie_words.specs.declared.reply.Reply.{Reply}
 use Rattle.zerotrie_words.specs.declared.reply.Reply.TheVariants as reply
 use Rattle.zerotrie_words.specs.declared.task.Task.{Task}
 use Rattle.zerotrie_words.specs.declared.task.Task.TheVariants as task
+use Rattle.zerotrie_words.specs.declared.task.Topic.TheVariants as topic
 
--- The build that the words ask for. What it made is told also if messages go to a terminal.
+-- The build that the words ask for. What it made is told always if messages go to a terminal.
 pub record IsBuild (matches : ArgMatches) (to_terminal : Bool) (build : Build) : Type 0 where
   pub from : IsSource (word_of matches (codes "IN")) build.from
   pub to : IsTarget (word_of matches (codes "output")) build.to
   pub plan : IsPlan matches build.plan
   pub no_clobber : IsFlag (flag_of matches (codes "no-clobber")) build.no_clobber
-  pub progress : IsProgress to_terminal (flag_of matches (codes "progress")) (flag_of matches (codes "quiet")) build.progress
+  pub summary : IsSummary to_terminal (flag_of matches (codes "progress")) (flag_of matches (codes "quiet")) build.summary
+
+-- which value counts of a key that both tries have, by its word
+abbrev pub keep_word : Keep → List ℕ
+keep_word First = codes "first"
+keep_word Last = codes "last"
+
+-- an operation that takes this value
+abbrev pub keeping : Keep → Operation → Operation
+keeping keep (Union before) = Union keep
+keeping keep (Intersection before) = Intersection keep
+keeping keep Difference = Difference
+keeping keep SymmetricDifference = SymmetricDifference
+
+abbrev pub IsKeeping : Option (List ℕ) → (operation made : Operation) → Type 0
+IsKeeping None operation made = made ≡ operation
+IsKeeping (Some word) operation made = (keep : Keep) × (word ≡ keep_word keep) × (made ≡ keeping keep operation)
 
 -- The combination that they ask for.
 pub record IsCombination (matches : ArgMatches) (operation : Operation) (both : Combine) : Type 0 where
-  pub made : both.operation ≡ operation
+  pub made : IsKeeping (word_of matches (codes "values")) operation both.operation
   pub first : IsSource (word_of matches (codes "A")) both.first
   pub second : IsSource (word_of matches (codes "B")) both.second
   pub to : IsTarget (word_of matches (codes "output")) both.to
@@ -55,12 +77,48 @@ keys_by matches (task.Ask topic) = given_words matches topic
 keys_by matches task.Diff = None
 keys_by matches (task.Combine operation) = None
 
--- the command of a task: a build does not replace its own input
-abbrev pub IsCommand : ArgMatches → Option (List (List ℕ)) → Bool → Task → Command → Type 0
-IsCommand matches texts to_terminal task.Build c = (build : Build) × IsBuild matches to_terminal build × AreApart build.from build.to × (c ≡ command.Build build)
-IsCommand matches texts to_terminal (task.Ask topic) c = IsAsk matches topic texts c
-IsCommand matches texts to_terminal task.Diff c = (diff : Diff) × IsDiff matches diff × (c ≡ command.Diff diff)
-IsCommand matches texts to_terminal (task.Combine operation) c = (both : Combine) × IsCombination matches operation both × (c ≡ command.Combine both)
+-- how many files a task is done for, one after the other
+abbrev pub file_count : ArgMatches → Task → ℕ
+file_count matches task.Build = 1
+file_count matches (task.Ask topic.Get) = 1
+file_count matches (task.Ask topic.Longest) = 1
+file_count matches (task.Ask topic.Keys) = 1
+file_count matches (task.Ask topic.List) = 1
+file_count matches (task.Ask topic.Search) = 1
+file_count matches (task.Ask topic.Verify) = length (files_of matches)
+file_count matches (task.Ask topic.Stats) = length (files_of matches)
+file_count matches (task.Ask topic.Inspect) = 1
+file_count matches (task.Ask topic.Code) = 1
+file_count matches task.Diff = 1
+file_count matches (task.Combine operation) = 1
+
+-- the command of a task for the file with this number: a build does not replace its own input
+abbrev pub IsCommand : ArgMatches → Option (List (List ℕ)) → Bool → ℕ → Task → Command → Type 0
+IsCommand matches texts to_terminal n task.Build c = (build : Build) × IsBuild matches to_terminal build × AreApart build.from build.to × (c ≡ command.Build build)
+IsCommand matches texts to_terminal n (task.Ask topic) c = IsAsk matches topic n texts c
+IsCommand matches texts to_terminal n task.Diff c = (diff : Diff) × IsDiff matches diff × (c ≡ command.Diff diff)
+IsCommand matches texts to_terminal n (task.Combine operation) c = (both : Combine) × IsCombination matches operation both × (c ≡ command.Combine both)
+
+-- the name in front of what is printed of one of several files, unless that is JSON
+abbrev pub heading : (json : Bool) → List (List ℕ) → ℕ → Option (List ℕ)
+heading true files n = None
+heading false files n = if nat_lt 1 (length files) then slice_get files n else None
+
+-- a task has it in front: a report has, and no other
+abbrev pub IsHeading : Task → ArgMatches → ℕ → Option (Bor (List ℕ)) → Type 0
+IsHeading task.Build matches n name = name ≡ None
+IsHeading (task.Ask topic.Get) matches n name = name ≡ None
+IsHeading (task.Ask topic.Longest) matches n name = name ≡ None
+IsHeading (task.Ask topic.Keys) matches n name = name ≡ None
+IsHeading (task.Ask topic.List) matches n name = name ≡ None
+IsHeading (task.Ask topic.Search) matches n name = name ≡ None
+IsHeading (task.Ask topic.Verify) matches n name = name ≡ None
+IsHeading (task.Ask topic.Stats) matches n name = (json : Bool) × IsFlag (flag_of matches (codes "json")) json
+    × (option_map (λ w. w.now) name ≡ heading json (files_of matches) n)
+IsHeading (task.Ask topic.Inspect) matches n name = name ≡ None
+IsHeading (task.Ask topic.Code) matches n name = name ≡ None
+IsHeading task.Diff matches n name = name ≡ None
+IsHeading (task.Combine operation) matches n name = name ≡ None
 
 -- whether nothing is printed of what a task finds: by the flag of a comparison
 abbrev pub IsQuiet : Task → ArgMatches → Bool → Type 0
@@ -74,7 +132,7 @@ abbrev pub IsNoCommand : ArgMatches → Option (List (List ℕ)) → Task → Ty
 IsNoCommand matches texts task.Build = IsNoBuild matches ⊎ ((from : Place) × (to : Place) × IsSource (word_of matches (codes "IN")) from × IsTarget (word_of matches (codes "output")) to × AreOneFile from to)
 IsNoCommand matches texts (task.Ask topic) = IsNoKind (word_of matches (codes "bare")) ⊎ IsNoQuestion matches topic texts
 IsNoCommand matches texts task.Diff = IsNoKind (word_of matches (codes "bare"))
-IsNoCommand matches texts (task.Combine operation) = IsNoContent matches
+IsNoCommand matches texts (task.Combine operation) = IsNoContent matches ⊎ NamesNone keep_word (word_of matches (codes "values"))
 
 -- a reply names the path that two places have in common
 abbrev pub NamesOneFile : Place → Place → Reply → Type 0

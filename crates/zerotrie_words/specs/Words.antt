@@ -5,7 +5,7 @@ use Rattle.std.specs.Global.{Global}
 use Rattle.std.specs.Borrow.{Bor}
 use Rattle.std.specs.declared.ops.Bound.{Bound}
 use Rattle.std.specs.declared.ops.Bound.TheVariants.{Included, Excluded, Unbounded}
-use Rattle.std.specs.List.{starts_with}
+use Rattle.std.specs.List.{slice_get, starts_with}
 use Rattle.std.specs.Option.{option_map}
 use Rattle.std.specs.Str.Parse.{IsNumeral, digits_value, without_leading_plus}
 use Rattle.clap.specs.Matches.{found_of, first_value, matched_of, one_text, raw_values}
@@ -19,6 +19,7 @@ use Rattle.zerotrie_core.specs.declared.TrieKind.{TrieKind}
 use Rattle.zerotrie_lines.specs.declared.reading.Format.TheVariants.{Tsv, TsvRaw, Csv, Lines}
 use Rattle.zerotrie_lines.specs.declared.reading.LineEnd.{LineEnd}
 use Rattle.zerotrie_lines.specs.declared.reading.LineEnd.TheVariants.{CrLf, Lf}
+use Rattle.zerotrie_queries.specs.Chosen.{pattern_by}
 use Rattle.zerotrie_queries.specs.code.Names.{is_name}
 use Rattle.zerotrie_queries.specs.code.Texts.{usual_name}
 use Rattle.zerotrie_queries.specs.declared.code.Language.{Language}
@@ -31,6 +32,7 @@ use Rattle.zerotrie_queries.specs.declared.question.Query.{Query}
 use Rattle.zerotrie_queries.specs.declared.reports.ReportForm.{ReportForm}
 use Rattle.zerotrie_queries.specs.declared.reports.ReportForm.TheVariants as report
 use Rattle.zerotrie_queries.specs.declared.question.Choice.{Choice}
+use Rattle.zerotrie_queries.specs.declared.question.Pattern.{Pattern}
 use Rattle.zerotrie_queries.specs.declared.question.Sought.{Sought}
 use Rattle.zerotrie_queries.specs.declared.question.Order.{Order}
 use Rattle.zerotrie_queries.specs.declared.question.Order.TheVariants as order
@@ -57,6 +59,8 @@ use Rattle.zerotrie_run.specs.declared.command.Keys.{Keys}
 use Rattle.zerotrie_run.specs.declared.command.Keys.TheVariants as keys
 use Rattle.zerotrie_run.specs.declared.command.Question.{Question}
 use Rattle.zerotrie_run.specs.declared.command.Question.TheVariants as question
+use Rattle.zerotrie_run.specs.declared.command.Summary.{Summary}
+use Rattle.zerotrie_run.specs.declared.command.Summary.TheVariants as summary
 use Rattle.zerotrie_run.specs.declared.command.TrieFile.{TrieFile}
 use Rattle.zerotrie_run.specs.declared.command.Command.{Command}
 use Rattle.zerotrie_run.specs.declared.command.Command.TheVariants.{Ask}
@@ -177,14 +181,22 @@ form_word (form.Lines style.JsonLines) = Some (codes "jsonl")
 form_word form.Json = Some (codes "json")
 form_word form.Count = None
 
--- the form of a list: a number if it is only to be counted, and then there is no word; else by its word, or lines with a tab
-abbrev pub IsFormOf : Bool → Option (List ℕ) → Form → Type 0
-IsFormOf true word f = (word ≡ None) × (f ≡ form.Count)
-IsFormOf false None f = f ≡ form.Lines style.Tsv
-IsFormOf false (Some word) f = Some word ≡ form_word f
+-- lines with a tab, by their word or without one
+abbrev pub IsTsv : Option (List ℕ) → Type 0
+IsTsv word = (word ≡ None) ⊎ (word ≡ Some (codes "tsv"))
 
-abbrev pub IsListForm : Option (List ℕ) → Option (List ℕ) → Form → Type 0
-IsListForm count word f = (flag : Bool) × IsFlag count flag × IsFormOf flag word f
+-- the form of a list: a number if it is only to be counted, and then there is no word; lines with a tab, if they are raw; else by
+-- its word, or such lines with escapes
+abbrev pub IsFormOf : (count raw : Bool) → Option (List ℕ) → Form → Type 0
+IsFormOf true true word f = ⊥
+IsFormOf true false word f = (word ≡ None) × (f ≡ form.Count)
+IsFormOf false true word f = IsTsv word × (f ≡ form.Lines style.TsvRaw)
+IsFormOf false false None f = f ≡ form.Lines style.Tsv
+IsFormOf false false (Some word) f = Some word ≡ form_word f
+
+abbrev pub IsListForm : ArgMatches → Form → Type 0
+IsListForm matches f = (count : Bool) × (raw : Bool) × IsFlag (flag_of matches (codes "count")) count × IsFlag (flag_of matches (codes "raw")) raw
+    × IsFormOf count raw (word_of matches (codes "format")) f
 
 -- the order of a list: that of the bytes by a flag, but not if it is only to be counted
 abbrev pub order_by : Bool → Bool → Order
@@ -317,15 +329,17 @@ pub record IsPlan (matches : ArgMatches) (plan : Plan) : Type 0 where
   pub form : IsForm (flag_of matches (codes "tagged")) (flag_of matches (codes "bare")) (flag_of matches (codes "index")) plan.file.form
   pub together : AreTogether plan.file.form plan.file.kind
 
--- whether a build reports what it made: if messages go to a terminal, unless one flag says that it does, or the other that it doesn't
-abbrev pub progress_by : Bool → Bool → Bool → Option Bool
-progress_by to_terminal false false = Some to_terminal
-progress_by to_terminal true false = Some true
-progress_by to_terminal false true = Some false
-progress_by to_terminal true true = None
+-- when a build reports what it made: always if messages go to a terminal, else if there are no keys; but one flag says always, the
+-- other never
+abbrev pub summary_by : (to_terminal progress quiet : Bool) → Option Summary
+summary_by true false false = Some summary.Always
+summary_by false false false = Some summary.IfEmpty
+summary_by to_terminal true false = Some summary.Always
+summary_by to_terminal false true = Some summary.Never
+summary_by to_terminal true true = None
 
-abbrev pub IsProgress : Bool → Option (List ℕ) → Option (List ℕ) → Bool → Type 0
-IsProgress to_terminal progress quiet told = (p : Bool) × (q : Bool) × IsFlag progress p × IsFlag quiet q × (progress_by to_terminal p q ≡ Some told)
+abbrev pub IsSummary : Bool → Option (List ℕ) → Option (List ℕ) → Summary → Type 0
+IsSummary to_terminal progress quiet s = (p : Bool) × (q : Bool) × IsFlag progress p × IsFlag quiet q × (summary_by to_terminal p q ≡ Some s)
 
 -- the words of an argument, of all its uses
 abbrev pub words_of : ArgMatches → List ℕ → Option (List (List ℕ))
@@ -378,9 +392,25 @@ IsCheck topic.Stats word by = IsChecked word by
 IsCheck topic.Inspect word by = IsChecked word by
 IsCheck topic.Code word by = IsChecked word by
 
--- The file that is asked, by the words of a question.
-pub record IsFile (matches : ArgMatches) (about : Topic) (file : TrieFile) : Type 0 where
-  pub place : IsSource (word_of matches (codes "FILE")) file.place
+-- the words of files that are asked one after the other
+abbrev pub files_of : ArgMatches → List (List ℕ)
+files_of matches = unwrap_or (words_of matches (codes "FILE")) []
+
+-- the word of the file with this number that a topic is asked of: `verify` and `stats` have several
+abbrev pub file_word : ArgMatches → Topic → ℕ → Option (List ℕ)
+file_word matches topic.Get n = word_of matches (codes "FILE")
+file_word matches topic.Longest n = word_of matches (codes "FILE")
+file_word matches topic.Keys n = word_of matches (codes "FILE")
+file_word matches topic.List n = word_of matches (codes "FILE")
+file_word matches topic.Search n = word_of matches (codes "FILE")
+file_word matches topic.Verify n = slice_get (files_of matches) n
+file_word matches topic.Stats n = slice_get (files_of matches) n
+file_word matches topic.Inspect n = word_of matches (codes "FILE")
+file_word matches topic.Code n = word_of matches (codes "FILE")
+
+-- The file with this number that is asked, by the words of a question.
+pub record IsFile (matches : ArgMatches) (about : Topic) (n : ℕ) (file : TrieFile) : Type 0 where
+  pub place : IsSource (file_word matches about n) file.place
   pub bare : IsKind (word_of matches (codes "bare")) file.bare
   pub check : IsCheck about (flag_of matches (codes "no-check")) file.check
 
@@ -438,12 +468,17 @@ abbrev pub AreSwapsUsed : ArgMatches → Type 0
 AreSwapsUsed matches = (plain : Bool) × IsFlag (flag_of matches (codes "no-transpose")) plain × (plain ≡ true → word_of matches (codes "fuzzy") ≢ None)
 
 abbrev pub AreBytesUsed : ArgMatches → Type 0
-AreBytesUsed matches = (flag : Bool) × IsFlag (flag_of matches (codes "bytes")) flag × (flag ≡ true → word_of matches (codes "glob") ≡ None → word_of matches (codes "fuzzy") ≢ None)
+AreBytesUsed matches = (flag : Bool) × IsFlag (flag_of matches (codes "bytes")) flag
+    × (flag ≡ true → word_of matches (codes "glob") ≡ None → word_of matches (codes "not") ≡ None → word_of matches (codes "fuzzy") ≢ None)
+
+abbrev pub AreBeginningsUsed : ArgMatches → Type 0
+AreBeginningsUsed matches = (flag : Bool) × IsFlag (flag_of matches (codes "beginnings")) flag × (flag ≡ true → word_of matches (codes "fuzzy") ≢ None)
 
 -- each option of a word is there only if the word is
 pub record AreUsed (matches : ArgMatches) : Type 0 where
   pub edits : word_of matches (codes "edits") ≢ None → word_of matches (codes "fuzzy") ≢ None
   pub swaps : AreSwapsUsed matches
+  pub begins : AreBeginningsUsed matches
   pub bytes : AreBytesUsed matches
 
 -- a word finds keys by its option
@@ -452,15 +487,24 @@ IsFoundBy matches word b = (AreGiven matches (Some word) None None × IsGlobBy (
     ⊎ ((AreGiven matches None (Some word) None × ((edits : ℕ) × IsEdits (word_of matches (codes "edits")) edits × IsFuzzyBy (flag_of matches (codes "bytes")) (flag_of matches (codes "no-transpose")) edits b))
     ⊎ (AreGiven matches None None (Some word) × (b ≡ by.Subsequence)))
 
--- which word keys are sought by, if one is given: one of its sort, by its option, without useless ones
+-- which word keys are sought by, if one is given: one of its sort, by its option, without useless ones; by a flag keys need only begin
+-- with what it finds
 abbrev pub IsSoughtBy : ArgMatches → Option Sought → Type 0
 IsSoughtBy matches None = AreGiven matches None None None × AreUsed matches
-IsSoughtBy matches (Some s) = IsFoundBy matches s.word.now s.by × ((e : WordError) → IsWordError s.by s.word.now e → ⊥) × AreUsed matches
+IsSoughtBy matches (Some s) = IsFoundBy matches s.word.now s.by × IsFlag (flag_of matches (codes "beginnings")) s.begins
+    × ((e : WordError) → IsWordError s.by s.word.now e → ⊥) × AreUsed matches
+
+-- the pattern that no key matches, if one is given: a pattern, of characters, or of bytes with a flag
+abbrev pub IsWithout : ArgMatches → Option Pattern → Type 0
+IsWithout matches None = word_of matches (codes "not") ≡ None
+IsWithout matches (Some p) = (word_of matches (codes "not") ≡ Some p.text.now) × IsGlobBy (flag_of matches (codes "bytes")) (pattern_by p.by_chars)
+    × ((e : WordError) → IsWordError (pattern_by p.by_chars) p.text.now e → ⊥)
 
 -- The keys that are listed, by their words.
 pub record IsListed (matches : ArgMatches) (c : Choice) : Type 0 where
   pub front : IsFront matches c.prefix.now
   pub range : IsRange matches c.range
+  pub spared : c.without ≡ None
   pub all : c.sought ≡ None
 
 -- neither a prefix nor a range is there
@@ -469,21 +513,37 @@ HasNoPart matches = (word_of matches (codes "prefix") ≡ None) × HasNoRange ma
 
 -- no word says which keys are looked for
 abbrev pub SeeksNothing : ArgMatches → Type 0
-SeeksNothing matches = (word_of matches (codes "glob") ≡ None) × (word_of matches (codes "fuzzy") ≡ None) × (word_of matches (codes "subsequence") ≡ None) × HasNoPart matches
+SeeksNothing matches = (word_of matches (codes "glob") ≡ None) × (word_of matches (codes "fuzzy") ≡ None) × (word_of matches (codes "subsequence") ≡ None)
+    × (word_of matches (codes "not") ≡ None) × HasNoPart matches
 
 -- The keys that are looked for.
 pub record IsSought (matches : ArgMatches) (c : Choice) : Type 0 where
   pub front : IsFront matches c.prefix.now
   pub range : IsRange matches c.range
+  pub spared : IsWithout matches c.without
   pub by : IsSoughtBy matches c.sought
   pub some : SeeksNothing matches → ⊥
 
 -- The pairs that are listed, by the words of a listing or a search: how, and in which order.
 pub record IsListing (matches : ArgMatches) (IsChoice : Choice → Type 0) (IsOrdered : Order → Type 0) (form : Form) (c : Choice) (o : Order) (limit : Option ℕ) : Type 0 where
-  pub format : IsListForm (flag_of matches (codes "count")) (word_of matches (codes "format")) form
+  pub format : IsListForm matches form
   pub chosen : IsChoice c
   pub ordered : IsOrdered o
   pub most : IsLimit (word_of matches (codes "limit")) limit
+
+-- Keys are near a word, and nothing says otherwise how they are listed than with how many edits make each.
+pub record AreMeasured (matches : ArgMatches) : Type 0 where
+  pub near : word_of matches (codes "fuzzy") ≢ None
+  pub whole : IsFlag (flag_of matches (codes "beginnings")) false
+  pub format : word_of matches (codes "format") ≡ None
+  pub spelled : IsFlag (flag_of matches (codes "raw")) false
+  pub printed : IsFlag (flag_of matches (codes "count")) false
+  pub nearest : IsFlag (flag_of matches (codes "sorted")) false
+
+-- what a search asks for, by whether distances are to be printed
+abbrev pub IsSearch : (distances : Bool) → ArgMatches → Question → Type 0
+IsSearch true matches q = (c : Choice) × (limit : Option ℕ) × AreMeasured matches × IsSought matches c × IsLimit (word_of matches (codes "limit")) limit × (q ≡ question.Distances c limit)
+IsSearch false matches q = (f : Form) × (c : Choice) × (o : Order) × (limit : Option ℕ) × IsListing matches (IsSought matches) (IsSearchOrder matches) f c o limit × (q ≡ question.List f c o limit)
 
 -- a name is none of those in zerotrie.h, if the language is C; of keywords, tests show it
 abbrev pub IsFree : Language → List ℕ → Type 0
@@ -509,12 +569,12 @@ IsQuestion matches topic.Longest texts q = (query : Query) × (of : Keys) × IsL
     × AreKeysOf texts of × (q ≡ question.LookUp query of)
 IsQuestion matches topic.Keys texts q = (of : Keys) × AreKeysOf texts of × (q ≡ question.LookUp (record { asked = asked.KeyOf; spelling = spelling.Plain }) of)
 IsQuestion matches topic.List texts q = (f : Form) × (c : Choice) × (o : Order) × (limit : Option ℕ) × IsListing matches (IsListed matches) (IsOrder (flag_of matches (codes "count")) (flag_of matches (codes "sorted"))) f c o limit × (q ≡ question.List f c o limit)
-IsQuestion matches topic.Search texts q = (f : Form) × (c : Choice) × (o : Order) × (limit : Option ℕ) × IsListing matches (IsSought matches) (IsSearchOrder matches) f c o limit × (q ≡ question.List f c o limit)
+IsQuestion matches topic.Search texts q = (distances : Bool) × IsFlag (flag_of matches (codes "distance")) distances × IsSearch distances matches q
 IsQuestion matches topic.Verify texts q = q ≡ question.Verify
 IsQuestion matches topic.Stats texts q = (f : ReportForm) × IsReportForm (flag_of matches (codes "json")) f × (q ≡ question.Report f)
 IsQuestion matches topic.Inspect texts q = (v : View) × IsView (word_of matches (codes "VIEW")) (word_of matches (codes "limit")) v × (q ≡ question.View v)
 IsQuestion matches topic.Code texts q = (language : Language) × (name : Bor (List ℕ)) × IsCode matches language name.now × (q ≡ question.Code language name)
 
--- the command that asks it of the file
-abbrev pub IsAsk : ArgMatches → Topic → Option (List (List ℕ)) → Command → Type 0
-IsAsk matches about texts command = (file : TrieFile) × (q : Question) × IsFile matches about file × IsQuestion matches about texts q × (command ≡ Ask file q)
+-- the command that asks it of the file with this number
+abbrev pub IsAsk : ArgMatches → Topic → ℕ → Option (List (List ℕ)) → Command → Type 0
+IsAsk matches about n texts command = (file : TrieFile) × (q : Question) × IsFile matches about n file × IsQuestion matches about texts q × (command ≡ Ask file q)

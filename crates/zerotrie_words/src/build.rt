@@ -3,7 +3,7 @@
 ghost use Rattle.std.specs.Prelude.{◌≡◌, Some, IfErr, IfOk, IfSome, IfNone, codes};
 ghost use Rattle.zerotrie_words.specs.Refusals.{ExcludeEachOther, IsNoBuild, IsNoChoice, IsNoContent, IsNoEnd, IsNoInput, IsNoPlan, IsNoProgress, IsSaid, NamesNone};
 ghost use Rattle.zerotrie_words.specs.Requests.{IsBuild};
-ghost use Rattle.zerotrie_words.specs.Words.{AreTogether, IsEnd, IsForm, IsFormat, IsInput, IsKind, IsPlan, IsProgress, IsTarget, MayNameEnd, duplicates_word, end_word, flag_of, format_word, word_of};
+ghost use Rattle.zerotrie_words.specs.Words.{AreTogether, IsEnd, IsForm, IsFormat, IsInput, IsKind, IsPlan, IsSummary, IsTarget, MayNameEnd, duplicates_word, end_word, flag_of, format_word, word_of};
 ghost use Rattle.zerotrie_lines.specs.declared.reading.LineEnd.{LineEnd};
 ghost use Rattle.zerotrie_making.specs.declared.duplicates.Duplicates.{Duplicates};
 
@@ -13,7 +13,7 @@ use clap::ArgMatches;
 use zerotrie_core::TrieKind;
 use zerotrie_lines::{Format, LineEnd};
 use zerotrie_making::{Duplicates, FileForm, FilePlan, Plan, ReadPlan, Source};
-use zerotrie_run::{Build, Place};
+use zerotrie_run::{Build, Place, Summary};
 
 /// Returns the format of the input: the one that is named, or by the ending of its path.
 fn format_in(matches: &ArgMatches<'_>) -> Result<Input, &'static str>
@@ -183,26 +183,26 @@ pub fn target_in<'a>(matches: &ArgMatches<'a>) -> Place<'a>
     }
 }
 
-/// Returns whether a build reports what it made: if that is asked for, or if messages go to a
-/// terminal and it is not to be quiet.
-fn progress_in(matches: &ArgMatches<'_>, to_terminal: bool) -> Result<bool, &'static str>
-    ensures progress { IfOk result (IsProgress to_terminal (flag_of matches.now (codes "progress"))
+/// Returns when a build reports what it made: always if that is asked for or messages go to a
+/// terminal, never if it is to be quiet, and else if there are no keys.
+fn summary_in(matches: &ArgMatches<'_>, to_terminal: bool) -> Result<Summary, &'static str>
+    ensures summary { IfOk result (IsSummary to_terminal (flag_of matches.now (codes "progress"))
         (flag_of matches.now (codes "quiet"))) }
     ensures refused { IfErr result (λ _. IsNoProgress (flag_of matches.now (codes "progress"))
         (flag_of matches.now (codes "quiet"))) }
     ensures said { IfErr result IsSaid }
 {
     match (matches.get_flag("progress"), matches.get_flag("quiet")) {
-        (false, false) => Ok(to_terminal),
-        (true, false) => Ok(true),
-        (false, true) => Ok(false),
+        (false, false) if to_terminal => Ok(Summary::Always),
+        (false, false) => Ok(Summary::IfEmpty),
+        (true, false) => Ok(Summary::Always),
+        (false, true) => Ok(Summary::Never),
         (true, true) => Err("--progress and --quiet exclude each other"),
     }
 }
 
-/// Returns the build that is asked for. It reports what it made if that is asked for, or if messages
-/// go to a terminal and it is not to be quiet. It is an error, with the message, if an option has a
-/// wrong word, or options exclude each other.
+/// Returns the build that is asked for. It is an error, with the message, if an option has a wrong
+/// word, or options exclude each other.
 pub fn build_in<'a>(matches: &ArgMatches<'a>, to_terminal: bool) -> Result<Build<'a>, &'static str>
     ensures build { IfOk result (IsBuild matches.now to_terminal) }
     ensures refused { IfErr result (λ _. IsNoBuild matches.now) }
@@ -213,6 +213,6 @@ pub fn build_in<'a>(matches: &ArgMatches<'a>, to_terminal: bool) -> Result<Build
         to: target_in(matches),
         plan: plan_in(matches)?,
         no_clobber: matches.get_flag("no-clobber"),
-        progress: progress_in(matches, to_terminal)?,
+        summary: summary_in(matches, to_terminal)?,
     })
 }

@@ -25,19 +25,20 @@ fn form_named(name: &str) -> Option<Form>
 }
 
 /// Returns how pairs are to be printed. It is an error, with the message, if they are only to be
-/// counted, and a format is named.
+/// counted, and a format is named, or if another format than `tsv` is to be raw.
 pub fn form_in(matches: &ArgMatches<'_>) -> Result<Form, &'static str>
-    ensures form { IfOk result (IsListForm (flag_of matches.now (codes "count"))
-        (word_of matches.now (codes "format"))) }
-    ensures refused { IfErr result (λ _. IsNoForm (flag_of matches.now (codes "count"))
-        (word_of matches.now (codes "format"))) }
+    ensures form { IfOk result (IsListForm matches.now) }
+    ensures refused { IfErr result (λ _. IsNoForm matches.now) }
     ensures said { IfErr result IsSaid }
 {
-    match (matches.get_flag("count"), matches.get_str("format")) {
-        (true, None) => Ok(Form::Count),
-        (true, Some(_)) => Err("--count prints no pairs: leave out --format"),
-        (false, None) => Ok(Form::Lines(Style::Tsv)),
-        (false, Some(name)) => form_named(name).ok_or("--format asks for a format"),
+    let named = matches.get_str("format");
+    match (matches.get_flag("count"), matches.get_flag("raw"), named) {
+        (true, false, None) => Ok(Form::Count),
+        (true, _, _) => Err("--count prints no pairs: leave out --format and --raw"),
+        (false, true, None | Some("tsv")) => Ok(Form::Lines(Style::TsvRaw)),
+        (false, true, Some(_)) => Err("--raw is for tsv"),
+        (false, false, None) => Ok(Form::Lines(Style::Tsv)),
+        (false, false, Some(name)) => form_named(name).ok_or("--format asks for a format"),
     }
 }
 

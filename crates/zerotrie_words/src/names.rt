@@ -1,6 +1,7 @@
 //! The kinds and places that words name.
 
 ghost use Rattle.std.specs.Prelude.{IfErr, IfOk, codes};
+ghost use Rattle.std.specs.Option.{option_map};
 ghost use Rattle.zerotrie_words.specs.Refusals.{IsNoKind, IsSaid};
 ghost use Rattle.zerotrie_words.specs.Words.{IsKind, IsPlace, IsSource, word_of};
 
@@ -24,20 +25,34 @@ pub fn kind_in(matches: &ArgMatches<'_>, name: &str) -> Result<Option<TrieKind>,
     }
 }
 
+/// Returns the place that a word names.
+fn place_of(word: Option<&str>) -> Place<'_>
+    ensures { IsPlace (option_map (λ w. w.now) word.entry) result }
+{
+    Place::named(word.unwrap_or("-"))
+}
+
 /// Returns the place that an argument names.
 pub fn place_in<'a>(matches: &ArgMatches<'a>, name: &str) -> Place<'a>
     ensures { IsPlace (word_of matches.now name.now) result }
 {
-    Place::named(matches.get_str(name).unwrap_or("-"))
+    place_of(matches.get_str(name))
 }
 
-/// Returns the place to read that an argument names. A path of standard input is that stream, so
-/// that it is not read twice.
+/// Returns the place to read that a word names. A path of standard input is that stream, so that it is
+/// not read twice.
+pub fn source_of(word: Option<&str>) -> Place<'_>
+    ensures { IsSource (option_map (λ w. w.now) word.entry) result }
+{
+    match word {
+        Some("/dev/stdin" | "/dev/fd/0") => Place::Stream,
+        _ => place_of(word),
+    }
+}
+
+/// Returns the place to read that an argument names.
 pub fn source_in<'a>(matches: &ArgMatches<'a>, name: &str) -> Place<'a>
     ensures { IsSource (word_of matches.now name.now) result }
 {
-    match matches.get_str(name) {
-        Some("/dev/stdin" | "/dev/fd/0") => Place::Stream,
-        _ => place_in(matches, name),
-    }
+    source_of(matches.get_str(name))
 }

@@ -1,18 +1,21 @@
 //! The questions to a trie that the command line asks.
 
-ghost use Rattle.std.specs.Prelude.{◌≡◌, ◌⊎◌, IfErr, IfOk, codes};
-ghost use Rattle.zerotrie_words.specs.Refusals.{IsNoBorder, IsNoKind, IsNoLongest, IsNoQuestion, IsNoView, IsSaid};
-ghost use Rattle.zerotrie_words.specs.Words.{IsAsk, IsBorder, IsCheck, IsFile, IsGet, IsLongest, IsQuestion, IsReportForm, IsSpelling, IsView, flag_of, texts_of, word_of};
+ghost use Rattle.std.specs.Prelude.{◌≡◌, ◌⊎◌, None, IfErr, IfNone, IfOk, IfSome, codes, length, map};
+ghost use Rattle.std.specs.List.{slice_get};
+ghost use Rattle.std.specs.Option.{option_map};
+ghost use Rattle.zerotrie_words.specs.Refusals.{IsNoBorder, IsNoKind, IsNoLongest, IsNoMeasuring, IsNoQuestion, IsNoView, IsSaid};
+ghost use Rattle.zerotrie_words.specs.declared.task.Topic.TheVariants.{Search};
+ghost use Rattle.zerotrie_words.specs.Words.{AreMeasured, IsAsk, IsBorder, IsCheck, IsFile, IsGet, IsLongest, IsQuestion, IsReportForm, IsSource, IsSpelling, IsView, file_word, files_of, flag_of, texts_of, word_of};
 
 use crate::code::code_in;
 use crate::keys::keys_of;
 use crate::listing::{form_in, limit_in, order_in, search_order_in};
-use crate::names::{kind_in, source_in};
+use crate::names::{kind_in, source_in, source_of};
 use crate::search::{choice_in, listed_in};
 use crate::task::Topic;
 use clap::ArgMatches;
 use zerotrie_queries::{Asked, Query, ReportForm, Spelling, View};
-use zerotrie_run::{Check, Command, Question, TrieFile};
+use zerotrie_run::{Check, Command, Place, Question, TrieFile};
 
 /// How many nodes are drawn if `--limit` is left out.
 const DRAWN: usize = 100;
@@ -41,14 +44,55 @@ fn check_in(matches: &ArgMatches<'_>, topic: Topic) -> Check
     }
 }
 
-/// Returns the file of the trie that is asked.
-fn file_in<'a>(matches: &ArgMatches<'a>, topic: Topic) -> Result<TrieFile<'a>, &'static str>
-    ensures file { IfOk result (IsFile matches.now topic) }
+/// Returns the words of files that are asked one after the other.
+fn files_in<'m, 'a>(matches: &'m ArgMatches<'a>) -> &'m [&'a str]
+    ensures { map (λ w. w.now) result.now ≡ files_of matches.now }
+{
+    matches.get_strs("FILE").unwrap_or(&[])
+}
+
+/// Returns how many files are asked one after the other.
+pub fn file_count(matches: &ArgMatches<'_>) -> usize
+    ensures { result ≡ length (files_of matches.now) }
+{
+    files_in(matches).len()
+}
+
+/// Returns the word of the file with this number, of those that are asked one after the other.
+pub fn nth_file<'a>(matches: &ArgMatches<'a>, number: usize) -> Option<&'a str>
+    ensures { option_map (λ w. w.now) result ≡ slice_get (files_of matches.now) number }
+{
+    files_in(matches).get(number).copied()
+}
+
+/// Returns the place of the file with this number. Only `verify` and `stats` have several.
+fn file_place<'a>(matches: &ArgMatches<'a>, topic: Topic, number: usize) -> Place<'a>
+    ensures { IsSource (file_word matches.now topic number) result }
+{
+    match topic {
+        Topic::Verify | Topic::Stats => source_of(nth_file(matches, number)),
+        Topic::Get
+        | Topic::Longest
+        | Topic::Keys
+        | Topic::List
+        | Topic::Search
+        | Topic::Inspect
+        | Topic::Code => source_in(matches, "FILE"),
+    }
+}
+
+/// Returns the file with this number that is asked.
+fn file_in<'a>(
+    matches: &ArgMatches<'a>,
+    topic: Topic,
+    number: usize,
+) -> Result<TrieFile<'a>, &'static str>
+    ensures file { IfOk result (IsFile matches.now topic number) }
     ensures refused { IfErr result (λ _. IsNoKind (word_of matches.now (codes "bare"))) }
     ensures said { IfErr result IsSaid }
 {
     Ok(TrieFile {
-        place: source_in(matches, "FILE"),
+        place: file_place(matches, topic, number),
         bare: kind_in(matches, "bare")?,
         check: check_in(matches, topic),
     })
@@ -145,6 +189,48 @@ fn query_in(matches: &ArgMatches<'_>, asked: Asked) -> Query
     }
 }
 
+/// Returns what is said of distances that are to be printed where they can't be, if so.
+fn unmeasured_in(matches: &ArgMatches<'_>) -> Option<&'static str>
+    ensures none { IfNone result (AreMeasured matches.now) }
+    ensures some { IfSome result (λ _. IsNoMeasuring matches.now) }
+    ensures said { IfSome result IsSaid }
+{
+    if matches.get_str("fuzzy").is_none() || matches.get_flag("beginnings") {
+        return Some("--distance is for --fuzzy without --beginnings");
+    }
+    if matches.get_str("format").is_some() || matches.get_flag("raw") {
+        return Some("--distance prints tsv: leave out --format and --raw");
+    }
+    if matches.get_flag("count") || matches.get_flag("sorted") {
+        return Some("--distance prints the nearest first: leave out --count and --sorted");
+    }
+    None
+}
+
+/// Returns what a search asks for. It is an error, with the message, if an option has a wrong word, or
+/// options exclude each other.
+fn search_in<'a>(matches: &ArgMatches<'a>) -> Result<Question<'a>, &'static str>
+    ensures question { IfOk result (IsQuestion matches.now Search None) }
+    ensures refused { IfErr result (λ _. IsNoQuestion matches.now Search None) }
+    ensures said { IfErr result IsSaid }
+{
+    if !matches.get_flag("distance") {
+        return Ok(Question::List(
+            form_in(matches)?,
+            choice_in(matches)?,
+            search_order_in(matches),
+            limit_in(matches)?,
+        ));
+    }
+    match unmeasured_in(matches) {
+        Some(why) => Err(why),
+        None => Ok(Question::Distances(
+            choice_in(matches)?,
+            limit_in(matches)?,
+        )),
+    }
+}
+
 /// Returns the question of a command. It is an error, with the message, if an option has a wrong
 /// word.
 fn question_in<'w, 'a: 'w>(
@@ -178,12 +264,7 @@ fn question_in<'w, 'a: 'w>(
             order_in(matches),
             limit_in(matches)?,
         )),
-        Topic::Search => Ok(Question::List(
-            form_in(matches)?,
-            choice_in(matches)?,
-            search_order_in(matches),
-            limit_in(matches)?,
-        )),
+        Topic::Search => search_in(matches),
         Topic::Verify => Ok(Question::Verify),
         Topic::Stats => Ok(Question::Report(report_in(matches))),
         Topic::Inspect => Ok(Question::View(view_in(matches)?)),
@@ -191,19 +272,20 @@ fn question_in<'w, 'a: 'w>(
     }
 }
 
-/// Returns the question of a command, and the file it is for. It is an error, with the message, if
-/// an option has a wrong word.
+/// Returns the question of a command, and the file with this number it is for. It is an error, with
+/// the message, if an option has a wrong word.
 pub fn ask_in<'w, 'a: 'w>(
     matches: &ArgMatches<'a>,
     topic: Topic,
+    number: usize,
     words: &'w Option<Vec<&'a [u8]>>,
 ) -> Result<Command<'w>, &'static str>
-    ensures ask { IfOk result (IsAsk matches.now topic (texts_of words.now)) }
+    ensures ask { IfOk result (IsAsk matches.now topic number (texts_of words.now)) }
     ensures refused { IfErr result (λ _. IsNoKind (word_of matches.now (codes "bare"))
         ⊎ IsNoQuestion matches.now topic (texts_of words.now)) }
     ensures said { IfErr result IsSaid }
 {
-    let file = file_in(matches, topic)?;
+    let file = file_in(matches, topic, number)?;
     let question = question_in(matches, topic, words)?;
     Ok(Command::Ask(file, question))
 }

@@ -5,7 +5,7 @@ ghost use Rattle.zerotrie_run.specs.declared.status.Status.TheVariants.{BadUsage
 ghost use Rattle.zerotrie_words.specs.Arguments.{program_by};
 ghost use Rattle.zerotrie_words.specs.Reads.{IsFaultSaid, IsFoundIn, IsNoRequest, IsRequest};
 ghost use Rattle.zerotrie_words.specs.Replies.{status_of};
-ghost use Rattle.zerotrie_words.specs.Requests.{AreApart, AreOneFile, IsCommand, IsNoCommand, IsQuiet, IsRefusal, NamesOneFile, keys_by};
+ghost use Rattle.zerotrie_words.specs.Requests.{AreApart, AreOneFile, IsCommand, IsHeading, IsNoCommand, IsQuiet, IsRefusal, NamesOneFile, file_count, keys_by};
 ghost use Rattle.zerotrie_words.specs.Tasks.{AsksForPage};
 ghost use Rattle.zerotrie_words.specs.Words.{texts_of};
 ghost use Rattle.zerotrie_words.specs.declared.arguments.Subcommand.{Subcommand};
@@ -17,10 +17,10 @@ use crate::completions::script_for;
 use crate::diff::diff_in;
 use crate::keys::words_in;
 use crate::manual::manual;
-use crate::question::ask_in;
+use crate::question::{ask_in, file_count, nth_file};
 use crate::reply::{Reply, reply_to};
 use crate::table::commands;
-use crate::task::{Task, task_in};
+use crate::task::{Task, Topic, task_in};
 use clap::ArgMatches;
 use std::alloc::{AllocError, Global};
 use zerotrie_run::{Build, Command, Place};
@@ -142,12 +142,36 @@ impl<'a> Request<'a> {
         }
     }
 
-    /// Returns the command that the words ask for. A build reports what it made also if messages go
-    /// to a terminal, but not if it is to be quiet. It is an error if an option has a wrong word,
-    /// if options exclude each other, or if a build would replace its own input.
-    pub fn command(&self, to_terminal: bool) -> Result<Command<'_>, Reply<'a>>
+    /// Returns how many files the command is for, one after the other.
+    pub fn files(&self) -> usize
+        ensures { result ≡ file_count self.now.matches self.now.task }
+    {
+        match self.task {
+            Task::Ask(Topic::Verify | Topic::Stats) => file_count(&self.matches),
+            Task::Build | Task::Ask(_) | Task::Diff | Task::Combine(_) => 1,
+        }
+    }
+
+    /// Returns the name of the file with this number, if it has to stand in front of what is printed of
+    /// it: in front of the lines of a report on one of several files.
+    pub fn heading(&self, file: usize) -> Option<&'a str>
+        ensures { IsHeading self.now.task self.now.matches file result }
+    {
+        match self.task {
+            Task::Ask(Topic::Stats) if self.files() > 1 && !self.matches.get_flag("json") => {
+                nth_file(&self.matches, file)
+            }
+            Task::Build | Task::Ask(_) | Task::Diff | Task::Combine(_) => None,
+        }
+    }
+
+    /// Returns the command that the words ask for, for the file with this number. A build reports what
+    /// it made always if messages go to a terminal, but not if it is to be quiet. It is an error if an
+    /// option has a wrong word, if options exclude each other, or if a build would replace its own
+    /// input.
+    pub fn command(&self, file: usize, to_terminal: bool) -> Result<Command<'_>, Reply<'a>>
         ensures command { IfOk result
-            (IsCommand self.now.matches (texts_of self.now.keys) to_terminal self.now.task) }
+            (IsCommand self.now.matches (texts_of self.now.keys) to_terminal file self.now.task) }
         ensures refused { IfErr result (λ _.
             IsNoCommand self.now.matches (texts_of self.now.keys) self.now.task) }
         ensures status { IfErr result (λ reply. status_of reply ≡ BadUsage) }
@@ -158,7 +182,7 @@ impl<'a> Request<'a> {
                 let build = build_in(&self.matches, to_terminal)?;
                 Ok(Command::Build(kept_apart(build)?))
             }
-            Task::Ask(topic) => Ok(ask_in(&self.matches, topic, &self.keys)?),
+            Task::Ask(topic) => Ok(ask_in(&self.matches, topic, file, &self.keys)?),
             Task::Diff => Ok(Command::Diff(diff_in(&self.matches)?)),
             Task::Combine(operation) => {
                 Ok(Command::Combine(combine_in(&self.matches, operation)?))

@@ -3,18 +3,19 @@
 ghost use Rattle.std.specs.Prelude.{◌≡◌, ◌≢◌, false, true, IfErr, IfOk, IfSome, IfNone, None, codes};
 ghost use Rattle.zerotrie_search.specs.Automata.{IsWordError};
 ghost use Rattle.zerotrie_search.specs.declared.any.WordError.{WordError};
-ghost use Rattle.zerotrie_words.specs.Refusals.{HasNoNumber, IsNoSearch, IsNoSought, IsNoWord, IsSaid, IsUseless};
-ghost use Rattle.zerotrie_words.specs.Words.{AreBytesUsed, AreSwapsUsed, AreUsed, HasNoPart, HasNoRange, IsEdits, IsFlag, IsFront, IsFuzzyBy, IsGlobBy, IsListed, IsRange, IsSought, IsSoughtBy, flag_of, word_of};
+ghost use Rattle.zerotrie_words.specs.Refusals.{HasNoNumber, IsNoSearch, IsNoSought, IsNoWithout, IsNoWord, IsSaid, IsUseless};
+ghost use Rattle.zerotrie_words.specs.Words.{AreBeginningsUsed, AreBytesUsed, AreSwapsUsed, AreUsed, HasNoPart, HasNoRange, IsEdits, IsFlag, IsFront, IsFuzzyBy, IsGlobBy, IsListed, IsRange, IsSought, IsSoughtBy, IsWithout, flag_of, word_of};
 
 use clap::ArgMatches;
 use std::ops::Bound;
-use zerotrie_queries::{Choice, Order, Sought};
+use zerotrie_queries::{Choice, Pattern, Sought};
 use zerotrie_search::{AnyAutomaton, KeyRange, SearchBy, WordError};
 
 /// How many edits are allowed if `--edits` is left out.
 const EDITS: u8 = 2;
 
-const NOTHING_SOUGHT: &str = "give --glob, --fuzzy, --subsequence, --prefix, --from or --below";
+const NOTHING_SOUGHT: &str =
+    "give --glob, --fuzzy, --subsequence, --not, --prefix, --from or --below";
 
 const TOO_MUCH_SOUGHT: &str = "give only one of --glob, --fuzzy and --subsequence";
 
@@ -39,19 +40,39 @@ fn word_refused(by: SearchBy, error: WordError) -> &'static str
     }
 }
 
-/// Returns a word by which keys are sought. It is an error, with the message, if it is none of its sort.
-fn sought_by<'a>(by: SearchBy, word: &'a str) -> Result<Option<Sought<'a>>, &'static str>
-    ensures ok { IfOk result (λ o. IfSome o (λ s. (s.by ≡ by) × (s.word.now ≡ word.now))) }
-    ensures some { IfOk result (λ o. o ≢ None) }
+/// Returns the bytes of a word. It is an error, with the message, if it is none of its sort.
+fn word_by(by: SearchBy, word: &str) -> Result<&[u8], &'static str>
+    ensures ok { IfOk result (λ w. w.now ≡ word.now) }
     ensures word { IfOk result (λ _. (e : WordError) → IsWordError by word.now e → ⊥) }
     ensures refused { IfErr result (λ _. IsNoWord by word.now) }
     ensures said { IfErr result IsSaid }
 {
     let word = word.as_bytes();
     match AnyAutomaton::new(by, word) {
-        Ok(_) => Ok(Some(Sought { by, word })),
+        Ok(_) => Ok(word),
         Err(error) => Err(word_refused(by, error)),
     }
+}
+
+/// Returns a word by which keys are sought, or with a flag what they begin with. It is an error, with
+/// the message, if it is none of its sort.
+fn sought_by<'a>(
+    matches: &ArgMatches<'a>,
+    by: SearchBy,
+    word: &'a str,
+) -> Result<Option<Sought<'a>>, &'static str>
+    ensures ok { IfOk result (λ o. IfSome o (λ s. (s.by ≡ by) × (s.word.now ≡ word.now)
+        × IsFlag (flag_of matches.now (codes "beginnings")) s.begins)) }
+    ensures some { IfOk result (λ o. o ≢ None) }
+    ensures word { IfOk result (λ _. (e : WordError) → IsWordError by word.now e → ⊥) }
+    ensures refused { IfErr result (λ _. IsNoWord by word.now) }
+    ensures said { IfErr result IsSaid }
+{
+    Ok(Some(Sought {
+        by,
+        word: word_by(by, word)?,
+        begins: matches.get_flag("beginnings"),
+    }))
 }
 
 /// Returns how the word of `--glob` finds keys: by characters, or by bytes with a flag.
@@ -139,15 +160,26 @@ fn has_idle_swaps(matches: &ArgMatches<'_>) -> bool
     matches.get_flag("no-transpose") && matches.get_str("fuzzy").is_none()
 }
 
+/// Returns whether keys are to begin with what a word finds, but there is no such word.
+fn has_idle_beginnings(matches: &ArgMatches<'_>) -> bool
+    ensures yes { result ≡ true → IsFlag (flag_of matches.now (codes "beginnings")) true
+        × (word_of matches.now (codes "fuzzy") ≡ None) }
+    ensures no { result ≡ false → AreBeginningsUsed matches.now }
+{
+    matches.get_flag("beginnings") && matches.get_str("fuzzy").is_none()
+}
+
 /// Returns whether bytes are to count in place of characters, but of no word.
 fn has_idle_bytes(matches: &ArgMatches<'_>) -> bool
     ensures yes { result ≡ true → IsFlag (flag_of matches.now (codes "bytes")) true
         × (word_of matches.now (codes "glob") ≡ None)
+        × (word_of matches.now (codes "not") ≡ None)
         × (word_of matches.now (codes "fuzzy") ≡ None) }
     ensures no { result ≡ false → AreBytesUsed matches.now }
 {
     matches.get_flag("bytes")
         && matches.get_str("glob").is_none()
+        && matches.get_str("not").is_none()
         && matches.get_str("fuzzy").is_none()
 }
 
@@ -163,7 +195,10 @@ fn useless_in(matches: &ArgMatches<'_>) -> Option<&'static str>
     if has_idle_swaps(matches) {
         return Some("--no-transpose is for --fuzzy");
     }
-    has_idle_bytes(matches).then_some("--bytes is for --glob and --fuzzy")
+    if has_idle_beginnings(matches) {
+        return Some("--beginnings is for --fuzzy");
+    }
+    has_idle_bytes(matches).then_some("--bytes is for --glob, --not and --fuzzy")
 }
 
 /// Returns the word by which keys are sought, or `None` if none is given. It is an error, with the
@@ -181,13 +216,31 @@ fn sought_in<'a>(matches: &ArgMatches<'a>) -> Result<Option<Sought<'a>>, &'stati
     let subsequence = matches.get_str("subsequence");
     match (glob, fuzzy, subsequence) {
         (None, None, None) => Ok(None),
-        (Some(pattern), None, None) => sought_by(glob_by(matches), pattern),
-        (None, Some(word), None) => sought_by(fuzzy_by(matches, edits_in(matches)?), word),
-        (None, None, Some(word)) => sought_by(SearchBy::Subsequence, word),
+        (Some(pattern), None, None) => sought_by(matches, glob_by(matches), pattern),
+        (None, Some(word), None) => {
+            sought_by(matches, fuzzy_by(matches, edits_in(matches)?), word)
+        }
+        (None, None, Some(word)) => sought_by(matches, SearchBy::Subsequence, word),
         (Some(_), Some(_), _) | (Some(_), None, Some(_)) | (None, Some(_), Some(_)) => {
             Err(TOO_MUCH_SOUGHT)
         }
     }
+}
+
+/// Returns the pattern that no key is to match, or `None` if none is given. It is an error, with the
+/// message, if it is malformed.
+fn without_in<'a>(matches: &ArgMatches<'a>) -> Result<Option<Pattern<'a>>, &'static str>
+    ensures without { IfOk result (IsWithout matches.now) }
+    ensures refused { IfErr result (λ _. IsNoWithout matches.now) }
+    ensures said { IfErr result IsSaid }
+{
+    let Some(text) = matches.get_str("not") else {
+        return Ok(None);
+    };
+    Ok(Some(Pattern {
+        by_chars: !matches.get_flag("bytes"),
+        text: word_by(glob_by(matches), text)?,
+    }))
 }
 
 /// Returns what keys have to begin with.
@@ -204,6 +257,7 @@ pub fn listed_in<'a>(matches: &ArgMatches<'a>) -> Choice<'a>
     Choice {
         prefix: prefix_in(matches),
         range: range_in(matches),
+        without: None,
         sought: None,
     }
 }
@@ -225,12 +279,14 @@ pub fn choice_in<'a>(matches: &ArgMatches<'a>) -> Result<Choice<'a>, &'static st
     ensures said { IfErr result IsSaid }
 {
     let sought = sought_in(matches)?;
-    if sought.is_none() && !has_part(matches) {
+    let without = without_in(matches)?;
+    if sought.is_none() && without.is_none() && !has_part(matches) {
         return Err(NOTHING_SOUGHT);
     }
     Ok(Choice {
         prefix: prefix_in(matches),
         range: range_in(matches),
+        without,
         sought,
     })
 }

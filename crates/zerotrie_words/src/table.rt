@@ -14,6 +14,8 @@ const ENDS: &[&str] = &["crlf", "lf"];
 
 const CHOICES: &[&str] = &["refuse", "first", "last"];
 
+const KEPT: &[&str] = &["first", "last"];
+
 const LANGUAGES: &[&str] = &["rust", "c", "rattle", "js"];
 
 const VIEWS: &[&str] = &["dump", "dot"];
@@ -23,6 +25,13 @@ pub const VERSION: &str = "0.3.0";
 
 /// The greatest number that an option takes.
 const GREATEST: u64 = u64::MAX;
+
+/// The files of tries, one after the other.
+const FILES: Argument = Argument {
+    name: "FILE",
+    form: Form::Words,
+    help: "Tries, one after the other, or - for standard input",
+};
 
 /// The file of a trie.
 const FILE: Argument = Argument {
@@ -66,6 +75,31 @@ const ESCAPED: Argument = Argument {
     name: "escaped",
     form: Form::Flag(None),
     help: "Read \\t, \\n, \\r, \\\\ and \\xHH, as list writes them",
+};
+
+/// The format of pairs that are printed.
+const FORMAT: Argument = Argument {
+    name: "format",
+    form: Form::OneOf("F", Some('f'), OUTPUTS, Otherwise::Nothing),
+    help: "The format of the output, else tsv",
+};
+
+const LIMIT: Argument = Argument {
+    name: "limit",
+    form: Form::Number("N", Some('n'), GREATEST),
+    help: "At most this many pairs",
+};
+
+const COUNT: Argument = Argument {
+    name: "count",
+    form: Form::Flag(Some('c')),
+    help: "Print how many pairs there are",
+};
+
+const RAW: Argument = Argument {
+    name: "raw",
+    form: Form::Flag(Some('r')),
+    help: "Print tsv without escapes",
 };
 
 const SORTED: Argument = Argument {
@@ -118,18 +152,42 @@ const INDEX: Argument = Argument {
     help: "Make an index in place of a trie, only for get and verify",
 };
 
-/// What a command has that makes a file of two tries.
+/// The first of two tries.
+const A: Argument = Argument {
+    name: "A",
+    form: Form::Place,
+    help: "A trie that is sealed or tagged, or - for standard input",
+};
+
+const B: Argument = Argument {
+    name: "B",
+    form: Form::Place,
+    help: "Another, whose kind may differ",
+};
+
+const VALUES: Argument = Argument {
+    name: "values",
+    form: Form::OneOf("V", None, KEPT, Otherwise::Is("first")),
+    help: "Which value counts of a key that both have: that in A, or that in B",
+};
+
+/// What a command has that makes a file of the keys of two tries.
 const BOTH: &[Argument] = &[
-    Argument {
-        name: "A",
-        form: Form::Place,
-        help: "A trie that is sealed or tagged, or - for standard input",
-    },
-    Argument {
-        name: "B",
-        form: Form::Place,
-        help: "Another, whose kind may differ",
-    },
+    A,
+    B,
+    OUTPUT,
+    NO_CLOBBER,
+    VALUES,
+    KIND_OF_BOTH,
+    TAGGED,
+    BARE_OUTPUT,
+    INDEX,
+];
+
+/// What a command has that makes a file of keys of one of two tries.
+const ONE_OF_BOTH: &[Argument] = &[
+    A,
+    B,
     OUTPUT,
     NO_CLOBBER,
     KIND_OF_BOTH,
@@ -287,21 +345,10 @@ const LISTINGS: &[Subcommand] = &[
             PREFIX,
             FROM,
             BELOW,
-            Argument {
-                name: "format",
-                form: Form::OneOf("F", Some('f'), OUTPUTS, Otherwise::Nothing),
-                help: "The format of the output, else tsv",
-            },
-            Argument {
-                name: "limit",
-                form: Form::Number("N", Some('n'), GREATEST),
-                help: "At most this many pairs",
-            },
-            Argument {
-                name: "count",
-                form: Form::Flag(Some('c')),
-                help: "Print how many pairs there are",
-            },
+            FORMAT,
+            RAW,
+            LIMIT,
+            COUNT,
             SORTED,
             BARE,
             NO_CHECK,
@@ -311,7 +358,7 @@ const LISTINGS: &[Subcommand] = &[
         name: "search",
         about: "Print the pairs whose keys match a pattern or are near a word",
         help: "Example: zerotrie search names.trie --fuzzy ampersend\n\
-            All conditions hold: one of --glob, --fuzzy and --subsequence beside\n\
+            All conditions hold: one of --glob, --fuzzy and --subsequence beside --not,\n\
             --prefix, --from and --below, or these alone. With --edits the nearest\n\
             keys come first; without it those of the fewest edits that find any,\n\
             up to 2, are printed.\n\
@@ -341,31 +388,35 @@ const LISTINGS: &[Subcommand] = &[
             Argument {
                 name: "bytes",
                 form: Form::Flag(None),
-                help: "Let --glob and --fuzzy count bytes in place of characters",
+                help: "Let --glob, --not and --fuzzy count bytes in place of characters",
+            },
+            Argument {
+                name: "beginnings",
+                form: Form::Flag(None),
+                help: "Keys that begin with what --fuzzy finds",
+            },
+            Argument {
+                name: "distance",
+                form: Form::Flag(None),
+                help: "Print how many edits each key is from WORD, the nearest first",
             },
             Argument {
                 name: "subsequence",
                 form: Form::AnyText("S", Some('s')),
                 help: "Keys that have these bytes in this order",
             },
+            Argument {
+                name: "not",
+                form: Form::AnyText("P", None),
+                help: "Keys that do not match this pattern, as of --glob",
+            },
             PREFIX,
             FROM,
             BELOW,
-            Argument {
-                name: "format",
-                form: Form::OneOf("F", Some('f'), OUTPUTS, Otherwise::Nothing),
-                help: "The format of the output, else tsv",
-            },
-            Argument {
-                name: "limit",
-                form: Form::Number("N", Some('n'), GREATEST),
-                help: "At most this many pairs",
-            },
-            Argument {
-                name: "count",
-                form: Form::Flag(Some('c')),
-                help: "Print how many pairs there are",
-            },
+            FORMAT,
+            RAW,
+            LIMIT,
+            COUNT,
             SORTED,
             BARE,
             NO_CHECK,
@@ -408,15 +459,15 @@ const REPORTS: &[Subcommand] = &[
     Subcommand {
         name: "verify",
         about: "Test all bytes, and print nothing if they are a trie or an index",
-        help: "Example: zerotrie verify names.trie\nStatus: 2 if FILE is no trie or index.",
-        arguments: &[FILE, BARE],
+        help: "Example: zerotrie verify *.trie\nStatus: 2 if a FILE is no trie or index.",
+        arguments: &[FILES, BARE],
     },
     Subcommand {
         name: "stats",
         about: "Print what the trie is made of",
-        help: "Example: zerotrie stats names.trie --json\nStatus: 2 if FILE is no trie.",
+        help: "Example: zerotrie stats names.trie --json\nStatus: 2 if a FILE is no trie.",
         arguments: &[
-            FILE,
+            FILES,
             Argument {
                 name: "json",
                 form: Form::Flag(Some('j')),
@@ -479,7 +530,8 @@ const COMBINATIONS: &[Subcommand] = &[
         name: "union",
         about: "Make a trie of the pairs of two others",
         help: "Example: zerotrie union new.trie old.trie -o all.trie\n\
-            If both have a key, the value in A counts. OUT may be A or B.\n\
+            OUT may be A or B. Any number of tries are united by list and build,\n\
+            which has more rules for values: --duplicates.\n\
             Two tries of kind ignore are combined in any case, as A has the keys.\n\
             Status: 1 if the build is refused, 2 if A or B is no trie.",
         arguments: BOTH,
@@ -488,7 +540,7 @@ const COMBINATIONS: &[Subcommand] = &[
         name: "intersect",
         about: "Make a trie of the keys that two others have",
         help: "Example: zerotrie intersect names.trie wanted.trie -o found.trie\n\
-            The values are those in A. OUT may be A or B.\n\
+            OUT may be A or B.\n\
             Status: 1 if the build is refused, 2 if A or B is no trie.",
         arguments: BOTH,
     },
@@ -498,7 +550,7 @@ const COMBINATIONS: &[Subcommand] = &[
         help: "Example: zerotrie minus names.trie old.trie -o new.trie\n\
             The keys are those of A that B has not. OUT may be A or B.\n\
             Status: 1 if the build is refused, 2 if A or B is no trie.",
-        arguments: BOTH,
+        arguments: ONE_OF_BOTH,
     },
 ];
 
