@@ -1,5 +1,5 @@
 -- The pairs that are chosen.
-use Rattle.std.proofs.Common.{◌≡◌, ℕ, suc, ◌≤◌, List, [], ◌∷◌, Bool, true, false, cond, not, length, refl, sym, ap, ◌∙◌, arith, subst, Option, Some, None, Result, Ok, Err, IfOk, IfSome, IfNone, OnErr}
+use Rattle.std.proofs.Common.{◌≡◌, ℕ, suc, ◌≤◌, List, [], ◌∷◌, Bool, true, false, cond, not, length, refl, sym, ap, ◌∙◌, arith, subst, Option, Some, None, Result, Ok, Err, IfOk, IfSome, IfNone, OnOk, OnErr}
 use Rattle.std.specs.Prelude.{◌&&◌, ◌==◌}
 use Rattle.std.specs.Io.KnownBytes.{Appends}
 use Rattle.std.proofs.lemmas.Bool.{ne_eqb}
@@ -47,6 +47,10 @@ pub if_some_weaker : {A E : Type 0} {P Q : A → Type 0} (r : Result (Option A) 
 if_some_weaker (Ok None) f p = tt
 if_some_weaker (Ok (Some k)) f p = f k p
 if_some_weaker (Err e) f p = tt
+
+pub on_ok_so : {T E P Q : Type 0} (r : Result T E) → (P → Q) → OnOk r P → OnOk r Q
+on_ok_so (Ok x) f p = f p
+on_ok_so (Err e) f p = tt
 
 pub on_err_so : {T E P Q : Type 0} (r : Result T E) → (P → Q) → OnErr r P → OnErr r Q
 on_err_so (Ok x) f p = tt

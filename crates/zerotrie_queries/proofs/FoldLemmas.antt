@@ -145,7 +145,7 @@ chosen_folded kind c words d are has key =
     let found = matched_folded kind c.sought d.sought words.word.items key are.word has.by has.word in
     rw (begins, inside, found) refl
 
-measured_folded : (kind : TrieKind) (c : Choice) (words : FoldedWords) (d : Choice) → AreWordsOf kind c words → HasWords words c d → (key : List ℕ) → measured kind d key ≡ measured kind c key
+pub measured_folded : (kind : TrieKind) (c : Choice) (words : FoldedWords) (d : Choice) → AreWordsOf kind c words → HasWords words c d → (key : List ℕ) → measured kind d key ≡ measured kind c key
 measured_folded kind c words d are has key =
     let begins : begins_with (kind_of kind) d.prefix.now key ≡ begins_with (kind_of kind) c.prefix.now key
     = ap (λ p. begins_with (kind_of kind) p key) (has.prefix ∙ are.prefix) ∙ prefix_folded (kind_of kind) c.prefix.now key in

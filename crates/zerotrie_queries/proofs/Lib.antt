@@ -17,4 +17,5 @@ mod DiffLemmas
 mod NearLemmas
 mod FoldLemmas
 mod EditsLemmas
+mod MeasuredLemmas
 mod WordLemmas

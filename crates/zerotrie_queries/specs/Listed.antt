@@ -8,11 +8,14 @@ use Rattle.zerotrie_core.specs.declared.TrieKind.{TrieKind}
 use Rattle.zerotrie_any.specs.Json.{are_text}
 use Rattle.zerotrie_files.specs.Parts.{AppendsPart}
 use Rattle.zerotrie_files.specs.Faults.{IsOutOfMemory}
-use Rattle.zerotrie_queries.specs.Chosen.{Coming}
+use Rattle.zerotrie_queries.specs.Chosen.{Coming, measured}
 use Rattle.zerotrie_queries.specs.Json.{IsFirstNoText}
-use Rattle.zerotrie_queries.specs.Printed.{listed}
+use Rattle.zerotrie_queries.specs.Printed.{listed, measured_lines}
+use Rattle.zerotrie_queries.specs.Sorted.{picked}
 use Rattle.zerotrie_queries.specs.declared.print.Form.{Form}
 use Rattle.zerotrie_queries.specs.declared.print.Form.TheVariants.{Lines, Json, Count}
+use Rattle.zerotrie_queries.specs.declared.question.Choice.{Choice}
+use Rattle.zerotrie_queries.specs.declared.question.Order.TheVariants.{Nearest}
 use Rattle.zerotrie_queries.specs.declared.listing.ListError.{ListError}
 use Rattle.zerotrie_queries.specs.declared.listing.ListError.TheVariants.{NotText, Failed}
 
@@ -68,3 +71,15 @@ abbrev pub IsListingNoted : {T : Type 0} → Result T ListError → Bool → Boo
 IsListingNoted (Ok value) old new = new ≡ old
 IsListingNoted (Err (NotText key)) old new = new ≡ old
 IsListingNoted (Err (Failed e)) old new = IsOutOfMemory e ⊎ (new ≡ true)
+
+-- the lines of the first pairs of a choice, the nearest first, each with how many edits make its key of the word
+abbrev pub nearest_lines : TrieKind → Choice → (limit : Option ℕ) → Pairs → List ℕ
+nearest_lines kind c limit pairs = measured_lines (measured kind c) (limited limit (picked Nearest kind c pairs))
+
+-- these lines were printed, if the bytes list pairs
+abbrev pub AreMeasured : Choice → (limit : Option ℕ) → TrieKind → (bytes : List ℕ) → (old new : Option (List ℕ)) → Type 0
+AreMeasured c limit kind bytes old new = (pairs : Pairs) → Lists (kind_of kind) bytes pairs → Appends old new (nearest_lines kind c limit pairs)
+
+-- a beginning of them was printed, if the bytes list pairs
+abbrev pub AreMeasuredInPart : Choice → (limit : Option ℕ) → TrieKind → (bytes : List ℕ) → (old new : Option (List ℕ)) → Type 0
+AreMeasuredInPart c limit kind bytes old new = (pairs : Pairs) → Lists (kind_of kind) bytes pairs → AppendsPart old new (nearest_lines kind c limit pairs)

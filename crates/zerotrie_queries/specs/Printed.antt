@@ -1,5 +1,5 @@
 -- The lines that are printed, and the status that is answered.
-use Rattle.std.specs.Prelude.{ℕ, List, [], ◌∷◌, ◌++◌, ◌==◌, ◌&&◌, nat_le, not, Bool, true, codes, decimal, take, length, Option, Some, None, is_some, if◌then◌else◌}
+use Rattle.std.specs.Prelude.{ℕ, List, [], ◌∷◌, ◌++◌, ◌==◌, ◌&&◌, nat_le, not, Bool, true, codes, decimal, take, length, Option, Some, None, is_some, unwrap_or, if◌then◌else◌}
 use Rattle.std.specs.List.{list_all}
 use Rattle.zerotrie_core.specs.Maps.{Pairs}
 use Rattle.zerotrie_lines.specs.Escapes.{escaped}
@@ -82,6 +82,15 @@ pair_line Values e = number_line e.1
 abbrev pub pair_lines : Style → Pairs → List ℕ
 pair_lines style [] = []
 pair_lines style (e ∷ pairs) = pair_line style e ++ pair_lines style pairs
+
+-- the line of a pair and of how many edits make its key of a word
+abbrev pub edits_line : List ℕ × ℕ → (edits : ℕ) → List ℕ
+edits_line e edits = escaped e.0 ++ (9 ∷ (decimal e.1 ++ (9 ∷ number_line edits)))
+
+-- the lines of pairs, each with the edits that make its key of a word, or 0 if no number does
+abbrev pub measured_lines : (measure : List ℕ → Option ℕ) → Pairs → List ℕ
+measured_lines measure [] = []
+measured_lines measure (e ∷ pairs) = edits_line e (unwrap_or (measure e.0) 0) ++ measured_lines measure pairs
 
 -- pairs as they are printed
 abbrev pub listed : Form → Pairs → List ℕ

@@ -25,7 +25,7 @@ impl<P: PairStream> Model for FirstPairs<P> {
 }
 
 /// Returns whether no pair may come any more.
-fn is_spent(limit: Option<usize>) -> bool
+pub(crate) fn is_spent(limit: Option<usize>) -> bool
     ensures { result ≡ is_spent limit }
 {
     match limit {
@@ -35,7 +35,7 @@ fn is_spent(limit: Option<usize>) -> bool
 }
 
 /// Returns what is left of a limit after one pair.
-fn one_less(limit: Option<usize>) -> Option<usize>
+pub(crate) fn one_less(limit: Option<usize>) -> Option<usize>
     ensures { result ≡ one_less limit }
 {
     match limit {

@@ -9,6 +9,7 @@
 mod any_case;
 pub mod code;
 mod diff;
+mod exact;
 mod file;
 mod first_pairs;
 mod folding;
@@ -28,7 +29,7 @@ pub use any_case::{collect, ignore_case, of_sorted, recased};
 pub use code::{Language, is_name, write_trie_code};
 pub use diff::write_diff;
 pub use file::{OpenError, of_tagged, open, open_unchecked};
-pub use listing::{ListError, write_list};
+pub use listing::{ListError, write_distances, write_list};
 pub use lookups::write_answers;
 pub use print::{Form, Style};
 pub use question::{Asked, Choice, Finder, Order, Query, Sought, Spelling};

@@ -6,25 +6,27 @@ ghost use Rattle.zerotrie_core.specs.Maps.{Map, beginning};
 ghost use Rattle.zerotrie_core.specs.Texts.{Means};
 ghost use Rattle.zerotrie_core.specs.WellFormed.{IsWellFormed};
 ghost use Rattle.zerotrie_core.specs.Kinds.{kind_of};
-ghost use Rattle.zerotrie_index.specs.Tries.{folded_key};
-ghost use Rattle.zerotrie_search.specs.Automata.{any_accepts, any_edits_to, any_most, free_if};
 ghost use Rattle.zerotrie_search.specs.Searches.{accepted};
 ghost use Rattle.std.specs.Range.Bound.{bound_map};
 ghost use Rattle.zerotrie_core.specs.declared.TrieKind.{TrieKind};
 ghost use Rattle.zerotrie_core.specs.declared.TrieKind.TheVariants.{Ignore};
-ghost use Rattle.zerotrie_queries.specs.Chosen.{at_edits, chosen, closest, edits_matched, edits_of, is_chosen, is_in, is_kept, is_matched, measured, IsFolded};
+ghost use Rattle.zerotrie_queries.specs.Chosen.{at_edits, chosen, closest, edits_of, is_chosen, is_in, is_matched, IsFolded};
 ghost use Rattle.zerotrie_queries.specs.Sorted.{AreWithin, picked};
-ghost use Rattle.zerotrie_queries.specs.declared.question.Order.TheVariants.{ByBytes, Closest, Nearest};
+ghost use Rattle.zerotrie_queries.specs.declared.question.Order.TheVariants.{ByBytes, Closest};
 ghost use Rattle.zerotrie_queries.specs.Listed.{AreListed, AreListedInPart, AreNoText, AreUnlisted, IsListingNoted};
 ghost use Rattle.zerotrie_files.specs.Faults.{IsNoted};
 ghost use Rattle.zerotrie_queries.specs.declared.listing.ListError.TheVariants.{Failed};
 
+mod distances;
 mod forms;
 mod json_object;
+mod nearest;
+
+pub use distances::write_distances;
 
 use crate::folding::FoldedWords;
 use crate::listing::forms::write_first;
-use crate::near::stream_near;
+use crate::listing::nearest::write_nearest;
 use crate::prefix::KindPrefix;
 use crate::print::Form;
 use crate::question::{Choice, Order};
@@ -36,7 +38,7 @@ use std::ops::Bound;
 use zerotrie_core::{PairStream, Trie, TrieKind, TrieRef};
 use zerotrie_files::Noted;
 use zerotrie_search::{
-    AnyAutomaton, Automaton, Both, ByKind, Fuzzy, KeyRange, Not, Search, StartsWith, by_automaton,
+    Automaton, Both, ByKind, KeyRange, Not, Search, StartsWith, by_automaton,
 };
 
 /// Why pairs are not listed, or not all of them.
@@ -551,181 +553,6 @@ fn write_closest<W: Write>(
     }
     let edits = fewest_edits(alloc, trie, choice)?;
     write_sorted(alloc, trie, form, choice.with_edits(edits), limit, output)
-}
-
-/// Writes the first pairs whose keys are chosen, the nearest first. The first automaton measures keys as the
-/// word of the choice does, and the other one accepts the keys of which the other conditions hold.
-fn write_kept<T: Fuzzy, S: Automaton + Copy + Drop, W: Write>(
-    alloc: Global,
-    trie: &TrieRef<'_>,
-    form: Form,
-    choice: Choice<'_>,
-    automaton: T,
-    kept: S,
-    limit: Option<usize>,
-    output: &mut Noted<W>,
-) -> io::Result<Option<Vec<u8>>>
-    requires kept { (key : List ℕ) → S.accepts kept key ≡ is_kept trie.now.kind choice key }
-    requires most { T.most automaton ≡ edits_of choice }
-    requires measures { (key : List ℕ)
-        → T.measure automaton key ≡ edits_matched trie.now.kind choice.sought key }
-    ensures all { IfOk result (λ key. IfNone key (AreListed form
-        (picked Nearest trie.now.kind choice.entry) limit trie.now.kind trie.now.bytes.now
-        (W.contents output.old.inner) (W.contents output.new.inner))) }
-    ensures none { IfOk result (λ key. IfSome key (λ k. AreNoText form
-        (picked Nearest trie.now.kind choice.entry) limit trie.now.kind trie.now.bytes.now k.items
-        × (output.new ≡ output.old))) }
-    ensures part { OnErr result (AreListedInPart form (picked Nearest trie.now.kind choice.entry)
-        limit trie.now.kind trie.now.bytes.now (W.contents output.old.inner)
-        (W.contents output.new.inner)) }
-    ensures noted { IsNoted result output.old.failed output.new.failed }
-{
-    if !trie.is_well_formed() {
-        return Ok(None);
-    }
-    let seen = stream_near(alloc, trie, automaton, kept)?;
-    let pairs = stream_near(alloc, trie, automaton, kept)?;
-    write_first(alloc, form, seen, pairs, limit, output)
-}
-
-/// Writes the first pairs whose keys are chosen, the nearest first. The automaton measures keys as the word
-/// of the choice does.
-fn write_near<T: Fuzzy, W: Write>(
-    alloc: Global,
-    trie: &TrieRef<'_>,
-    form: Form,
-    choice: Choice<'_>,
-    automaton: T,
-    limit: Option<usize>,
-    output: &mut Noted<W>,
-) -> io::Result<Option<Vec<u8>>>
-    requires folded { IsFolded trie.now.kind choice }
-    requires most { T.most automaton ≡ edits_of choice }
-    requires measures { (key : List ℕ)
-        → T.measure automaton key ≡ edits_matched trie.now.kind choice.sought key }
-    ensures all { IfOk result (λ key. IfNone key (AreListed form
-        (picked Nearest trie.now.kind choice.entry) limit trie.now.kind trie.now.bytes.now
-        (W.contents output.old.inner) (W.contents output.new.inner))) }
-    ensures none { IfOk result (λ key. IfSome key (λ k. AreNoText form
-        (picked Nearest trie.now.kind choice.entry) limit trie.now.kind trie.now.bytes.now k.items
-        × (output.new ≡ output.old))) }
-    ensures part { OnErr result (AreListedInPart form (picked Nearest trie.now.kind choice.entry)
-        limit trie.now.kind trie.now.bytes.now (W.contents output.old.inner)
-        (W.contents output.new.inner)) }
-    ensures noted { IsNoted result output.old.failed output.new.failed }
-{
-    let prefix = KindPrefix {
-        kind: trie.kind,
-        prefix: choice.prefix,
-    };
-    let kept = Both(prefix, ByKind(trie.kind, choice.range));
-    write_kept(alloc, trie, form, choice, automaton, kept, limit, output)
-}
-
-/// Writes the first pairs whose keys are chosen, all of them by no edit, in the order of their bytes.
-fn write_exact<W: Write>(
-    alloc: Global,
-    trie: &TrieRef<'_>,
-    form: Form,
-    choice: Choice<'_>,
-    limit: Option<usize>,
-    output: &mut Noted<W>,
-) -> io::Result<Option<Vec<u8>>>
-    requires folded { IsFolded trie.now.kind choice }
-    requires exact { (key : List ℕ)
-        → measured trie.now.kind choice key ≡ free_if (is_chosen trie.now.kind choice key) }
-    ensures all { IfOk result (λ key. IfNone key (AreListed form
-        (picked Nearest trie.now.kind choice.entry) limit trie.now.kind trie.now.bytes.now
-        (W.contents output.old.inner) (W.contents output.new.inner))) }
-    ensures none { IfOk result (λ key. IfSome key (λ k. AreNoText form
-        (picked Nearest trie.now.kind choice.entry) limit trie.now.kind trie.now.bytes.now k.items
-        × (output.new ≡ output.old))) }
-    ensures part { OnErr result (AreListedInPart form (picked Nearest trie.now.kind choice.entry)
-        limit trie.now.kind trie.now.bytes.now (W.contents output.old.inner)
-        (W.contents output.new.inner)) }
-    ensures noted { IsNoted result output.old.failed output.new.failed }
-{
-    write_sorted(alloc, trie, form, choice, limit, output)
-}
-
-/// Writes the first pairs whose keys are chosen, the nearest first, by the automaton of a word.
-fn write_by_edits<W: Write>(
-    alloc: Global,
-    trie: &TrieRef<'_>,
-    form: Form,
-    choice: Choice<'_>,
-    any: AnyAutomaton<'_>,
-    limit: Option<usize>,
-    output: &mut Noted<W>,
-) -> io::Result<Option<Vec<u8>>>
-    requires folded { IsFolded trie.now.kind choice }
-    requires most { any_most any ≡ edits_of choice }
-    requires edits { (key : List ℕ) → any_edits_to any (folded_key (kind_of trie.now.kind) key)
-        ≡ edits_matched trie.now.kind choice.sought key }
-    requires finds { (key : List ℕ) → any_accepts any (folded_key (kind_of trie.now.kind) key)
-        ≡ is_matched trie.now.kind choice.sought key }
-    ensures all { IfOk result (λ key. IfNone key (AreListed form
-        (picked Nearest trie.now.kind choice.entry) limit trie.now.kind trie.now.bytes.now
-        (W.contents output.old.inner) (W.contents output.new.inner))) }
-    ensures none { IfOk result (λ key. IfSome key (λ k. AreNoText form
-        (picked Nearest trie.now.kind choice.entry) limit trie.now.kind trie.now.bytes.now k.items
-        × (output.new ≡ output.old))) }
-    ensures part { OnErr result (AreListedInPart form (picked Nearest trie.now.kind choice.entry)
-        limit trie.now.kind trie.now.bytes.now (W.contents output.old.inner)
-        (W.contents output.new.inner)) }
-    ensures noted { IsNoted result output.old.failed output.new.failed }
-{
-    let kind = trie.kind;
-    match any {
-        AnyAutomaton::Fuzzy(word) => {
-            write_near(alloc, trie, form, choice, ByKind(kind, word), limit, output)
-        }
-        AnyAutomaton::FuzzyChars(word) => {
-            write_near(alloc, trie, form, choice, ByKind(kind, word), limit, output)
-        }
-        AnyAutomaton::Swaps(word) => {
-            write_near(alloc, trie, form, choice, ByKind(kind, word), limit, output)
-        }
-        AnyAutomaton::SwapsChars(word) => {
-            write_near(alloc, trie, form, choice, ByKind(kind, word), limit, output)
-        }
-        AnyAutomaton::Prefix(_)
-        | AnyAutomaton::Range(_)
-        | AnyAutomaton::Glob(_)
-        | AnyAutomaton::GlobChars(_)
-        | AnyAutomaton::Subsequence(_) => write_exact(alloc, trie, form, choice, limit, output),
-    }
-}
-
-/// Writes the first pairs whose keys are chosen, the nearest first.
-#[tactic(auto, using(crate::proofs::EditsLemmas::exact_none, crate::proofs::EditsLemmas::edits_found, crate::proofs::EditsLemmas::most_found, crate::proofs::FoldLemmas::found_folded))]
-fn write_nearest<W: Write>(
-    alloc: Global,
-    trie: &TrieRef<'_>,
-    form: Form,
-    choice: Choice<'_>,
-    limit: Option<usize>,
-    output: &mut Noted<W>,
-) -> io::Result<Option<Vec<u8>>>
-    requires { IsFolded trie.now.kind choice }
-    ensures all { IfOk result (λ key. IfNone key (AreListed form
-        (picked Nearest trie.now.kind choice.entry) limit trie.now.kind trie.now.bytes.now
-        (W.contents output.old.inner) (W.contents output.new.inner))) }
-    ensures none { IfOk result (λ key. IfSome key (λ k. AreNoText form
-        (picked Nearest trie.now.kind choice.entry) limit trie.now.kind trie.now.bytes.now k.items
-        × (output.new ≡ output.old))) }
-    ensures part { OnErr result (AreListedInPart form (picked Nearest trie.now.kind choice.entry)
-        limit trie.now.kind trie.now.bytes.now (W.contents output.old.inner)
-        (W.contents output.new.inner)) }
-    ensures noted { IsNoted result output.old.failed output.new.failed }
-{
-    let Some(sought) = choice.sought else {
-        return write_exact(alloc, trie, form, choice, limit, output);
-    };
-    match sought.automaton(trie.kind) {
-        Some(any) => write_by_edits(alloc, trie, form, choice, any, limit, output),
-        None => write_exact(alloc, trie, form, choice, limit, output),
-    }
 }
 
 /// Writes the first pairs whose keys are chosen, in an order.

@@ -2,7 +2,7 @@
 
 ghost use Rattle.std.specs.Prelude.{◌≡◌, ◌++◌, OnOk};
 ghost use Rattle.std.specs.List.{list_all};
-ghost use Rattle.zerotrie_queries.specs.Printed.{number_line, value_line, key_line, front_line, found_line, pair_line, is_csv_plain, doubled, csv_field};
+ghost use Rattle.zerotrie_queries.specs.Printed.{number_line, edits_line, value_line, key_line, front_line, found_line, pair_line, is_csv_plain, doubled, csv_field};
 ghost use Rattle.zerotrie_queries.specs.declared.print.Style.TheVariants.{Csv};
 
 use crate::json_text::add_pair_json;
@@ -184,4 +184,20 @@ pub fn add_pair(
         }
         Style::Values => add_number_line(line, value),
     }
+}
+
+/// Adds the line of a pair and of how many edits make its key of a word.
+pub fn add_edits(
+    line: &mut Vec<u8>,
+    key: &[u8],
+    value: usize,
+    edits: usize,
+) -> Result<(), AllocError>
+    ensures { OnOk result (line.new.items ≡ line.old.items ++ edits_line (key.now, value) edits) }
+{
+    write_escaped(line, key)?;
+    line.push(b'\t')?;
+    write_number(line, value)?;
+    line.push(b'\t')?;
+    add_number_line(line, edits)
 }

@@ -1,6 +1,6 @@
 //! The pairs to come of a stream, written in each form.
 
-ghost use Rattle.std.specs.Prelude.{◌≡◌, ◌++◌, ◌<◌, ◌^◌, [], length, true, false, IfOk, IfSome, IfNone, OnOk, OnErr};
+ghost use Rattle.std.specs.Prelude.{◌≡◌, ◌++◌, ◌<◌, ◌≤◌, ◌^◌, ℕ, List, [], length, true, false, IfOk, IfSome, IfNone, OnOk, OnErr};
 ghost use Rattle.std.specs.Io.KnownBytes.{Appends};
 ghost use Rattle.zerotrie_files.specs.Faults.{IsNoted};
 ghost use Rattle.zerotrie_files.specs.Parts.{AppendsPart};
@@ -21,51 +21,80 @@ use zerotrie_files::Noted;
 /// The least number of bytes that one write has, but for the last.
 const BLOCK: usize = 1 << 16;
 
-/// Fills an empty buffer with the lines of the next pairs, up to a block, and returns whether more
-/// may follow.
-fn add_block<P: PairStream>(
-    lines: &mut Vec<u8>,
-    pairs: &mut FirstPairs<P>,
+/// Lines to come, one after another.
+pub(crate) trait LineSource {
+    // The lines.
+    ghost lines: { Self → List ℕ };
+
+    // How many they are.
+    ghost count: { Self → ℕ };
+
+    /// Adds the next line to a text, and returns whether there was one.
+    fn add_line(&mut self, text: &mut Vec<u8>) -> Result<bool, AllocError>
+        ensures line { IfOk result (λ more. more ≡ true
+            → (text.new.items ++ lines self.new ≡ text.old.items ++ lines self.old)
+            × (count self.new < count self.old)) }
+        ensures end { IfOk result (λ more. more ≡ false
+            → (text.new.items ≡ text.old.items) × (lines self.old ≡ []) × (lines self.new ≡ [])
+            × (count self.new ≤ count self.old)) };
+}
+
+/// The lines of pairs.
+#[derive(Drop)]
+struct PairLines<P: PairStream> {
+    pairs: FirstPairs<P>,
     style: Style,
-) -> Result<bool, AllocError>
-    requires { lines.old.items ≡ [] }
-    ensures lines { IfOk result (λ _. lines.new.items ++ pair_lines style pairs.new.pairs
-        ≡ pair_lines style pairs.old.pairs) }
-    ensures more { IfOk result (λ more. more ≡ true
-        → length pairs.new.pairs < length pairs.old.pairs) }
-    ensures all { IfOk result (λ more. more ≡ false → pairs.new.pairs ≡ []) }
-{
-    while lines.len() < BLOCK {
-        if !pairs.advance()? {
+}
+
+impl<P: PairStream> LineSource for PairLines<P> {
+    ghost lines = { λ s. pair_lines s.style s.pairs.pairs };
+
+    ghost count = { λ s. length s.pairs.pairs };
+
+    fn add_line(&mut self, text: &mut Vec<u8>) -> Result<bool, AllocError> {
+        if !self.pairs.advance()? {
             return Ok(false);
         }
-        add_pair(lines, style, pairs.key(), pairs.value())?;
+        add_pair(text, self.style, self.pairs.key(), self.pairs.value())?;
+        Ok(true)
+    }
+}
+
+/// Fills an empty buffer with the next lines, up to a block, and returns whether more may follow.
+fn add_block<L: LineSource>(text: &mut Vec<u8>, lines: &mut L) -> Result<bool, AllocError>
+    requires { text.old.items ≡ [] }
+    ensures lines { IfOk result (λ _. text.new.items ++ L.lines lines.new ≡ L.lines lines.old) }
+    ensures more { IfOk result (λ more. more ≡ true → L.count lines.new < L.count lines.old) }
+    ensures all { IfOk result (λ more. more ≡ false → L.lines lines.new ≡ []) }
+{
+    while text.len() < BLOCK {
+        if !lines.add_line(text)? {
+            return Ok(false);
+        }
     }
     Ok(true)
 }
 
-/// Writes the lines of the pairs to come, many lines at once. If it fails, a beginning of them was
-/// written.
-fn write_lines<P: PairStream, W: Write>(
+/// Writes lines, many at once. If it fails, a beginning of them was written.
+pub(crate) fn write_lines<L: LineSource, W: Write>(
     alloc: Global,
-    pairs: &mut FirstPairs<P>,
-    style: Style,
+    lines: &mut L,
     output: &mut Noted<W>,
 ) -> io::Result<()>
     ensures all { OnOk result (Appends (W.contents output.old.inner) (W.contents output.new.inner)
-        (pair_lines style pairs.old.pairs)) }
+        (L.lines lines.old)) }
     ensures part { OnErr result (AppendsPart (W.contents output.old.inner)
-        (W.contents output.new.inner) (pair_lines style pairs.old.pairs)) }
+        (W.contents output.new.inner) (L.lines lines.old)) }
     ensures noted { IsNoted result output.old.failed output.new.failed }
 {
-    let mut lines = Vec::new(alloc);
+    let mut text = Vec::new(alloc);
     loop {
-        let more = add_block(&mut lines, pairs, style)?;
-        output.write_bytes(lines.as_slice())?;
+        let more = add_block(&mut text, lines)?;
+        output.write_bytes(text.as_slice())?;
         if !more {
             return Ok(());
         }
-        lines.clear();
+        text.clear();
     }
 }
 
@@ -125,7 +154,7 @@ pub(crate) fn write_first<P: PairStream + Drop, W: Write>(
 {
     let mut pairs = FirstPairs::new(source, limit);
     match form {
-        Form::Lines(style) => write_lines(alloc, &mut pairs, style, output)?,
+        Form::Lines(style) => write_lines(alloc, &mut PairLines { pairs, style }, output)?,
         Form::Count => write_count(alloc, &mut pairs, output)?,
         Form::Json => {
             let mut seen = FirstPairs::new(seen, limit);

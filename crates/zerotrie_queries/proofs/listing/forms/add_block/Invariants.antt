@@ -1,13 +1,12 @@
 use Rattle.std.proofs.Common.{◌≡◌, ◌++◌, ◌<◌, ◌≤◌, length}
-use Rattle.zerotrie_queries.specs.Printed.{pair_lines}
 use Rattle.zerotrie_queries.proofs.listing.forms.add_block.Given as goal
 
-abbrev pub invariant-loop-style : goal.invariant-loop-style
-invariant-loop-style g l = record {
-  lines : l.lines.items ++ pair_lines l.style l.pairs.pairs ≡ pair_lines l.style l.initial.pairs.pairs;
-  most : length l.pairs.pairs ≤ length l.initial.pairs.pairs;
-  fewer : 0 < length l.lines.items → length l.pairs.pairs < length l.initial.pairs.pairs;
+abbrev pub invariant-loop-text : goal.invariant-loop-text
+invariant-loop-text g l = record {
+  lines : l.text.items ++ g.L.LineSource.lines l.lines ≡ g.L.LineSource.lines l.initial.lines;
+  most : g.L.LineSource.count l.lines ≤ g.L.LineSource.count l.initial.lines;
+  fewer : 0 < length l.text.items → g.L.LineSource.count l.lines < g.L.LineSource.count l.initial.lines;
 }
 
-abbrev pub decreases-loop-style : goal.decreases-loop-style
-decreases-loop-style g l = length l.pairs.pairs
+abbrev pub decreases-loop-text : goal.decreases-loop-text
+decreases-loop-text g l = g.L.LineSource.count l.lines

@@ -3,7 +3,7 @@ use Rattle.std.specs.Prelude.{◌&&◌}
 use Rattle.zerotrie_core.specs.Kinds.{kind_of}
 use Rattle.zerotrie_core.specs.Maps.{begins_with}
 use Rattle.zerotrie_queries.proofs.FoldLemmas.{in_range}
-use Rattle.zerotrie_queries.proofs.listing.write_near.Goals as goal
+use Rattle.zerotrie_queries.proofs.listing.nearest.write_near.Goals as goal
 
 pub write_kept-requires-clause-kept : goal.write_kept-requires-clause-kept
 write_kept-requires-clause-kept g c key =

@@ -2,7 +2,7 @@ use Rattle.zerotrie_queries.specs.Sorted.{picked}
 use Rattle.zerotrie_queries.specs.declared.question.Order.TheVariants.{ByBytes, Nearest}
 use Rattle.zerotrie_queries.proofs.ChoiceLemmas.{if_none_weaker, if_some_weaker, on_err_so, all_of, part_of, none_of}
 use Rattle.zerotrie_queries.proofs.NearLemmas.{exact_picked}
-use Rattle.zerotrie_queries.proofs.listing.write_exact.Goals as goal
+use Rattle.zerotrie_queries.proofs.listing.nearest.write_exact.Goals as goal
 
 pub returns-clause-all : goal.returns-clause-all
 returns-clause-all g c =

@@ -1,6 +1,6 @@
 use Rattle.zerotrie_search.specs.Automata.{any_accepts, any_edits_to}
 use Rattle.zerotrie_queries.proofs.EditsLemmas.{exact_found, free_by}
-use Rattle.zerotrie_queries.proofs.listing.write_by_edits.Goals as goal
+use Rattle.zerotrie_queries.proofs.listing.nearest.write_by_edits.Goals as goal
 
 pub write_exact-requires : goal.write_exact-requires
 write_exact-requires g c =

@@ -5,7 +5,7 @@ use Rattle.zerotrie_queries.proofs.ChoiceLemmas.{if_none_weaker, if_some_weaker,
 use Rattle.zerotrie_queries.proofs.PartLemmas.{on_err, part_none}
 use Rattle.zerotrie_queries.proofs.SortedLemmas.{lists_none}
 use Rattle.zerotrie_queries.proofs.NearLemmas.{picked_near}
-use Rattle.zerotrie_queries.proofs.listing.write_kept.Goals as goal
+use Rattle.zerotrie_queries.proofs.listing.nearest.write_kept.Goals as goal
 
 pub returns-then-not-is_well_formed-clause-all : goal.returns-then-not-is_well_formed-clause-all
 returns-then-not-is_well_formed-clause-all g c =
