@@ -30,6 +30,7 @@ made_ends (made.NotJson line column) = input
 made_ends made.NotPairs = input
 made_ends (made.NotPair bad) = input
 made_ends (made.Keys shown) = refused
+made_ends (made.SumTooLarge k) = refused
 made_ends (made.Refused why) = refused
 made_ends (made.IndexRefused why) = refused
 made_ends made.OutOfMemory = failed

@@ -86,7 +86,11 @@ none_pair : (c : Combine) (bad : _) (k j : TrieKind) (m n : Map) → ExplainsMap
 none_pair c bad k j m n (inl is) = cc
 none_pair c bad k j m n (inr h) = h.2
 
--- an error says that what was read is no pairs, which is so of no two maps
+none_sum : (c : Combine) (key : _) (k j : TrieKind) (m n : Map) → ExplainsMaps c (made.SumTooLarge key) k j m n → ⊥
+none_sum c key k j m n (inl is) = cc
+none_sum c key k j m n (inr h) = h.2
+
+-- an error says that what was read is no pairs, or whose values have too large a sum, which is so of no two maps
 pub data IsOfPairs : MakeError → Type 0 where
   keys : (s : _) → IsOfPairs (made.Keys s)
   refused : (why : _) → IsOfPairs (made.Refused why)
@@ -100,6 +104,7 @@ of_pairs c (made.NotJson line column) k j m n h = absurd (none_json c line colum
 of_pairs c made.NotPairs k j m n h = absurd (none_pairs c k j m n h)
 of_pairs c (made.NotPair bad) k j m n h = absurd (none_pair c bad k j m n h)
 of_pairs c (made.Keys s) k j m n h = keys s
+of_pairs c (made.SumTooLarge key) k j m n h = absurd (none_sum c key k j m n h)
 of_pairs c (made.Refused why) k j m n h = refused why
 of_pairs c (made.IndexRefused why) k j m n h = index_refused why
 of_pairs c made.OutOfMemory k j m n h = memory

@@ -6,7 +6,7 @@ use Rattle.zerotrie_making.specs.declared.error.Shown.{Shown}
 use Rattle.zerotrie_making.specs.declared.error.NoPair.{NoPair}
 use Rattle.zerotrie_making.specs.declared.error.NoPair.TheVariants as bad_pair
 use Rattle.zerotrie_making.specs.declared.error.MakeError.{MakeError}
-use Rattle.zerotrie_making.specs.declared.error.MakeError.TheVariants.{NotText, Line, NotJson, NotPairs, NotPair, Keys, Refused, IndexRefused, OutOfMemory}
+use Rattle.zerotrie_making.specs.declared.error.MakeError.TheVariants.{NotText, Line, NotJson, NotPairs, NotPair, Keys, SumTooLarge, Refused, IndexRefused, OutOfMemory}
 use Rattle.zerotrie_run.specs.Told.{told_made}
 use Rattle.zerotrie_run.specs.declared.messages.pairs.PairUnit.{PairUnit}
 use Rattle.zerotrie_run.specs.declared.command.Place.{Place}
@@ -105,6 +105,7 @@ made_on unit (NotJson line column) a b h e = (names_on (codes "line") a b line h
 made_on unit NotPairs a b h e = tt
 made_on unit (NotPair bad) a b h e = no_pair_on bad a b h e
 made_on unit (Keys s) a b h e = (pairs_on (unit_word unit) s a b h.0 e, keys_on s a b h.1 e)
+made_on unit (SumTooLarge k) a b h e = (names_on (unit_word unit) a b k.number h.0 e, says_on a b (told_key k.key.items) h.1 e)
 made_on unit (Refused why) a b h e = tt
 made_on unit (IndexRefused why) a b h e = tt
 made_on unit OutOfMemory a b h e = tt

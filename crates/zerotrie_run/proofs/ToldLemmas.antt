@@ -55,6 +55,7 @@ build_text_told build input files a b c text read write closed (unmade.NotMade (
 build_text_told build input files a b c text read write closed (unmade.NotMade made.NotPairs) cause tells more h = (cause.0, cause.1, made.NotPairs, cause.2, refl, text, tells.0, tells.1, told_last a b c text more h)
 build_text_told build input files a b c text read write closed (unmade.NotMade (made.NotPair bad)) cause tells more h = (cause.0, cause.1, made.NotPair bad, cause.2, refl, text, tells.0, tells.1, told_last a b c text more h)
 build_text_told build input files a b c text read write closed (unmade.NotMade (made.Keys s)) cause tells more h = (cause.0, cause.1, made.Keys s, cause.2, refl, text, tells.0, tells.1, told_last a b c text more h)
+build_text_told build input files a b c text read write closed (unmade.NotMade (made.SumTooLarge k)) cause tells more h = (cause.0, cause.1, made.SumTooLarge k, cause.2, refl, text, tells.0, tells.1, told_last a b c text more h)
 build_text_told build input files a b c text read write closed (unmade.NotMade (made.Refused why)) cause tells more h = (cause.0, cause.1, made.Refused why, cause.2, refl, text, tells.0, tells.1, told_last a b c text more h)
 build_text_told build input files a b c text read write closed (unmade.NotMade (made.IndexRefused why)) cause tells more h = (cause.0, cause.1, made.IndexRefused why, cause.2, refl, text, tells.0, tells.1, told_last a b c text more h)
 build_text_told build input files a b c text read write closed (unmade.NotMade made.OutOfMemory) cause tells more h = failure_told (commands.Build build) input files a b c text (source_name build.from) read write closed (inl refl) tells.0 more h

@@ -136,6 +136,7 @@ TellsMade unit (made.NotJson line column) text = Names (codes "line") text line 
 TellsMade unit made.NotPairs text = Unit {0}
 TellsMade unit (made.NotPair bad) text = TellsNoPair bad text
 TellsMade unit (made.Keys s) text = NamesPairs (unit_word unit) s text × SaysKeys s text
+TellsMade unit (made.SumTooLarge k) text = Names (unit_word unit) text k.number × Says text (told_key k.key.items)
 TellsMade unit (made.Refused e) text = Unit {0}
 TellsMade unit (made.IndexRefused e) text = Unit {0}
 TellsMade unit made.OutOfMemory text = Unit {0}

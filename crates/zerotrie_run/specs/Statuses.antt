@@ -28,6 +28,7 @@ made_refusal (error.NotJson line column) = Some BadInput
 made_refusal error.NotPairs = Some BadInput
 made_refusal (error.NotPair bad) = Some BadInput
 made_refusal (error.Keys shown) = Some Refused
+made_refusal (error.SumTooLarge k) = Some Refused
 made_refusal (error.Refused why) = Some Refused
 made_refusal (error.IndexRefused why) = Some Refused
 made_refusal error.OutOfMemory = None

@@ -26,8 +26,8 @@ use std::io::{BufWriter, Read, Write};
 use zerotrie_core::TrieRef;
 use zerotrie_files::{Disk, Noted, Store};
 use zerotrie_queries::{
-    Asked, Finder, ListError, OpenError, Query, looks_like_text, write_answers,
-    write_distances, write_list, write_trie_code, write_trie_report, write_trie_view,
+    Asked, Finder, ListError, OpenError, Query, looks_like_text, write_answers, write_distances,
+    write_list, write_trie_code, write_trie_report, write_trie_view,
 };
 use zerotrie_reverse::Reverse;
 

@@ -54,9 +54,10 @@ impl Status {
             | MakeError::NotJson(_, _)
             | MakeError::NotPairs
             | MakeError::NotPair(_) => Some(Status::BadInput),
-            MakeError::Keys(_) | MakeError::Refused(_) | MakeError::IndexRefused(_) => {
-                Some(Status::Refused)
-            }
+            MakeError::Keys(_)
+            | MakeError::SumTooLarge(_)
+            | MakeError::Refused(_)
+            | MakeError::IndexRefused(_) => { Some(Status::Refused) }
             MakeError::OutOfMemory => None,
         }
     }

@@ -148,6 +148,9 @@ abbrev pub duplicates_word : Duplicates → List ℕ
 duplicates_word again.Refuse = codes "refuse"
 duplicates_word again.First = codes "first"
 duplicates_word again.Last = codes "last"
+duplicates_word again.Sum = codes "sum"
+duplicates_word again.Min = codes "min"
+duplicates_word again.Max = codes "max"
 
 -- what a file has, by whether it is to be tagged, bare or an index
 abbrev pub form_by : Bool → Bool → Bool → Option FileForm

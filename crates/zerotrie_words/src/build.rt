@@ -15,6 +15,8 @@ use zerotrie_lines::{Format, LineEnd};
 use zerotrie_making::{Duplicates, FileForm, FilePlan, Plan, ReadPlan, Source};
 use zerotrie_run::{Build, Place, Summary};
 
+const NO_CHOICE: &str = "--duplicates asks for refuse, first, last, sum, min or max";
+
 /// Returns the format of the input: the one that is named, or by the ending of its path.
 fn format_in(matches: &ArgMatches<'_>) -> Result<Input, &'static str>
     ensures format { IfOk result (IsFormat (word_of matches.now (codes "format"))
@@ -92,6 +94,9 @@ fn duplicates_named(name: &str) -> Option<Duplicates>
         "refuse" => Some(Duplicates::Refuse),
         "first" => Some(Duplicates::First),
         "last" => Some(Duplicates::Last),
+        "sum" => Some(Duplicates::Sum),
+        "min" => Some(Duplicates::Min),
+        "max" => Some(Duplicates::Max),
         _ => None,
     }
 }
@@ -104,10 +109,8 @@ fn duplicates_in(matches: &ArgMatches<'_>) -> Result<Duplicates, &'static str>
     ensures said { IfErr result IsSaid }
 {
     match matches.get_str("duplicates") {
-        Some(name) => {
-            duplicates_named(name).ok_or("--duplicates asks for refuse, first or last")
-        }
-        None => Err("--duplicates asks for refuse, first or last"),
+        Some(name) => duplicates_named(name).ok_or(NO_CHOICE),
+        None => Err(NO_CHOICE),
     }
 }
 

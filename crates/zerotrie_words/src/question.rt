@@ -224,10 +224,7 @@ fn search_in<'a>(matches: &ArgMatches<'a>) -> Result<Question<'a>, &'static str>
     }
     match unmeasured_in(matches) {
         Some(why) => Err(why),
-        None => Ok(Question::Distances(
-            choice_in(matches)?,
-            limit_in(matches)?,
-        )),
+        None => Ok(Question::Distances(choice_in(matches)?, limit_in(matches)?)),
     }
 }
 

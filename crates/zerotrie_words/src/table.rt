@@ -12,7 +12,7 @@ const OUTPUTS: &[&str] = &["tsv", "csv", "keys", "values", "json", "jsonl"];
 
 const ENDS: &[&str] = &["crlf", "lf"];
 
-const CHOICES: &[&str] = &["refuse", "first", "last"];
+const CHOICES: &[&str] = &["refuse", "first", "last", "sum", "min", "max"];
 
 const KEPT: &[&str] = &["first", "last"];
 
@@ -238,7 +238,7 @@ const LOOK_UPS: &[Subcommand] = &[
             Argument {
                 name: "duplicates",
                 form: Form::OneOf("D", Some('d'), CHOICES, Otherwise::Is("refuse")),
-                help: "What becomes of a key that comes again",
+                help: "An error, or the value of a key that comes again",
             },
             Argument {
                 name: "lower-case",
@@ -341,17 +341,7 @@ const LISTINGS: &[Subcommand] = &[
         help: "Example: zerotrie list names.trie --prefix am\n\
             Status: 0 also if no key begins so, 2 if FILE is no trie.",
         arguments: &[
-            FILE,
-            PREFIX,
-            FROM,
-            BELOW,
-            FORMAT,
-            RAW,
-            LIMIT,
-            COUNT,
-            SORTED,
-            BARE,
-            NO_CHECK,
+            FILE, PREFIX, FROM, BELOW, FORMAT, RAW, LIMIT, COUNT, SORTED, BARE, NO_CHECK,
         ],
     },
     Subcommand {

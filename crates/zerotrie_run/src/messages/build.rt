@@ -9,7 +9,9 @@ use crate::command::Build;
 use crate::messages::line::{
     add, add_words, begin_line, end_line, fault_on, line_on, source_name, target_name, unwritten,
 };
-use crate::messages::pairs::{PairUnit, add_bad_line, add_no_pair, add_not_json, add_shown};
+use crate::messages::pairs::{
+    PairUnit, add_bad_line, add_large_sum, add_no_pair, add_not_json, add_shown,
+};
 use std::alloc::{AllocError, Global};
 use std::io::Write;
 use zerotrie_core::ZeroTrieBuildError;
@@ -67,6 +69,7 @@ fn add_refusal(text: &mut Vec<u8>, unit: PairUnit, error: &MakeError) -> Result<
         MakeError::NotPairs => add(text, "neither an object nor a list"),
         MakeError::NotPair(bad) => add_no_pair(text, bad),
         MakeError::Keys(shown) => add_shown(text, unit.word(), shown),
+        MakeError::SumTooLarge(key) => add_large_sum(text, unit, key),
         MakeError::Refused(error) => add(text, refused(error)),
         MakeError::IndexRefused(error) => add(text, index_refused(error)),
         MakeError::OutOfMemory => add(text, "out of memory"),

@@ -8,7 +8,7 @@ use crate::messages::line::{add, add_first_number, add_number};
 use std::alloc::AllocError;
 use zerotrie_core::ZeroTrieBuildError;
 use zerotrie_lines::{BadLine, Format, ValueFault};
-use zerotrie_making::{NoPair, Shown, Source};
+use zerotrie_making::{NoPair, NumberedKey, Shown, Source};
 
 /// What holds one pair.
 #[derive(Clone, Copy, PartialEq, Eq, Debug)]
@@ -249,6 +249,26 @@ pub fn add_bad_line(
     add(text, bad.text())?;
     add_field(text, bad)?;
     add(text, hint(unit, number, bad))
+}
+
+/// Adds at which pair the sum of the values of its key gets too large, and the key.
+#[tactic(auto, using(crate::proofs::MessageLemmas::extends_both, crate::proofs::MessageLemmas::names_on))]
+pub fn add_large_sum(
+    text: &mut Vec<u8>,
+    unit: PairUnit,
+    key: &NumberedKey,
+) -> Result<(), AllocError>
+    ensures names { OnOk result (Names (unit_word unit) text.new.items key.now.number) }
+    ensures says { OnOk result (Says text.new.items (told_key key.now.key.items)) }
+    ensures adds { OnOk result (Extends text.old.items text.new.items) }
+{
+    add_number(
+        text,
+        unit.word(),
+        key.number,
+        ": the sum of the values of its key is 2^64 or more: ",
+    )?;
+    add_key(text, key.key.as_slice())
 }
 
 /// Adds the keys that show a refusal, and the numbers of their pairs.
