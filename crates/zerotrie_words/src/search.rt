@@ -25,10 +25,10 @@ fn word_refused(by: SearchBy, error: WordError) -> &'static str
 {
     match (by, error) {
         (SearchBy::Glob | SearchBy::GlobChars, WordError::Malformed) => {
-            "--glob asks for a pattern: a class lacks its end or its letters, a range ends before it begins, or a backslash escapes nothing"
+            "--glob and --not ask for a pattern: a class or braces lack their end, a class its letters, braces their beginning, a range ends before it begins, or a backslash escapes nothing"
         }
         (SearchBy::Glob | SearchBy::GlobChars, WordError::TooLong) => {
-            "--glob asks for a pattern of at most 63 parts"
+            "--glob and --not ask for a pattern of at most 63 parts"
         }
         (SearchBy::Swaps(_) | SearchBy::SwapsChars(_), _) => {
             "--fuzzy asks for at most 63 characters and 7 edits; --no-transpose allows 254 edits"
