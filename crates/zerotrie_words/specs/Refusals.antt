@@ -167,10 +167,10 @@ abbrev pub IsNoMeasuring : ArgMatches → Type 0
 IsNoMeasuring matches = (word_of matches (codes "fuzzy") ≡ None) ⊎ (IsFlag (flag_of matches (codes "beginnings")) true ⊎ ((word_of matches (codes "format") ≢ None)
     ⊎ (IsFlag (flag_of matches (codes "raw")) true ⊎ (IsFlag (flag_of matches (codes "count")) true ⊎ IsFlag (flag_of matches (codes "sorted")) true))))
 
--- how the pairs of a search are to be listed can't be had
-abbrev pub IsNoSearchForm : (distances : Bool) → ArgMatches → Type 0
-IsNoSearchForm true matches = IsNoMeasuring matches
-IsNoSearchForm false matches = IsNoForm matches
+-- the words of a search are no question, by whether distances are to be printed
+abbrev pub IsNoSearchOf : (distances : Bool) → ArgMatches → Type 0
+IsNoSearchOf true matches = IsNoMeasuring matches ⊎ (IsNoSearch matches ⊎ HasNoNumber 64 (word_of matches (codes "limit")))
+IsNoSearchOf false matches = IsNoForm matches ⊎ (IsNoSearch matches ⊎ HasNoNumber 64 (word_of matches (codes "limit")))
 
 -- the words are no code: no language, or a name that is none or is taken
 abbrev pub IsTaken : Language → List ℕ → Type 0
@@ -190,8 +190,7 @@ IsNoQuestion matches topic.Get texts = AreNoKeys texts
 IsNoQuestion matches topic.Longest texts = IsNoLongest matches ⊎ AreNoKeys texts
 IsNoQuestion matches topic.Keys texts = AreNoKeys texts
 IsNoQuestion matches topic.List texts = IsNoForm matches ⊎ HasNoNumber 64 (word_of matches (codes "limit"))
-IsNoQuestion matches topic.Search texts = ((distances : Bool) × IsFlag (flag_of matches (codes "distance")) distances × IsNoSearchForm distances matches)
-    ⊎ (IsNoSearch matches ⊎ HasNoNumber 64 (word_of matches (codes "limit")))
+IsNoQuestion matches topic.Search texts = (distances : Bool) × IsFlag (flag_of matches (codes "distance")) distances × IsNoSearchOf distances matches
 IsNoQuestion matches topic.Verify texts = ⊥
 IsNoQuestion matches topic.Stats texts = ⊥
 IsNoQuestion matches topic.Inspect texts = IsNoView (word_of matches (codes "VIEW")) (word_of matches (codes "limit"))

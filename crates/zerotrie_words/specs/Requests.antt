@@ -104,6 +104,9 @@ abbrev pub heading : (json : Bool) → List (List ℕ) → ℕ → Option (List 
 heading true files n = None
 heading false files n = if nat_lt 1 (length files) then slice_get files n else None
 
+abbrev pub IsReportHeading : ArgMatches → ℕ → Option (Bor (List ℕ)) → Type 0
+IsReportHeading matches n name = (json : Bool) × IsFlag (flag_of matches (codes "json")) json × (option_map (λ w. w.now) name ≡ heading json (files_of matches) n)
+
 -- a task has it in front: a report has, and no other
 abbrev pub IsHeading : Task → ArgMatches → ℕ → Option (Bor (List ℕ)) → Type 0
 IsHeading task.Build matches n name = name ≡ None
@@ -113,8 +116,7 @@ IsHeading (task.Ask topic.Keys) matches n name = name ≡ None
 IsHeading (task.Ask topic.List) matches n name = name ≡ None
 IsHeading (task.Ask topic.Search) matches n name = name ≡ None
 IsHeading (task.Ask topic.Verify) matches n name = name ≡ None
-IsHeading (task.Ask topic.Stats) matches n name = (json : Bool) × IsFlag (flag_of matches (codes "json")) json
-    × (option_map (λ w. w.now) name ≡ heading json (files_of matches) n)
+IsHeading (task.Ask topic.Stats) matches n name = IsReportHeading matches n name
 IsHeading (task.Ask topic.Inspect) matches n name = name ≡ None
 IsHeading (task.Ask topic.Code) matches n name = name ≡ None
 IsHeading task.Diff matches n name = name ≡ None

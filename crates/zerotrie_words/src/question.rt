@@ -1,11 +1,12 @@
 //! The questions to a trie that the command line asks.
 
-ghost use Rattle.std.specs.Prelude.{◌≡◌, ◌⊎◌, None, IfErr, IfNone, IfOk, IfSome, codes, length, map};
+ghost use Rattle.std.specs.Prelude.{◌≡◌, ◌⊎◌, None, true, false, IfErr, IfNone, IfOk, IfSome, codes, length};
 ghost use Rattle.std.specs.List.{slice_get};
 ghost use Rattle.std.specs.Option.{option_map};
-ghost use Rattle.zerotrie_words.specs.Refusals.{IsNoBorder, IsNoKind, IsNoLongest, IsNoMeasuring, IsNoQuestion, IsNoView, IsSaid};
+ghost use Rattle.zerotrie_words.specs.Refusals.{IsNoBorder, IsNoKind, IsNoLongest, IsNoMeasuring, IsNoQuestion, IsNoSearchOf, IsNoView, IsSaid};
+ghost use Rattle.zerotrie_words.specs.Requests.{IsReportHeading};
 ghost use Rattle.zerotrie_words.specs.declared.task.Topic.TheVariants.{Search};
-ghost use Rattle.zerotrie_words.specs.Words.{AreMeasured, IsAsk, IsBorder, IsCheck, IsFile, IsGet, IsLongest, IsQuestion, IsReportForm, IsSource, IsSpelling, IsView, file_word, files_of, flag_of, texts_of, word_of};
+ghost use Rattle.zerotrie_words.specs.Words.{AreMeasured, IsAsk, IsBorder, IsCheck, IsFile, IsGet, IsLongest, IsQuestion, IsReportForm, IsSearch, IsSource, IsSpelling, IsView, file_word, files_of, flag_of, texts_of, word_of};
 
 use crate::code::code_in;
 use crate::keys::keys_of;
@@ -44,25 +45,36 @@ fn check_in(matches: &ArgMatches<'_>, topic: Topic) -> Check
     }
 }
 
-/// Returns the words of files that are asked one after the other.
-fn files_in<'m, 'a>(matches: &'m ArgMatches<'a>) -> &'m [&'a str]
-    ensures { map (λ w. w.now) result.now ≡ files_of matches.now }
-{
-    matches.get_strs("FILE").unwrap_or(&[])
-}
-
 /// Returns how many files are asked one after the other.
 pub fn file_count(matches: &ArgMatches<'_>) -> usize
     ensures { result ≡ length (files_of matches.now) }
 {
-    files_in(matches).len()
+    match matches.get_strs("FILE") {
+        Some(files) => files.len(),
+        None => 0,
+    }
 }
 
 /// Returns the word of the file with this number, of those that are asked one after the other.
-pub fn nth_file<'a>(matches: &ArgMatches<'a>, number: usize) -> Option<&'a str>
+fn nth_file<'a>(matches: &ArgMatches<'a>, number: usize) -> Option<&'a str>
     ensures { option_map (λ w. w.now) result ≡ slice_get (files_of matches.now) number }
 {
-    files_in(matches).get(number).copied()
+    let files = matches.get_strs("FILE")?;
+    files.get(number).copied()
+}
+
+/// Returns the name of the file with this number, if it has to be in front of a report on it: of
+/// several files, unless the report is JSON.
+pub fn heading_in<'a>(matches: &ArgMatches<'a>, number: usize) -> Option<&'a str>
+    ensures { IsReportHeading matches.now number result }
+{
+    if matches.get_flag("json") {
+        return None;
+    }
+    if file_count(matches) <= 1 {
+        return None;
+    }
+    nth_file(matches, number)
 }
 
 /// Returns the place of the file with this number. Only `verify` and `stats` have several.
@@ -207,6 +219,34 @@ fn unmeasured_in(matches: &ArgMatches<'_>) -> Option<&'static str>
     None
 }
 
+/// Returns what a search asks for, whose pairs are printed with their distances. It is an error, with
+/// the message, if an option has a wrong word, or options exclude each other.
+fn distances_in<'a>(matches: &ArgMatches<'a>) -> Result<Question<'a>, &'static str>
+    ensures question { IfOk result (IsSearch true matches.now) }
+    ensures refused { IfErr result (λ _. IsNoSearchOf true matches.now) }
+    ensures said { IfErr result IsSaid }
+{
+    if let Some(why) = unmeasured_in(matches) {
+        return Err(why);
+    }
+    Ok(Question::Distances(choice_in(matches)?, limit_in(matches)?))
+}
+
+/// Returns what a search asks for, whose pairs are printed in a format. It is an error, with the
+/// message, if an option has a wrong word, or options exclude each other.
+fn found_in<'a>(matches: &ArgMatches<'a>) -> Result<Question<'a>, &'static str>
+    ensures question { IfOk result (IsSearch false matches.now) }
+    ensures refused { IfErr result (λ _. IsNoSearchOf false matches.now) }
+    ensures said { IfErr result IsSaid }
+{
+    Ok(Question::List(
+        form_in(matches)?,
+        choice_in(matches)?,
+        search_order_in(matches),
+        limit_in(matches)?,
+    ))
+}
+
 /// Returns what a search asks for. It is an error, with the message, if an option has a wrong word, or
 /// options exclude each other.
 fn search_in<'a>(matches: &ArgMatches<'a>) -> Result<Question<'a>, &'static str>
@@ -214,17 +254,10 @@ fn search_in<'a>(matches: &ArgMatches<'a>) -> Result<Question<'a>, &'static str>
     ensures refused { IfErr result (λ _. IsNoQuestion matches.now Search None) }
     ensures said { IfErr result IsSaid }
 {
-    if !matches.get_flag("distance") {
-        return Ok(Question::List(
-            form_in(matches)?,
-            choice_in(matches)?,
-            search_order_in(matches),
-            limit_in(matches)?,
-        ));
-    }
-    match unmeasured_in(matches) {
-        Some(why) => Err(why),
-        None => Ok(Question::Distances(choice_in(matches)?, limit_in(matches)?)),
+    if matches.get_flag("distance") {
+        distances_in(matches)
+    } else {
+        found_in(matches)
     }
 }
 

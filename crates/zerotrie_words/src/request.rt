@@ -17,7 +17,7 @@ use crate::completions::script_for;
 use crate::diff::diff_in;
 use crate::keys::words_in;
 use crate::manual::manual;
-use crate::question::{ask_in, file_count, nth_file};
+use crate::question::{ask_in, file_count, heading_in};
 use crate::reply::{Reply, reply_to};
 use crate::table::commands;
 use crate::task::{Task, Topic, task_in};
@@ -158,9 +158,7 @@ impl<'a> Request<'a> {
         ensures { IsHeading self.now.task self.now.matches file result }
     {
         match self.task {
-            Task::Ask(Topic::Stats) if self.files() > 1 && !self.matches.get_flag("json") => {
-                nth_file(&self.matches, file)
-            }
+            Task::Ask(Topic::Stats) => heading_in(&self.matches, file),
             Task::Build | Task::Ask(_) | Task::Diff | Task::Combine(_) => None,
         }
     }

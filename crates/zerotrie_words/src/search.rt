@@ -237,10 +237,14 @@ fn without_in<'a>(matches: &ArgMatches<'a>) -> Result<Option<Pattern<'a>>, &'sta
     let Some(text) = matches.get_str("not") else {
         return Ok(None);
     };
-    Ok(Some(Pattern {
-        by_chars: !matches.get_flag("bytes"),
-        text: word_by(glob_by(matches), text)?,
-    }))
+    let by_chars = !matches.get_flag("bytes");
+    let by = if by_chars {
+        SearchBy::GlobChars
+    } else {
+        SearchBy::Glob
+    };
+    let text = word_by(by, text)?;
+    Ok(Some(Pattern { by_chars, text }))
 }
 
 /// Returns what keys have to begin with.
