@@ -8,6 +8,7 @@ pub mod Searches
 pub mod OtherKeys
 pub mod Globs
 pub mod GlobMasks
+pub mod GlobAheads
 pub mod GlobTables
 pub mod GlobTexts
 pub mod Words
