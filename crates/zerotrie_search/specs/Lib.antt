@@ -11,6 +11,7 @@ pub mod GlobMasks
 pub mod GlobAheads
 pub mod GlobTables
 pub mod GlobTexts
+pub mod GlobLaws
 pub mod Words
 pub mod Rows
 pub mod Automata
