@@ -67,15 +67,17 @@ impl Random {
 
     /// A pattern that is made of a text, and another one that need not be one.
     fn pattern(&mut self, text: &[u8]) -> (Vec<Part>, Vec<u8>) {
-        let mut parts: Vec<Part> = text.iter().map(|byte| match self.below(6) {
+        let mut parts: Vec<Part> = text.iter().map(|byte| match self.below(7) {
             0 => Part::One,
             1 => Part::Class(self.below(2) == 0, byte.saturating_sub(self.below(3) as u8), byte.saturating_add(self.below(3) as u8)),
+            2 => Part::Choice(self.byte(), Some(*byte)),
             _ => Part::Byte(*byte),
         }).collect();
         for _ in 0..self.below(3) {
-            parts.insert(self.below(parts.len() + 1), Part::Many);
+            let part = if self.below(3) == 0 { Part::Choice(self.byte(), None) } else { Part::Many };
+            parts.insert(self.below(parts.len() + 1), part);
         }
-        let other = (0..self.below(8)).map(|_| if self.below(4) == 0 { self.byte() } else { self.pick(b"*?[]!-\\ab") }).collect();
+        let other = (0..self.below(8)).map(|_| if self.below(4) == 0 { self.byte() } else { self.pick(b"*?[]!-{,}\\ab") }).collect();
         (parts, other)
     }
 

@@ -123,6 +123,8 @@ pub enum Part {
     Byte(u8),
     /// A byte of a range, or one that is not of it.
     Class(bool, u8, u8),
+    /// A byte, or else another one or none.
+    Choice(u8, Option<u8>),
 }
 
 /// A pattern as it is written.
@@ -130,10 +132,12 @@ pub fn spelled(parts: &[Part]) -> Vec<u8> {
     parts.iter().flat_map(|part| match *part {
         Part::Many => vec![b'*'],
         Part::One => vec![b'?'],
-        Part::Byte(byte) if b"*?[\\".contains(&byte) => vec![b'\\', byte],
+        Part::Byte(byte) if b"*?[{}\\".contains(&byte) => vec![b'\\', byte],
         Part::Byte(byte) => vec![byte],
         Part::Class(true, from, to) => vec![b'[', b'!', b'\\', from, b'-', b'\\', to, b']'],
         Part::Class(false, from, to) => vec![b'[', b'\\', from, b'-', b'\\', to, b']'],
+        Part::Choice(byte, None) => vec![b'{', b'\\', byte, b',', b'}'],
+        Part::Choice(byte, Some(other)) => vec![b'{', b'\\', byte, b',', b'\\', other, b'}'],
     }).collect()
 }
 
@@ -143,9 +147,11 @@ pub fn matches(parts: &[Part], key: &[u8]) -> bool {
         Part::Many | Part::One => true,
         Part::Byte(wanted) => byte == wanted,
         Part::Class(is_not, from, to) => (from..=to).contains(&byte) != is_not,
+        Part::Choice(one, other) => byte == one || Some(byte) == other,
     };
     match part {
         Part::Many => (0..=key.len()).any(|len| matches(rest, &key[len..])),
+        Part::Choice(_, None) if matches(rest, key) => true,
         _ => key.split_first().is_some_and(|(byte, left)| takes(*byte) && matches(rest, left)),
     }
 }

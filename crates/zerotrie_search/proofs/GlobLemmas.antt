@@ -4,8 +4,10 @@ use Rattle.std.specs.Prelude.{not, nat_le, ◌==◌, ◌&&◌, ◌||◌, if◌th
 use Rattle.std.specs.Option.{option_map, option_map_or}
 use Rattle.std.proofs.Math.Bool.{beq}
 use Rattle.std.proofs.lemmas.Bool.{and_right, and_from, ne_eqb, eq-eqb, le-leb}
-use Rattle.zerotrie_search.specs.Globs.{Class, with_letter, class_at, has, rises, is_within, class_of, opened, escaped, first_item, items_to, left_to, items, no_item, Item, many, any, one, class, Reading}
-use Rattle.zerotrie_search.specs.GlobMasks.{closing, class_has, has_one, takes_one, add_range, or_found, is_many, read}
+use Rattle.zerotrie_search.specs.Globs.{Class, with_letter, class_at, has, rises, is_within, class_of, opened, escaped, item_of, first_item, stays_in, items_to, left_to, unread, items_in, no_item_in, Item, many, any, one, class, group, comma, end, Reading}
+use Rattle.zerotrie_search.specs.GlobMasks.{closing, class_has, has_one, takes_one, add_range, or_found, role_of, read}
+use Rattle.zerotrie_search.specs.declared.glob.pattern.Role.{Role}
+use Rattle.zerotrie_search.specs.declared.glob.pattern.Role.TheVariants.{Letter, Group, End}
 
 or_end : (x : Bool) → (x || false) ≡ x
 or_end true = refl
@@ -163,25 +165,26 @@ opened_shorter c (d ∷ rest) =
     (class_shorter (c ∷ d ∷ rest) rest true (class_at rest) (omega arith) (class_behind rest))
     (class_shorter (c ∷ d ∷ rest) (d ∷ rest) false (class_at (d ∷ rest)) (omega arith) (class_behind (d ∷ rest)))
 
-pub shorter : (pattern : List ℕ) → IsShorter pattern (first_item pattern)
-shorter [] = tt
-shorter (c ∷ pattern) =
+pub shorter : (in_group : Bool) (pattern : List ℕ) → IsShorter pattern (first_item in_group pattern)
+shorter in_group [] = tt
+shorter in_group (c ∷ pattern) =
     let p = c ∷ pattern in
-    let next : length pattern < length p = omega arith in
-    in_cases p (c == 42) (Some (many, pattern)) _ next
-    (in_cases p (c == 63) (Some (any, pattern)) _ next
-    (in_cases p (c == 92) (escaped pattern) _ (by_escape pattern)
-    (in_cases p (c == 91) (opened pattern) (Some (one c, pattern)) (opened_shorter c pattern) next)))
+    in_cases p (c == 92) (escaped pattern) _ (by_escape pattern)
+    (in_cases p (c == 91) (opened pattern) (option_map (λ i. (i, pattern)) (item_of in_group c)) (opened_shorter c pattern) (by_item (item_of in_group c)))
   where
     by_escape : (rest : List ℕ) → IsShorter (c ∷ rest) (escaped rest)
     by_escape [] = tt
     by_escape (d ∷ rest) = omega arith
 
-pub read_shorter : {X : Type 0} (f : X → (Bool × Bool) × List ℕ) (b : ℕ × ℕ) (p : List ℕ) (o : Option X) (r : Reading) → option_map f o ≡ read b r → IsShorter p r → IfSome o (λ x. length (f x).1 < length p)
+    by_item : (o : Option Item) → IsShorter (c ∷ pattern) (option_map (λ i. (i, pattern)) o)
+    by_item None = tt
+    by_item (Some i) = omega arith
+
+pub read_shorter : {X : Type 0} (f : X → (Role × Bool) × List ℕ) (b : ℕ × ℕ) (p : List ℕ) (o : Option X) (r : Reading) → option_map f o ≡ read b r → IsShorter p r → IfSome o (λ x. length (f x).1 < length p)
 read_shorter f b p None r is s = tt
 read_shorter f b p (Some x) None is s = absurd (cc)
 read_shorter f b p (Some x) (Some y) is s =
-    let e : ◌≡◌ {A = (Bool × Bool) × List ℕ} (f x) ((is_many y.0, takes_one y.0 b), y.1) = cc in
+    let e : ◌≡◌ {A = (Role × Bool) × List ℕ} (f x) ((role_of y.0, takes_one y.0 b), y.1) = cc in
     let len = ap (λ z. length z.1) e in
     omega (arith, len, s)
 
@@ -192,92 +195,105 @@ class_item true false = refl
 class_item false true = refl
 class_item false false = refl
 
-abbrev as_item : Bool → Bool × List ℕ → (Bool × Bool) × List ℕ
-as_item negated r = ((false, not (beq r.0 negated)), r.1)
+abbrev as_item : Bool → Bool × List ℕ → (Role × Bool) × List ℕ
+as_item negated r = ((Letter, not (beq r.0 negated)), r.1)
 
 read_class : (b : ℕ × ℕ) (negated : Bool) (l : Bool × ℕ) (c : Class) → option_map (as_item negated) (class_has b (with_letter l c)) ≡ read b (class_of negated (with_letter l c))
 read_class b negated l None = refl
 read_class b negated l (Some (ls, rest)) = by_case (rises (l ∷ ls))
   where
     by_case : (r : Bool) → option_map (as_item negated) (answer r (has_one (has (l ∷ ls)) b) rest) ≡ read b (if r then Some (class negated (has (l ∷ ls)), rest) else None)
-    by_case true = ap (λ t. Some ((false, t), rest)) (sym (class_item negated (has_one (has (l ∷ ls)) b)))
+    by_case true = ap (λ t. Some ((Letter, t), rest)) (sym (class_item negated (has_one (has (l ∷ ls)) b)))
     by_case false = refl
 
 pub class_read : (b : ℕ × ℕ) (negated : Bool) (k : Class) (l : Bool × ℕ) (c : Class) (o : Option (Bool × List ℕ)) → k ≡ with_letter l c → o ≡ class_has b k
-    → option_map (λ r. ((false, not (beq r.0 negated)), r.1)) o ≡ read b (class_of negated k)
+    → option_map (λ r. ((Letter, not (beq r.0 negated)), r.1)) o ≡ read b (class_of negated k)
 class_read b negated k l c o is has_is =
     ap (option_map (as_item negated)) (has_is ∙ ap (class_has b) is) ∙ read_class b negated l c ∙ ap (λ x. read b (class_of negated x)) (sym is)
 
 -- what an item is, beside a letter
-pub read_item : (b : ℕ × ℕ) (m t : Bool) (rest : List ℕ) (r : Reading) → Some ((m, t), rest) ≡ read b r → (i : Item) × ((r ≡ Some (i, rest)) × (is_many i ≡ m) × (takes_one i b ≡ t))
+pub read_item : (b : ℕ × ℕ) (m : Role) (t : Bool) (rest : List ℕ) (r : Reading) → Some ((m, t), rest) ≡ read b r → (i : Item) × ((r ≡ Some (i, rest)) × (role_of i ≡ m) × (takes_one i b ≡ t))
 read_item b m t rest None is = absurd (cc)
 read_item b m t rest (Some (i, left)) is =
-    let e : ◌≡◌ {A = (Bool × Bool) × List ℕ} ((m, t), rest) ((is_many i, takes_one i b), left) = cc in
+    let e : ◌≡◌ {A = (Role × Bool) × List ℕ} ((m, t), rest) ((role_of i, takes_one i b), left) = cc in
     (i, (ap (λ l. Some (i, l)) (sym (ap (λ x. x.1) e)), sym (ap (λ x. x.0.0) e), sym (ap (λ x. x.0.1) e)))
 
 pub read_none : (b : ℕ × ℕ) (r : Reading) → None ≡ read b r → r ≡ None
 read_none b None is = refl
 read_none b (Some x) is = absurd (cc)
 
-pub no_items : (pattern : List ℕ) → first_item pattern ≡ None → items pattern ≡ []
-no_items [] is = refl
-no_items (c ∷ pattern) is = ap (λ r. option_map_or (λ x. x.0 ∷ items_to (length pattern) x.1) r []) is
+-- what is behind an item, by its role
+abbrev pub stays_by : (in_group : Bool) → Role → Bool
+stays_by in_group Group = true
+stays_by in_group End = false
+stays_by in_group role = in_group
 
-pub all_left_over : (pattern : List ℕ) → first_item pattern ≡ None → no_item pattern ≡ pattern
-all_left_over [] is = refl
-all_left_over (c ∷ pattern) is = ap (λ r. option_map_or (λ x. left_to (length pattern) x.1) r (c ∷ pattern)) is
+stays_role : (in_group : Bool) (i : Item) → stays_by in_group (role_of i) ≡ stays_in in_group i
+stays_role g many = refl
+stays_role g any = refl
+stays_role g (one c) = refl
+stays_role g (class n set) = refl
+stays_role g group = refl
+stays_role g comma = refl
+stays_role g end = refl
+
+pub stays_known : (in_group : Bool) (i : Item) (role : Role) → role_of i ≡ role → stays_by in_group role ≡ stays_in in_group i
+stays_known g i role is = ap (stays_by g) (sym is) ∙ stays_role g i
+
+-- no item is left
+pub no_items : (in_group : Bool) (pattern : List ℕ) → first_item in_group pattern ≡ None → items_in in_group pattern ≡ []
+no_items g [] is = refl
+no_items g (c ∷ pattern) is = ap (λ r. option_map_or (λ x. x.0 ∷ items_to (length pattern) (stays_in g x.0) x.1) r []) is
+
+pub all_left_over : (in_group : Bool) (pattern : List ℕ) → first_item in_group pattern ≡ None → no_item_in in_group pattern ≡ unread in_group pattern
+all_left_over g [] is = refl
+all_left_over g (c ∷ pattern) is = ap (λ r. option_map_or (λ x. left_to (length pattern) (stays_in g x.0) x.1) r (unread g (c ∷ pattern))) is
 
 abbrev is_none : Reading → Type 0
 is_none None = Unit {0}
 is_none (Some x) = ⊥
 
-nil_cons : {X : Type 0} {x : X} {xs : List X} → [] ≡ x ∷ xs → ⊥
-nil_cons {X = X} is = subst is_nil is tt
-  where
-    is_nil : List X → Type 0
-    is_nil [] = Unit {0}
-    is_nil (x ∷ xs) = ⊥
-
 -- so as many items as bytes are all of them
-from_each : (n m : ℕ) (pattern : List ℕ) (r : Reading) → IsShorter pattern r → ((rest : List ℕ) → length rest < length pattern → items_to n rest ≡ items_to m rest)
-    → option_map_or (λ x. x.0 ∷ items_to n x.1) r [] ≡ option_map_or (λ x. x.0 ∷ items_to m x.1) r []
-from_each n m pattern None s same = refl
-from_each n m pattern (Some x) s same = ap (λ is. x.0 ∷ is) (same x.1 s)
+from_each : (n m : ℕ) (g : Bool) (pattern : List ℕ) (r : Reading) → IsShorter pattern r → ((h : Bool) (rest : List ℕ) → length rest < length pattern → items_to n h rest ≡ items_to m h rest)
+    → option_map_or (λ x. x.0 ∷ items_to n (stays_in g x.0) x.1) r [] ≡ option_map_or (λ x. x.0 ∷ items_to m (stays_in g x.0) x.1) r []
+from_each n m g pattern None s same = refl
+from_each n m g pattern (Some x) s same = ap (λ is. x.0 ∷ is) (same (stays_in g x.0) x.1 s)
 
-all_items : (n m : ℕ) (pattern : List ℕ) → length pattern ≤ n → length pattern ≤ m → items_to n pattern ≡ items_to m pattern
-all_items zero zero pattern hn hm = refl
-all_items zero (suc m) [] hn hm = refl
-all_items zero (suc m) (c ∷ pattern) hn hm = absurd (omega (arith, hn))
-all_items (suc n) zero [] hn hm = refl
-all_items (suc n) zero (c ∷ pattern) hn hm = absurd (omega (arith, hm))
-all_items (suc n) (suc m) pattern hn hm =
-    from_each n m pattern (first_item pattern) (shorter pattern) (λ rest less. all_items n m rest (omega (arith, hn, less)) (omega (arith, hm, less)))
+all_items : (n m : ℕ) (g : Bool) (pattern : List ℕ) → length pattern ≤ n → length pattern ≤ m → items_to n g pattern ≡ items_to m g pattern
+all_items zero zero g pattern hn hm = refl
+all_items zero (suc m) g [] hn hm = refl
+all_items zero (suc m) g (c ∷ pattern) hn hm = absurd (omega (arith, hn))
+all_items (suc n) zero g [] hn hm = refl
+all_items (suc n) zero g (c ∷ pattern) hn hm = absurd (omega (arith, hm))
+all_items (suc n) (suc m) g pattern hn hm =
+    from_each n m g pattern (first_item g pattern) (shorter g pattern) (λ h rest less. all_items n m h rest (omega (arith, hn, less)) (omega (arith, hm, less)))
 
-rest_each : (n m : ℕ) (pattern : List ℕ) (r : Reading) → IsShorter pattern r → ((rest : List ℕ) → length rest < length pattern → left_to n rest ≡ left_to m rest)
-    → option_map_or (λ x. left_to n x.1) r pattern ≡ option_map_or (λ x. left_to m x.1) r pattern
-rest_each n m pattern None s same = refl
-rest_each n m pattern (Some x) s same = same x.1 s
+rest_each : (n m : ℕ) (g : Bool) (pattern : List ℕ) (r : Reading) → IsShorter pattern r → ((h : Bool) (rest : List ℕ) → length rest < length pattern → left_to n h rest ≡ left_to m h rest)
+    → option_map_or (λ x. left_to n (stays_in g x.0) x.1) r (unread g pattern) ≡ option_map_or (λ x. left_to m (stays_in g x.0) x.1) r (unread g pattern)
+rest_each n m g pattern None s same = refl
+rest_each n m g pattern (Some x) s same = same (stays_in g x.0) x.1 s
 
-all_left : (n m : ℕ) (pattern : List ℕ) → length pattern ≤ n → length pattern ≤ m → left_to n pattern ≡ left_to m pattern
-all_left zero zero pattern hn hm = refl
-all_left zero (suc m) [] hn hm = refl
-all_left zero (suc m) (c ∷ pattern) hn hm = absurd (omega (arith, hn))
-all_left (suc n) zero [] hn hm = refl
-all_left (suc n) zero (c ∷ pattern) hn hm = absurd (omega (arith, hm))
-all_left (suc n) (suc m) pattern hn hm =
-    rest_each n m pattern (first_item pattern) (shorter pattern) (λ rest less. all_left n m rest (omega (arith, hn, less)) (omega (arith, hm, less)))
+all_left : (n m : ℕ) (g : Bool) (pattern : List ℕ) → length pattern ≤ n → length pattern ≤ m → left_to n g pattern ≡ left_to m g pattern
+all_left zero zero g pattern hn hm = refl
+all_left zero (suc m) g [] hn hm = refl
+all_left zero (suc m) g (c ∷ pattern) hn hm = absurd (omega (arith, hn))
+all_left (suc n) zero g [] hn hm = refl
+all_left (suc n) zero g (c ∷ pattern) hn hm = absurd (omega (arith, hm))
+all_left (suc n) (suc m) g pattern hn hm =
+    rest_each n m g pattern (first_item g pattern) (shorter g pattern) (λ h rest less. all_left n m h rest (omega (arith, hn, less)) (omega (arith, hm, less)))
 
 -- one item, and those of the rest
-pub items_more : (pattern rest : List ℕ) (i : Item) → first_item pattern ≡ Some (i, rest) → items pattern ≡ i ∷ items rest
-items_more [] rest i is = absurd (subst is_none is tt)
-items_more (c ∷ pattern) rest i is =
-    let less : length rest < length (c ∷ pattern) = subst (IsShorter (c ∷ pattern)) is (shorter (c ∷ pattern)) in
+pub items_more : (in_group : Bool) (pattern rest : List ℕ) (i : Item) → first_item in_group pattern ≡ Some (i, rest) → items_in in_group pattern ≡ i ∷ items_in (stays_in in_group i) rest
+items_more g [] rest i is = absurd (subst is_none is tt)
+items_more g (c ∷ pattern) rest i is =
+    let less : length rest < length (c ∷ pattern) = subst (IsShorter (c ∷ pattern)) is (shorter g (c ∷ pattern)) in
     let n = length pattern in
-    ap (λ r. option_map_or (λ x. x.0 ∷ items_to n x.1) r []) is ∙ ap (λ is. i ∷ is) (all_items n (length rest) rest (omega (arith, less)) (omega arith))
+    ap (λ r. option_map_or (λ x. x.0 ∷ items_to n (stays_in g x.0) x.1) r []) is
+    ∙ ap (λ is. i ∷ is) (all_items n (length rest) (stays_in g i) rest (omega (arith, less)) (omega arith))
 
-pub left_more : (pattern rest : List ℕ) (i : Item) → first_item pattern ≡ Some (i, rest) → no_item pattern ≡ no_item rest
-left_more [] rest i is = absurd (subst is_none is tt)
-left_more (c ∷ pattern) rest i is =
-    let less : length rest < length (c ∷ pattern) = subst (IsShorter (c ∷ pattern)) is (shorter (c ∷ pattern)) in
+pub left_more : (in_group : Bool) (pattern rest : List ℕ) (i : Item) → first_item in_group pattern ≡ Some (i, rest) → no_item_in in_group pattern ≡ no_item_in (stays_in in_group i) rest
+left_more g [] rest i is = absurd (subst is_none is tt)
+left_more g (c ∷ pattern) rest i is =
+    let less : length rest < length (c ∷ pattern) = subst (IsShorter (c ∷ pattern)) is (shorter g (c ∷ pattern)) in
     let n = length pattern in
-    ap (λ r. option_map_or (λ x. left_to n x.1) r (c ∷ pattern)) is ∙ all_left n (length rest) rest (omega (arith, less)) (omega arith)
+    ap (λ r. option_map_or (λ x. left_to n (stays_in g x.0) x.1) r (unread g (c ∷ pattern))) is ∙ all_left n (length rest) (stays_in g i) rest (omega (arith, less)) (omega arith)

@@ -11,6 +11,7 @@ mod GlobTextLemmas
 mod WordLemmas
 mod WantedLemmas
 mod CaseLemmas
+mod GroupLemmas
 mod CharLemmas
 mod TableLemmas
 mod PlaceLemmas

@@ -1,5 +1,5 @@
 -- Marks of places among the items of a pattern.
-use Rattle.std.proofs.Common.{◌≡◌, ◌≢◌, ◌≤◌, ◌<◌, ◌+◌, ◌*◌, ◌%◌, ◌^◌, ◌∷◌, ◌⊎◌, inl, inr, ℕ, zero, suc, List, [], length, drop, min, max, refl, sym, ap, ◌∙◌, arith, Bool, true, false, w64}
+use Rattle.std.proofs.Common.{◌≡◌, ◌≢◌, ◌≤◌, ◌<◌, ◌+◌, ◌*◌, ◌%◌, ◌^◌, ◌∷◌, ◌⊎◌, inl, inr, ℕ, zero, suc, List, [], length, drop, get_or, set, min, max, refl, sym, ap, ◌∙◌, arith, Bool, true, false, w64}
 use Rattle.std.specs.Prelude.{◌==◌, ◌&&◌, ◌||◌, if◌then◌else◌, slice_index, slice_set}
 use Rattle.std.specs.Int.{bit_at, bit_not, trailing_zeros}
 use Rattle.std.specs.Int.Bits.{bit_or, bit_and}
@@ -7,10 +7,12 @@ use Rattle.std.proofs.lemmas.Bool.{cases_lt, cases_eq}
 use Rattle.std.proofs.lemmas.List.{get_or-set_same, get_or-set_other}
 use Rattle.std.proofs.lemmas.Nat.{and_le_l}
 use Rattle.std.proofs.lemmas.Nat.Bits.{bit_at-zero, bit_at-lt, bit_at_or, bit_at_and, bit_at_above, bit_at_clear_same, bit_at_clear_other, bit_at-trailing_zeros}
-use Rattle.zerotrie_search.specs.Globs.{takes, matches, Item, many, any, one, class}
-use Rattle.zerotrie_search.specs.GlobMasks.{is_many, after, after_first, takes_on, any_match, star_at, taken_at, AreStars, AreTakers}
+use Rattle.zerotrie_search.specs.Globs.{takes, matches, others, behind, Item, many, any, one, class, group, comma, end}
+use Rattle.zerotrie_search.specs.GlobMasks.{role_of, after, after_first, takes_on, any_match, role_at, taken_at, AreRoles, AreTakers}
 use Rattle.zerotrie_search.specs.GlobTables.{AreMasks}
 use Rattle.zerotrie_search.specs.declared.glob.masks.Masks.{Masks}
+use Rattle.zerotrie_search.specs.declared.glob.pattern.Role.{Role}
+use Rattle.zerotrie_search.specs.declared.glob.pattern.Role.TheVariants.{Many, Group, Comma, End, Letter}
 use Rattle.zerotrie_search.proofs.GlobLemmas.{or_three}
 
 or_end : (x : Bool) → (x || false) ≡ x
@@ -246,66 +248,101 @@ bit_more f all more i p marks at so_far none new is at_item at_bit other q h = b
 pub bits_none : (p marks new : ℕ) → ((q : ℕ) → p ≤ q → bit_at marks q ≡ 0) → ((j : ℕ) → j ≢ p → bit_at new j ≡ bit_at marks j) → (q : ℕ) → p + 1 ≤ q → bit_at new q ≡ 0
 bits_none p marks new none other q h = other q (λ e. omega (arith, e, h)) ∙ none q (omega (arith, h))
 
--- an item with what is after it
-star_matches : (is : List Item) (key : List ℕ) → matches (many ∷ is) key ≡ (matches is key || takes_on (many ∷ is) key)
-star_matches is [] = sym (or_end (matches is []))
-star_matches is (b ∷ key) = refl
+-- what matches from an item on, by its role
+abbrev all_from : Role → (all others behind taken : Bool) → Bool
+all_from Many a o b t = a || t
+all_from Group a o b t = a || o
+all_from Comma a o b t = b
+all_from End a o b t = a
+all_from Letter a o b t = t
 
-other_matches : (i : Item) (is : List Item) (key : List ℕ) → is_many i ≡ false → takes_on (i ∷ is) key ≡ matches (i ∷ is) key
-other_matches many is key plain = absurd (cc)
-other_matches any is [] plain = refl
-other_matches any is (b ∷ key) plain = refl
-other_matches (one c) is [] plain = refl
-other_matches (one c) is (b ∷ key) plain = refl
-other_matches (class n ls) is [] plain = refl
-other_matches (class n ls) is (b ∷ key) plain = refl
+abbrev others_from : Role → (all others : Bool) → Bool
+others_from Comma a o = a || o
+others_from End a o = false
+others_from role a o = o
 
-other_after : (i : Item) (is : List Item) (key : List ℕ) → is_many i ≡ false → matches is key ≡ after i is key
-other_after many is key plain = absurd (cc)
-other_after any is key plain = refl
-other_after (one c) is key plain = refl
-other_after (class n ls) is key plain = refl
+abbrev behind_from : Role → (all behind : Bool) → Bool
+behind_from End a b = a
+behind_from role a b = b
 
-star_after : (i : Item) (is : List Item) (key : List ℕ) → is_many i ≡ true → (matches is key || takes_on (i ∷ is) key) ≡ matches (i ∷ is) key
-star_after many is key star = sym (star_matches is key)
-star_after any is key star = absurd (cc)
-star_after (one c) is key star = absurd (cc)
-star_after (class n ls) is key star = absurd (cc)
+abbrev after_from : Role → (all more : Bool) → Bool
+after_from Many a m = a
+after_from role a m = m
 
-same_after : (i : Item) (is : List Item) (key : List ℕ) → is_many i ≡ true → matches (i ∷ is) key ≡ after i is key
-same_after many is key star = refl
-same_after any is key star = absurd (cc)
-same_after (one c) is key star = absurd (cc)
-same_after (class n ls) is key star = absurd (cc)
+all_is : (i : Item) (is : List Item) (key : List ℕ) → all_from (role_of i) (matches is key) (others is key) (behind is key) (takes_on (i ∷ is) key) ≡ matches (i ∷ is) key
+all_is many is [] = or_end (matches is [])
+all_is many is (b ∷ key) = refl
+all_is any is [] = refl
+all_is any is (b ∷ key) = refl
+all_is (one c) is [] = refl
+all_is (one c) is (b ∷ key) = refl
+all_is (class n ls) is [] = refl
+all_is (class n ls) is (b ∷ key) = refl
+all_is group is key = refl
+all_is comma is key = refl
+all_is end is key = refl
 
--- the places that are reached before and after an item
-module _ (p next here : ℕ) (i : Item) (all : List Item) (key : List ℕ) (at : drop p all ≡ i ∷ drop (p + 1) all) (set : bit_at here p ≡ 1) where
-  marked_on : (old : ℕ) → ((j : ℕ) → j ≢ p → bit_at here j ≡ bit_at old j) → any_match here 0 all key ≡ (any_match old 0 all key || takes_on (i ∷ drop (p + 1) all) key)
-  marked_on old other =
-      let less = (drop_one p all i (drop (p + 1) all) at).0 in
-      let zero_on : 0 + p ≡ p = omega arith in
-      one_mark old here 0 p all key (omega (arith, less)) (ap (bit_at here) zero_on ∙ set) (λ j ne. other j (λ e. ne (e ∙ sym zero_on)))
-      ∙ ap (λ is. any_match old 0 all key || takes_on is key) at
+others_is : (i : Item) (is : List Item) (key : List ℕ) → others_from (role_of i) (matches is key) (others is key) ≡ others (i ∷ is) key
+others_is many is key = refl
+others_is any is key = refl
+others_is (one c) is key = refl
+others_is (class n ls) is key = refl
+others_is group is key = refl
+others_is comma is key = refl
+others_is end is key = refl
 
-  pub star_leads : is_many i ≡ true → ((j : ℕ) → j ≢ p → bit_at here j ≡ bit_at next j) → any_match next 0 all key ≡ matches (drop (p + 1) all) key → any_match here 0 all key ≡ matches (i ∷ drop (p + 1) all) key
-  star_leads star other so_far = marked_on next other ∙ ap (λ x. x || takes_on (i ∷ drop (p + 1) all) key) so_far ∙ star_after i (drop (p + 1) all) key star
+behind_is : (i : Item) (is : List Item) (key : List ℕ) → behind_from (role_of i) (matches is key) (behind is key) ≡ behind (i ∷ is) key
+behind_is many is key = refl
+behind_is any is key = refl
+behind_is (one c) is key = refl
+behind_is (class n ls) is key = refl
+behind_is group is key = refl
+behind_is comma is key = refl
+behind_is end is key = refl
 
-  pub star_goes_on : is_many i ≡ true → ((j : ℕ) → j ≢ p → bit_at here j ≡ bit_at next j) → any_match next 0 all key ≡ matches (drop (p + 1) all) key → any_match here 0 all key ≡ after i (drop (p + 1) all) key
-  star_goes_on star other so_far = star_leads star other so_far ∙ same_after i (drop (p + 1) all) key star
+after_is : (i : Item) (is : List Item) (key : List ℕ) → after_from (role_of i) (matches (i ∷ is) key) (matches is key) ≡ after i is key
+after_is many is key = refl
+after_is any is key = refl
+after_is (one c) is key = refl
+after_is (class n ls) is key = refl
+after_is group is key = refl
+after_is comma is key = refl
+after_is end is key = refl
 
-  pub other_leads : is_many i ≡ false → ((j : ℕ) → j ≢ p → bit_at here j ≡ bit_at 0 j) → any_match here 0 all key ≡ matches (i ∷ drop (p + 1) all) key
-  other_leads plain other = marked_on 0 other ∙ ap (λ x. x || takes_on (i ∷ drop (p + 1) all) key) (no_marks 0 all key) ∙ other_matches i (drop (p + 1) all) key plain
+pub all_by : (role : Role) (i : Item) (is : List Item) (key : List ℕ) → role_of i ≡ role → all_from role (matches is key) (others is key) (behind is key) (takes_on (i ∷ is) key) ≡ matches (i ∷ is) key
+all_by role i is key e = ap (λ r. all_from r (matches is key) (others is key) (behind is key) (takes_on (i ∷ is) key)) (sym e) ∙ all_is i is key
 
-pub other_goes_on : (next : ℕ) (i : Item) (all more : List Item) (key : List ℕ) → is_many i ≡ false → any_match next 0 all key ≡ matches more key → any_match next 0 all key ≡ after i more key
-other_goes_on next i all more key plain so_far = so_far ∙ other_after i more key plain
+pub others_by : (role : Role) (i : Item) (is : List Item) (key : List ℕ) → role_of i ≡ role → others_from role (matches is key) (others is key) ≡ others (i ∷ is) key
+others_by role i is key e = ap (λ r. others_from r (matches is key) (others is key)) (sym e) ∙ others_is i is key
 
--- the places of all items so far
-pub star_known : (p stars : ℕ) (all : List Item) (i : Item) (is_star : Bool) → p < length all → AreStars all stars → drop p all ≡ i ∷ drop (p + 1) all → is_star ≡ (bit_at stars p == 1) → is_many i ≡ is_star
-star_known p stars all i is_star h are at is = sym (is ∙ ap (λ n. n == 1) (are p h ∙ ap star_at at) ∙ by_case (is_many i))
+pub behind_by : (role : Role) (i : Item) (is : List Item) (key : List ℕ) → role_of i ≡ role → behind_from role (matches is key) (behind is key) ≡ behind (i ∷ is) key
+behind_by role i is key e = ap (λ r. behind_from r (matches is key) (behind is key)) (sym e) ∙ behind_is i is key
+
+pub after_by : (role : Role) (i : Item) (is : List Item) (key : List ℕ) → role_of i ≡ role → after_from role (matches (i ∷ is) key) (matches is key) ≡ after i is key
+after_by role i is key e = ap (λ r. after_from r (matches (i ∷ is) key) (matches is key)) (sym e) ∙ after_is i is key
+
+-- one more place, where an item is
+pub marked_on : (p old here : ℕ) (i : Item) (all more : List Item) (key : List ℕ) → drop p all ≡ i ∷ more → bit_at here p ≡ 1 → ((j : ℕ) → j ≢ p → bit_at here j ≡ bit_at old j)
+    → any_match here 0 all key ≡ (any_match old 0 all key || takes_on (i ∷ more) key)
+marked_on p old here i all more key at set other =
+    let less = (drop_one p all i more at).0 in
+    let zero_on : 0 + p ≡ p = omega arith in
+    one_mark old here 0 p all key (omega (arith, less)) (ap (bit_at here) zero_on ∙ set) (λ j ne. other j (λ e. ne (e ∙ sym zero_on)))
+    ∙ ap (λ is. any_match old 0 all key || takes_on is key) at
+
+-- the roles of all items so far
+pub role_known : (p : ℕ) (roles : List Role) (all : List Item) (i : Item) → p < length all → AreRoles all roles → drop p all ≡ i ∷ drop (p + 1) all → role_of i ≡ get_or roles p Letter
+role_known p roles all i h are at = sym (are p h ∙ ap role_at at)
+
+pub role_more : (all more : List Item) (i : Item) (p : ℕ) (roles : List Role) (role : Role) → drop p all ≡ i ∷ more → p < length roles → role_of i ≡ role
+    → ((q : ℕ) → q < p → get_or roles q Letter ≡ role_at (drop q all)) → (q : ℕ) → q < p + 1 → get_or (set roles p role) q Letter ≡ role_at (drop q all)
+role_more all more i p roles role at inside is so_far q h = by_case (cases_lt q p)
   where
-    by_case : (m : Bool) → (if◌then◌else◌ {A = ℕ} m 1 0 == 1) ≡ m
-    by_case true = refl
-    by_case false = refl
+    by_case : (q < p) ⊎ (p ≤ q) → get_or (set roles p role) q Letter ≡ role_at (drop q all)
+    by_case (inl low) = get_or-set_other roles p q role Letter (λ e. omega (arith, e, low)) ∙ so_far q low
+    by_case (inr high) =
+        let e : q ≡ p = omega (arith, h, high) in
+        ap (λ k. get_or (set roles p role) k Letter) e ∙ get_or-set_same roles p role Letter inside ∙ sym is ∙ ap role_at (sym at) ∙ ap (λ k. role_at (drop k all)) (sym e)
 
 -- nothing stands past the end
 drop_past : (n : ℕ) (xs : List Item) → length xs ≤ n → drop n xs ≡ []
@@ -334,6 +371,12 @@ last_match last all key here is set other =
 
     at_end : (is : List Item) → is ≡ [] → takes_on is key ≡ matches is key
     at_end is e = ap (λ xs. takes_on xs key) e ∙ empty key ∙ ap (λ xs. matches xs key) (sym e)
+
+pub none_other : (last : ℕ) (all : List Item) (key : List ℕ) → length all ≡ last → any_match 0 0 all key ≡ others (drop last all) key
+none_other last all key is = no_marks 0 all key ∙ ap (λ xs. others xs key) (sym (drop_past last all (omega (arith, is))))
+
+pub none_behind : (last : ℕ) (all : List Item) (key : List ℕ) → length all ≡ last → any_match 0 0 all key ≡ behind (drop last all) key
+none_behind last all key is = no_marks 0 all key ∙ ap (λ xs. behind xs key) (sym (drop_past last all (omega (arith, is))))
 
 -- one more place
 pub more_takers : (all : List Item) (takers : List ℕ) (b new : ℕ) → b < length takers → AreTakers all b new → ((c : ℕ) → c < b → AreTakers all c (slice_index takers c))

@@ -1,11 +1,13 @@
 -- Patterns as masks: a bit for each item, and one for the end.
-use Rattle.std.specs.Prelude.{◌≡◌, ◌<◌, ℕ, List, [], ◌∷◌, ◌==◌, ◌&&◌, ◌||◌, not, length, drop, nat_le, slice_index, Bool, true, false, Option, Some, None, if◌then◌else◌}
+use Rattle.std.specs.Prelude.{◌≡◌, ◌<◌, ℕ, List, [], ◌∷◌, ◌==◌, ◌&&◌, ◌||◌, not, length, drop, get_or, nat_le, slice_index, Bool, true, false, Option, Some, None, if◌then◌else◌}
 use Rattle.std.specs.Char.{to_ascii_lowercase, to_ascii_uppercase}
 use Rattle.std.specs.Int.{bit_at}
 use Rattle.std.specs.Str.{chars}
 use Rattle.std.proofs.Common.{suc}
 use Rattle.zerotrie_search.specs.Globs as glob
 use Rattle.zerotrie_search.specs.Globs.{Item, Class, matches, rises, has, is_within, takes}
+use Rattle.zerotrie_search.specs.declared.glob.pattern.Role.{Role}
+use Rattle.zerotrie_search.specs.declared.glob.pattern.Role.TheVariants.{Many, Group, Comma, End, Letter}
 use Rattle.zerotrie_search.specs.declared.glob.pattern.Text.{Text}
 use Rattle.zerotrie_search.specs.declared.glob.pattern.Text.TheVariants.{Bytes, Chars}
 
@@ -42,10 +44,13 @@ abbrev pub or_found : Bool → Option (Bool × List ℕ) → Option (Bool × Lis
 or_found found None = None
 or_found found (Some r) = Some (found || r.0, r.1)
 
--- whether an item is a star
-abbrev pub is_many : Item → Bool
-is_many glob.many = true
-is_many i = false
+-- the role of an item
+abbrev pub role_of : Item → Role
+role_of glob.many = Many
+role_of glob.group = Group
+role_of glob.comma = Comma
+role_of glob.end = End
+role_of i = Letter
 
 -- whether an item takes a letter that has these cases
 abbrev pub takes_one : Item → ℕ × ℕ → Bool
@@ -53,11 +58,16 @@ takes_one glob.many l = true
 takes_one glob.any l = true
 takes_one (glob.one c) l = has_one (λ b. c == b) l
 takes_one (glob.class negated set) l = if negated then not (has_one set l) else has_one set l
+takes_one i l = false
 
--- whether the first item is a star; whether it takes such a letter, and what is left after it
-abbrev pub read : ℕ × ℕ → glob.Reading → Option ((Bool × Bool) × List ℕ)
+-- the role of an item, and whether it takes such a letter
+abbrev pub beside : ℕ × ℕ → Item → Role × Bool
+beside l i = (role_of i, takes_one i l)
+
+-- the same of the first item, and what is left after it
+abbrev pub read : ℕ × ℕ → glob.Reading → Option ((Role × Bool) × List ℕ)
 read l None = None
-read l (Some r) = Some ((is_many r.0, takes_one r.0 l), r.1)
+read l (Some r) = Some (beside l r.0, r.1)
 
 -- what has to match after an item took a letter: a star may take more
 abbrev pub after : Item → List Item → List ℕ → Bool
@@ -83,19 +93,19 @@ any_match marks place [] key = (bit_at marks place == 1) && takes_on [] key
 any_match marks place (i ∷ more) key =
     ((bit_at marks place == 1) && takes_on (i ∷ more) key) || any_match marks (suc place) more key
 
--- 1 if the first item is a star
-abbrev pub star_at : List Item → ℕ
-star_at [] = 0
-star_at (i ∷ more) = if is_many i then 1 else 0
+-- the role of the first item
+abbrev pub role_at : List Item → Role
+role_at [] = Letter
+role_at (i ∷ more) = role_of i
 
 -- 1 if the first item takes the letter
 abbrev pub taken_at : List Item → ℕ → ℕ
 taken_at [] b = 0
 taken_at (i ∷ more) b = if takes i b then 1 else 0
 
--- the mask has the items that are stars
-abbrev pub AreStars : List Item → ℕ → Type 0
-AreStars items mask = (place : ℕ) → place < length items → bit_at mask place ≡ star_at (drop place items)
+-- the roles are those of the items
+abbrev pub AreRoles : List Item → List Role → Type 0
+AreRoles items roles = (place : ℕ) → place < length items → get_or roles place Letter ≡ role_at (drop place items)
 
 -- the mask has the items that take a letter
 abbrev pub AreTakers : List Item → ℕ → ℕ → Type 0

@@ -1,7 +1,7 @@
 -- Patterns: their items, and the keys that they match.
 use Rattle.std.specs.Prelude.{ℕ, List, [], ◌∷◌, ◌==◌, ◌&&◌, ◌||◌, not, length, map, nat_le, Bool, true, false, Option, Some, None, if◌then◌else◌}
 use Rattle.std.specs.Char.{to_ascii_lowercase, to_ascii_uppercase}
-use Rattle.std.specs.Option.{option_map_or}
+use Rattle.std.specs.Option.{option_map, option_map_or}
 use Rattle.std.specs.Str.{chars, is_utf8}
 use Rattle.std.proofs.Common.{zero, suc}
 
@@ -49,12 +49,16 @@ rises (from ∷ dash ∷ to ∷ more) =
     else rises (dash ∷ to ∷ more)
 
 -- An item of a pattern: any number of letters, any one letter, one letter, or a letter of a class, or
--- if it is negated one that is not of it. A letter is a byte, or a character.
+-- if it is negated one that is not of it. A letter is a byte, or a character. A group of alternatives
+-- has an item where it begins, one between two alternatives, and one where it ends.
 pub data Item : Type 0 where
   many : Item
   any : Item
   one : ℕ → Item
   class : Bool → (ℕ → Bool) → Item
+  group : Item
+  comma : Item
+  end : Item
 
 -- an item, and what is left of the pattern after it
 abbrev pub Reading : Type 0
@@ -76,33 +80,62 @@ abbrev pub escaped : List ℕ → Reading
 escaped [] = None
 escaped (c ∷ pattern) = Some (one c, pattern)
 
--- the first item of a pattern
-abbrev pub first_item : List ℕ → Reading
-first_item [] = None
-first_item (c ∷ pattern) =
-    if c == 42 then Some (many, pattern)
-    else if c == 63 then Some (any, pattern)
-    else if c == 92 then escaped pattern
+-- the item that a letter is in a group or outside of one, if it is neither a backslash nor an opening
+-- bracket: no group begins in a group, and none ends outside of one
+abbrev pub item_of : (in_group : Bool) → ℕ → Option Item
+item_of in_group c =
+    if c == 42 then Some many
+    else if c == 63 then Some any
+    else if c == 123 then (if in_group then None else Some group)
+    else if c == 125 then (if in_group then Some end else None)
+    else if (c == 44) && in_group then Some comma
+    else Some (one c)
+
+-- the first item of a pattern, or of what is left of it in a group
+abbrev pub first_item : (in_group : Bool) → List ℕ → Reading
+first_item in_group [] = None
+first_item in_group (c ∷ pattern) =
+    if c == 92 then escaped pattern
     else if c == 91 then opened pattern
-    else Some (one c, pattern)
+    else option_map (λ i. (i, pattern)) (item_of in_group c)
 
--- the first n items of a pattern, or all of them if there are fewer
-abbrev pub items_to : ℕ → List ℕ → List Item
-items_to zero pattern = []
-items_to (suc n) pattern = option_map_or (λ r. r.0 ∷ items_to n r.1) (first_item pattern) []
+-- whether what is behind an item is in a group
+abbrev pub stays_in : (in_group : Bool) → Item → Bool
+stays_in in_group group = true
+stays_in in_group end = false
+stays_in in_group i = in_group
 
--- what is left of a pattern after its first n items, or where no item begins
-abbrev pub left_to : ℕ → List ℕ → List ℕ
-left_to zero pattern = pattern
-left_to (suc n) pattern = option_map_or (λ r. left_to n r.1) (first_item pattern) pattern
+-- the first n items, or all of them if there are fewer
+abbrev pub items_to : ℕ → (in_group : Bool) → List ℕ → List Item
+items_to zero in_group pattern = []
+items_to (suc n) in_group pattern =
+    option_map_or (λ r. r.0 ∷ items_to n (stays_in in_group r.0) r.1) (first_item in_group pattern) []
 
--- the items of a pattern, as each has at least one letter
+-- what is not read: in a group, which has no end then, its brace as well
+abbrev pub unread : (in_group : Bool) → List ℕ → List ℕ
+unread in_group pattern = if in_group then 123 ∷ pattern else pattern
+
+-- what is not read after the first n items, or where no item begins
+abbrev pub left_to : ℕ → (in_group : Bool) → List ℕ → List ℕ
+left_to zero in_group pattern = unread in_group pattern
+left_to (suc n) in_group pattern =
+    option_map_or (λ r. left_to n (stays_in in_group r.0) r.1) (first_item in_group pattern) (unread in_group pattern)
+
+-- the items of what is left of a pattern, as each has at least one letter
+abbrev pub items_in : (in_group : Bool) → List ℕ → List Item
+items_in in_group pattern = items_to (length pattern) in_group pattern
+
+-- what is not read where no item begins
+abbrev pub no_item_in : (in_group : Bool) → List ℕ → List ℕ
+no_item_in in_group pattern = left_to (length pattern) in_group pattern
+
+-- the items of a pattern
 abbrev pub items : List ℕ → List Item
-items pattern = items_to (length pattern) pattern
+items pattern = items_in false pattern
 
--- what is left of a pattern where no item begins
+-- what is left of a pattern where no item begins: of a group without its end at least its brace
 abbrev pub no_item : List ℕ → List ℕ
-no_item pattern = left_to (length pattern) pattern
+no_item pattern = no_item_in false pattern
 
 -- whether an item may take a letter
 abbrev pub takes : Item → ℕ → Bool
@@ -110,6 +143,7 @@ takes many b = true
 takes any b = true
 takes (one c) b = c == b
 takes (class negated set) b = if negated then not (set b) else set b
+takes i b = false
 
 -- whether a set has a letter in either case
 abbrev pub has_either : (ℕ → Bool) → ℕ → Bool
@@ -121,18 +155,37 @@ in_any_case many = many
 in_any_case any = any
 in_any_case (one c) = class false (has_either (λ b. c == b))
 in_any_case (class negated set) = class negated (has_either set)
+in_any_case i = i
 
 abbrev pub cased : (any_case : Bool) → List Item → List Item
 cased any_case items = if any_case then map in_any_case items else items
 
--- whether items match a key
-abbrev pub matches : List Item → List ℕ → Bool
-matches [] [] = true
-matches [] (b ∷ key) = false
-matches (many ∷ more) [] = matches more []
-matches (many ∷ more) (b ∷ key) = matches more (b ∷ key) || matches (many ∷ more) key
-matches (i ∷ more) [] = false
-matches (i ∷ more) (b ∷ key) = takes i b && matches more key
+abbrev mutual
+  -- Whether items match a key. Where a group begins, one of its alternatives has to match, and then what
+  -- is behind the group: the comma that ends an alternative passes over those to the right.
+  pub matches : List Item → List ℕ → Bool
+  matches [] [] = true
+  matches [] (b ∷ key) = false
+  matches (many ∷ more) [] = matches more []
+  matches (many ∷ more) (b ∷ key) = matches more (b ∷ key) || matches (many ∷ more) key
+  matches (group ∷ more) key = matches more key || others more key
+  matches (comma ∷ more) key = behind more key
+  matches (end ∷ more) key = matches more key
+  matches (i ∷ more) [] = false
+  matches (i ∷ more) (b ∷ key) = takes i b && matches more key
+
+  -- whether one of the alternatives behind the commas of a group matches
+  pub others : List Item → List ℕ → Bool
+  others [] key = false
+  others (comma ∷ more) key = matches more key || others more key
+  others (end ∷ more) key = false
+  others (i ∷ more) key = others more key
+
+  -- whether what is behind the end of a group matches
+  pub behind : List Item → List ℕ → Bool
+  behind [] key = false
+  behind (end ∷ more) key = matches more key
+  behind (i ∷ more) key = behind more key
 
 -- whether a key is text, and items match its characters
 abbrev pub matches_text : List Item → List ℕ → Bool

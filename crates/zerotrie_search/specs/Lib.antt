@@ -8,8 +8,10 @@ pub mod Searches
 pub mod OtherKeys
 pub mod Globs
 pub mod GlobMasks
+pub mod GlobAheads
 pub mod GlobTables
 pub mod GlobTexts
+pub mod GlobLaws
 pub mod Words
 pub mod Rows
 pub mod Automata

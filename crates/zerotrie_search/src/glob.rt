@@ -24,11 +24,12 @@ use zerotrie_core::ByteSet;
 /// Why a pattern is an error.
 #[derive(Clone, Copy, Debug, PartialEq, Eq, Error)]
 pub enum GlobError {
-    /// A class has no end, no letter, or a range that ends before it begins, or a backslash at the
-    /// end escapes nothing.
+    /// A class has no end, no letter, or a range that ends before it begins, a group has no end or is
+    /// in another one, a brace ends no group, or a backslash at the end escapes nothing.
     #[error("the pattern is malformed")]
     Malformed,
-    /// The pattern has more items than `WORD_LIMIT`.
+    /// The pattern has more items than `WORD_LIMIT`. Each brace of a group is one, and so is each of its
+    /// commas.
     #[error("the pattern has more than {WORD_LIMIT} items")]
     TooLong,
 }
@@ -36,7 +37,7 @@ pub enum GlobError {
 /// Accepts the keys that a pattern matches, byte by byte.
 ///
 /// ```
-/// let automaton = Glob::new(b"[a-c]*.rt")?;
+/// let automaton = Glob::new(b"[a-c]*.{rt,antt}")?;
 /// let mut state = automaton.start();
 /// for byte in b"core.rt" {
 ///     state = automaton.step(state, *byte);
@@ -45,8 +46,9 @@ pub enum GlobError {
 /// ```
 ///
 /// `*` is any number of bytes, `?` is one byte, `[a-z_]` is one byte of the class, and `[!a-z_]` or
-/// `[^a-z_]` one that is not of it. A backslash takes the meaning of the byte after it, in a class
-/// too. All other bytes are themselves.
+/// `[^a-z_]` one that is not of it. `{rt,antt}` is one of the alternatives, each of which is a pattern
+/// without such a group, and may be empty. A backslash takes the meaning of the byte after it, in a
+/// class too. All other bytes are themselves.
 ///
 /// A state has a bit for each place in the pattern.
 #[derive(Clone, Copy)]
@@ -71,7 +73,9 @@ impl<'p> Glob<'p> {
     ///
     /// ```
     /// assert!(rt; Glob::new(b"[^aeiou]*").is_ok());
+    /// assert!(rt; Glob::new(b"{un,}like{ly,}").is_ok());
     /// assert!(rt; matches!(Glob::new(b"[z-a]"), Err(GlobError::Malformed)));
+    /// assert!(rt; matches!(Glob::new(b"{a,b"), Err(GlobError::Malformed)));
     /// ```
     pub fn new(pattern: &'p [u8]) -> Result<Self, GlobError>
         ensures ok { IfOk result (λ g. (g.pattern.now ≡ pattern.now) × (g.any_case ≡ false)

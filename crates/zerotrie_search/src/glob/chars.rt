@@ -21,7 +21,7 @@ use zerotrie_core::ByteSet;
 /// Accepts the keys that are text, and that a pattern matches, character by character.
 ///
 /// ```
-/// let automaton = GlobChars::new("caf[éè]?")?;
+/// let automaton = GlobChars::new("{caf[éè],thé}?")?;
 /// let mut state = automaton.start();
 /// for byte in "cafés".as_bytes() {
 ///     state = automaton.step(state, *byte);

@@ -4,12 +4,13 @@ ghost use Rattle.std.specs.Prelude.{◌≡◌, ◌≢◌, ◌≤◌, ◌<◌, �
 ghost use Rattle.std.specs.Int.{bit_at};
 ghost use Rattle.zerotrie_search.specs.Globs as glob;
 ghost use Rattle.zerotrie_search.specs.Globs.{cased, items, no_item, matches};
-ghost use Rattle.zerotrie_search.specs.GlobMasks.{letters_in, is_many, after, any_match, AreStars, AreTakers, AreFollowers};
+ghost use Rattle.zerotrie_search.specs.GlobMasks.{letters_in, role_of, after, any_match, AreRoles, AreTakers, AreFollowers};
+ghost use Rattle.zerotrie_search.specs.GlobAheads.{AreAhead};
 ghost use Rattle.zerotrie_search.specs.declared.TheConstants.{WORD_LIMIT};
 ghost use Rattle.zerotrie_search.specs.declared.glob.GlobError.TheVariants.{Malformed, TooLong};
 
 use super::GlobError;
-use super::pattern::{Text, cases, first_item};
+use super::pattern::{Role, Text, cases, first_item};
 use crate::WORD_LIMIT;
 
 /// The masks of a pattern.
@@ -26,6 +27,17 @@ pub(crate) struct Masks {
     ghost whole: { length takers ≡ 256 },
     ghost all: { length followers ≡ 64 },
     ghost few: { last ≤ WORD_LIMIT },
+}
+
+/// The places that may be next.
+#[derive(Clone, Copy, Debug)]
+struct Ahead {
+    /// Those that may be first of all items from a place on.
+    all: u64,
+    /// Those that may be first of the other alternatives of its group.
+    others: u64,
+    /// Those that may be first behind the end of its group.
+    behind: u64,
 }
 
 /// Returns the marks with one more.
@@ -46,28 +58,33 @@ fn marked_if(marks: u64, place: u32, is: bool) -> u64
     if is { marked(marks, place) } else { marks }
 }
 
-/// Returns the marks of the stars of a pattern, and the number of its items.
-fn stars_of(pattern: Text<'_>) -> Result<(u64, u32), GlobError>
-    ensures ok { IfOk result (λ r. AreStars (items (letters_in pattern.entry)) r.0
+/// Returns the roles of the items of a pattern, and their number.
+fn roles_of(pattern: Text<'_>) -> Result<([Role; 64], u32), GlobError>
+    ensures ok { IfOk result (λ r. AreRoles (items (letters_in pattern.entry)) r.0
         × (r.1 ≡ length (items (letters_in pattern.entry))) × (r.1 ≤ WORD_LIMIT)
-        × (no_item (letters_in pattern.entry) ≡ [])) }
+        × (length r.0 ≡ 64) × (no_item (letters_in pattern.entry) ≡ [])) }
     ensures malformed { IfErr result (λ e. e ≡ Malformed → no_item (letters_in pattern.entry) ≢ []) }
     ensures long { IfErr result (λ e. e ≡ TooLong
         → WORD_LIMIT < length (items (letters_in pattern.entry))) }
 {
     let mut left = pattern;
+    let mut in_group = false;
     let mut place: u32 = 0;
-    let mut stars: u64 = 0;
-    while let Some((item, rest)) = first_item(left, (0, 0)) {
+    let mut roles = [Role::Letter; 64];
+    while let Some((item, rest)) = first_item(left, in_group, (0, 0)) {
         if place as usize == WORD_LIMIT {
             return Err(GlobError::TooLong);
         }
-        stars = marked_if(stars, place, item.is_many);
+        roles[place as usize] = item.role;
         place += 1;
+        in_group = item.role.stays_in(in_group);
         left = rest;
     }
+    if in_group {
+        return Err(GlobError::Malformed);
+    }
     match left.first() {
-        None => Ok((stars, place)),
+        None => Ok((roles, place)),
         Some(_) => Err(GlobError::Malformed),
     }
 }
@@ -79,11 +96,13 @@ pub(crate) fn takers_of(pattern: Text<'_>, any_case: bool, letter: u32) -> u64
 {
     let letters = cases(any_case, letter);
     let mut left = pattern;
+    let mut in_group = false;
     let mut place: u32 = 0;
     let mut takers: u64 = 0;
-    while let Some((item, rest)) = first_item(left, letters) {
+    while let Some((item, rest)) = first_item(left, in_group, letters) {
         takers = marked_if(takers, place, item.takes);
         place += 1;
+        in_group = item.role.stays_in(in_group);
         left = rest;
     }
     takers
@@ -106,44 +125,85 @@ fn all_takers_of(pattern: Text<'_>, any_case: bool) -> [u64; 256]
     takers
 }
 
-/// Returns the places that may be next after an item, and those that may be first from it on. `next`
-/// has those after its place. A star leads to itself and to what follows it, and is passed over.
-fn leads_to(is_star: bool, place: u32, next: u64) -> (u64, u64)
+/// Returns the places ahead from an item on, by its role and the places ahead behind it.
+fn before(ahead: Ahead, role: Role, place: u32) -> Ahead
     requires { place < 64 }
     ensures { (i : glob.Item) (all : List glob.Item) (key : List ℕ)
-        → drop place all ≡ i ∷ drop (place + 1) all → is_many i ≡ is_star
-        → any_match next 0 all key ≡ matches (drop (place + 1) all) key
-        → (any_match result.0 0 all key ≡ after i (drop (place + 1) all) key)
-        × (any_match result.1 0 all key ≡ matches (i ∷ drop (place + 1) all) key) }
+        → drop place all ≡ i ∷ drop (place + 1) all → role_of i ≡ role
+        → AreAhead all (drop (place + 1) all) ahead key
+        → AreAhead all (i ∷ drop (place + 1) all) result key }
 {
-    if is_star {
-        let here = marked(next, place);
-        (here, here)
-    } else {
-        (next, marked(0, place))
+    let Ahead {
+        all,
+        others,
+        behind,
+    } = ahead;
+    match role {
+        Role::Many => Ahead {
+            all: marked(all, place),
+            others,
+            behind,
+        },
+        Role::Letter => Ahead {
+            all: marked(0, place),
+            others,
+            behind,
+        },
+        Role::Group => Ahead {
+            all: all | others,
+            others,
+            behind,
+        },
+        Role::Comma => Ahead {
+            all: behind,
+            others: all | others,
+            behind,
+        },
+        Role::End => Ahead {
+            all,
+            others: 0,
+            behind: all,
+        },
+    }
+}
+
+/// Returns the places that may be next after an item. A star leads to itself too.
+fn after(role: Role, ahead: Ahead, from: Ahead) -> u64
+    ensures { (i : glob.Item) (all more : List glob.Item) (key : List ℕ) → role_of i ≡ role
+        → AreAhead all more ahead key → AreAhead all (i ∷ more) from key
+        → any_match result 0 all key ≡ after i more key }
+{
+    match role {
+        Role::Many => from.all,
+        Role::Group | Role::Comma | Role::End | Role::Letter => ahead.all,
     }
 }
 
 /// Returns the places that may be next after each item, and those that may be first.
-fn followers_of(stars: u64, last: u32) -> ([u64; 64], u64)
-    requires { last ≤ WORD_LIMIT }
+fn followers_of(roles: [Role; 64], last: u32) -> ([u64; 64], u64)
+    requires few { last ≤ WORD_LIMIT }
+    requires whole { length roles ≡ 64 }
     ensures whole { length result.0 ≡ 64 }
-    ensures are { (all : List glob.Item) → length all ≡ last → AreStars all stars
+    ensures are { (all : List glob.Item) → length all ≡ last → AreRoles all roles
         → AreFollowers all result.0 }
-    ensures first { (all : List glob.Item) → length all ≡ last → AreStars all stars
+    ensures first { (all : List glob.Item) → length all ≡ last → AreRoles all roles
         → (key : List ℕ) → any_match result.1 0 all key ≡ matches all key }
 {
     let mut followers = [0; 64];
     let mut place = last;
-    let mut next = marked(0, last);
+    let mut ahead = Ahead {
+        all: marked(0, last),
+        others: 0,
+        behind: 0,
+    };
     while place > 0 {
         place -= 1;
-        let is_star = (stars >> place) & 1 == 1;
-        let (after, first) = leads_to(is_star, place, next);
-        followers[place as usize] = after;
-        next = first;
+        let role = roles[place as usize];
+        let from = before(ahead, role, place);
+        followers[place as usize] = after(role, ahead, from);
+        ahead = from;
     }
-    (followers, next)
+    (followers, ahead.all)
 }
 
 impl Masks {
@@ -159,8 +219,8 @@ impl Masks {
         ensures long { IfErr result (λ e. e ≡ TooLong
             → WORD_LIMIT < length (items (letters_in pattern.entry))) }
     {
-        let (stars, last) = stars_of(pattern)?;
-        let (followers, first) = followers_of(stars, last);
+        let (roles, last) = roles_of(pattern)?;
+        let (followers, first) = followers_of(roles, last);
         Ok(Masks {
             takers: all_takers_of(pattern, any_case),
             followers,

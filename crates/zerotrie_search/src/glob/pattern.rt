@@ -5,8 +5,8 @@ ghost use Rattle.std.specs.Char.{to_ascii_lowercase, to_ascii_uppercase};
 ghost use Rattle.std.specs.Option.{option_map};
 ghost use Rattle.std.specs.Str.{chars};
 ghost use Rattle.zerotrie_search.specs.Globs as glob;
-ghost use Rattle.zerotrie_search.specs.Globs.{class_at, is_within, with_letter};
-ghost use Rattle.zerotrie_search.specs.GlobMasks.{letters_in, cases, closing, class_has, add_range, has_one, read};
+ghost use Rattle.zerotrie_search.specs.Globs.{class_at, is_within, stays_in, with_letter};
+ghost use Rattle.zerotrie_search.specs.GlobMasks.{letters_in, cases, closing, class_has, add_range, has_one, beside, role_of, read};
 
 const ANY: u32 = b'?' as u32;
 
@@ -14,9 +14,15 @@ const CARET: u32 = b'^' as u32;
 
 const CLOSE: u32 = b']' as u32;
 
+const COMMA: u32 = b',' as u32;
+
 const DASH: u32 = b'-' as u32;
 
+const END: u32 = b'}' as u32;
+
 const ESCAPE: u32 = b'\\' as u32;
+
+const GROUP: u32 = b'{' as u32;
 
 const MANY: u32 = b'*' as u32;
 
@@ -109,11 +115,40 @@ fn has_case(from: u32, to: u32, cases: (u32, u32)) -> bool
     (from <= cases.0 && cases.0 <= to) || (from <= cases.1 && cases.1 <= to)
 }
 
+/// What an item of a pattern is.
+#[derive(Clone, Copy, Debug)]
+pub(crate) enum Role {
+    /// One letter.
+    Letter,
+    /// Any number of letters.
+    Many,
+    /// The beginning of a group.
+    Group,
+    /// What separates two alternatives of a group.
+    Comma,
+    /// The end of a group.
+    End,
+}
+
+impl Role {
+    /// Returns whether what is behind an item with this role is in a group. `in_group` says whether the
+    /// item is.
+    pub(crate) fn stays_in(self, in_group: bool) -> bool
+        ensures { (i : glob.Item) → role_of i ≡ self → result ≡ stays_in in_group i }
+    {
+        match self {
+            Role::Group => true,
+            Role::End => false,
+            Role::Many | Role::Comma | Role::Letter => in_group,
+        }
+    }
+}
+
 /// An item of a pattern, beside a letter.
 #[derive(Clone, Copy, Debug)]
 pub(crate) struct Item {
-    /// It is any number of letters.
-    pub(crate) is_many: bool,
+    /// What it is.
+    pub(crate) role: Role,
     /// It takes the letter.
     pub(crate) takes: bool,
 }
@@ -181,13 +216,13 @@ fn class_takes(text: Text<'_>, letter: (u32, u32)) -> Option<(bool, Text<'_>)>
 
 /// Returns a class beside the letter, and what is left of the pattern after it.
 fn class_item(text: Text<'_>, negated: bool, letter: (u32, u32)) -> Option<(Item, Text<'_>)>
-    ensures { option_map (λ r. ((r.0.is_many, r.0.takes), letters_in r.1)) result
+    ensures { option_map (λ r. ((r.0.role, r.0.takes), letters_in r.1)) result
         ≡ read letter (glob.class_of negated (class_at (letters_in text.entry))) }
 {
     let _first = class_letter(text)?;
     let (has, rest) = class_takes(text, letter)?;
     let item = Item {
-        is_many: false,
+        role: Role::Letter,
         takes: has != negated,
     };
     Some((item, rest))
@@ -196,7 +231,7 @@ fn class_item(text: Text<'_>, negated: bool, letter: (u32, u32)) -> Option<(Item
 /// Returns the class behind an opening bracket, beside the letter, and what is left of the pattern
 /// after it.
 fn opened(text: Text<'_>, letter: (u32, u32)) -> Option<(Item, Text<'_>)>
-    ensures { option_map (λ r. ((r.0.is_many, r.0.takes), letters_in r.1)) result
+    ensures { option_map (λ r. ((r.0.role, r.0.takes), letters_in r.1)) result
         ≡ read letter (glob.opened (letters_in text.entry)) }
 {
     let (first, rest) = text.first()?;
@@ -207,24 +242,62 @@ fn opened(text: Text<'_>, letter: (u32, u32)) -> Option<(Item, Text<'_>)>
     }
 }
 
-/// Returns the first item of a pattern beside a letter with these cases, and what is left of the pattern
-/// after it.
-pub(crate) fn first_item(pattern: Text<'_>, letter: (u32, u32)) -> Option<(Item, Text<'_>)>
-    ensures is { option_map (λ r. ((r.0.is_many, r.0.takes), letters_in r.1)) result
-        ≡ read letter (glob.first_item (letters_in pattern.entry)) }
+/// Returns an item that is one letter, beside a letter with these cases.
+fn one(letter: u32, cases: (u32, u32)) -> Item
+    ensures { (result.role, result.takes) ≡ beside cases (glob.one letter) }
+{
+    Item {
+        role: Role::Letter,
+        takes: is_one(letter, cases),
+    }
+}
+
+/// Returns the item that a letter is in a group or outside of one, if it is neither a backslash nor an
+/// opening bracket, beside a letter with these cases.
+fn item_of(first: u32, in_group: bool, letter: (u32, u32)) -> Option<Item>
+    ensures { option_map (λ r. (r.role, r.takes)) result
+        ≡ option_map (beside letter) (glob.item_of in_group first) }
+{
+    let (role, takes) = match first {
+        MANY => (Role::Many, true),
+        ANY => (Role::Letter, true),
+        GROUP => {
+            if in_group {
+                return None;
+            }
+            (Role::Group, false)
+        }
+        END => {
+            if !in_group {
+                return None;
+            }
+            (Role::End, false)
+        }
+        COMMA if in_group => (Role::Comma, false),
+        _ => return Some(one(first, letter)),
+    };
+    Some(Item { role, takes })
+}
+
+/// Returns the first item of a pattern, or of what is left of it in a group, beside a letter with these
+/// cases, and what is left after it.
+pub(crate) fn first_item(
+    pattern: Text<'_>,
+    in_group: bool,
+    letter: (u32, u32),
+) -> Option<(Item, Text<'_>)>
+    ensures is { option_map (λ r. ((r.0.role, r.0.takes), letters_in r.1)) result
+        ≡ read letter (glob.first_item in_group (letters_in pattern.entry)) }
     ensures left { IfSome result (λ r. length (letters_in r.1) < length (letters_in pattern.entry)) }
 {
     let (first, rest) = pattern.first()?;
-    let is_many = first == MANY;
-    let takes = match first {
-        MANY | ANY => true,
-        OPEN => return opened(rest, letter),
-        ESCAPE => {
-            let (escaped, rest) = rest.first()?;
-            let takes = is_one(escaped, letter);
-            return Some((Item { is_many, takes }, rest));
-        }
-        _ => is_one(first, letter),
-    };
-    Some((Item { is_many, takes }, rest))
+    if first == ESCAPE {
+        let (escaped, rest) = rest.first()?;
+        return Some((one(escaped, letter), rest));
+    }
+    if first == OPEN {
+        return opened(rest, letter);
+    }
+    let item = item_of(first, in_group, letter)?;
+    Some((item, rest))
 }
