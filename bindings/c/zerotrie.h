@@ -287,7 +287,10 @@ typedef enum zerotrie_search_by ZEROTRIE_ENUM {
     /** as ZEROTRIE_BY_EDITS, and an edit may also make two neighbours change places; at most 7 */
     ZEROTRIE_BY_SWAPS = 5,
     /** the same by characters, as ZEROTRIE_BY_CHAR_EDITS */
-    ZEROTRIE_BY_CHAR_SWAPS = 6
+    ZEROTRIE_BY_CHAR_SWAPS = 6,
+    /** as ZEROTRIE_BY_GLOB by characters, of a pattern in UTF-8: `?` is one of them, and so is what
+     * a class has. No key that is not UTF-8 is found. */
+    ZEROTRIE_BY_CHAR_GLOB = 7
 } zerotrie_search_by;
 
 /** What a bound of a range or of a sorted listing is. */
@@ -300,9 +303,9 @@ typedef enum zerotrie_bound ZEROTRIE_ENUM {
     ZEROTRIE_EXCLUDED = 2
 } zerotrie_bound;
 
-/** What is searched, which zerotrie_range(), zerotrie_glob(), zerotrie_subsequence(),
- * zerotrie_fuzzy(), zerotrie_fuzzy_chars(), zerotrie_swaps() and zerotrie_swaps_chars() return. It has pointers to your bytes, which are
- * never NULL. */
+/** What is searched, which zerotrie_range(), zerotrie_glob(), zerotrie_glob_chars(),
+ * zerotrie_subsequence(), zerotrie_fuzzy(), zerotrie_fuzzy_chars(), zerotrie_swaps() and
+ * zerotrie_swaps_chars() return. It has pointers to your bytes, which are never NULL. */
 typedef struct zerotrie_search {
     zerotrie_search_by by;     /**< how the keys are found */
     uint32_t edits;            /**< the most edits; used by EDITS, SWAPS and those of characters */
@@ -432,6 +435,11 @@ ZEROTRIE_INLINE zerotrie_search zerotrie_range_of_prefix(const void *prefix, siz
 /** Returns a search for the keys that a pattern matches, as "s*ing"; see ZEROTRIE_BY_GLOB. */
 ZEROTRIE_INLINE zerotrie_search zerotrie_glob(const void *pattern, size_t pattern_len) {
     return zerotrie_search_for(ZEROTRIE_BY_GLOB, pattern, pattern_len);
+}
+
+/** The same by characters of UTF-8, each of which `?` takes; see ZEROTRIE_BY_CHAR_GLOB. */
+ZEROTRIE_INLINE zerotrie_search zerotrie_glob_chars(const void *pattern, size_t pattern_len) {
+    return zerotrie_search_for(ZEROTRIE_BY_CHAR_GLOB, pattern, pattern_len);
 }
 
 /** Returns a search for the keys that have these bytes in this order; see

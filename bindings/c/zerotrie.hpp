@@ -420,6 +420,11 @@ public:
     [[nodiscard]] static Search glob(std::string_view pattern) {
         return Search(ZEROTRIE_BY_GLOB, pattern).checked();
     }
+    /// The same by characters of UTF-8: `?` is one of them, and so is what a class has. No key that is
+    /// not UTF-8 is found. Throws Error for a pattern that is not UTF-8, too.
+    [[nodiscard]] static Search glob_chars(std::string_view pattern) {
+        return Search(ZEROTRIE_BY_CHAR_GLOB, pattern).checked();
+    }
     /// The keys that have these bytes in this order, with any bytes before, between and after.
     [[nodiscard]] static Search subsequence(std::string_view letters) {
         return Search(ZEROTRIE_BY_SUBSEQUENCE, letters);

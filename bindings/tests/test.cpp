@@ -474,9 +474,22 @@ static void changes() {
     const zerotrie::Map names(Kind::IgnoreCase, zerotrie::PairList{{"Content-Type", 1}, {"ETag", 2}});
     std::string found;
     for (const auto &what : {zerotrie::Search::glob("content-*"), zerotrie::Search::range("c", "d"), zerotrie::Search::glob("[A-_]tag"),
-                             zerotrie::Search::fuzzy("etag", 0), zerotrie::Search::range("D", std::nullopt)})
+                             zerotrie::Search::glob_chars("?tAG"), zerotrie::Search::fuzzy("etag", 0),
+                             zerotrie::Search::range("D", std::nullopt)})
         for (const auto [key, value] : names.search(what)) found += key;
-    CHECK(found == "Content-TypeContent-TypeETagETagETag");
+    CHECK(found == "Content-TypeContent-TypeETagETagETagETag");
+    const zerotrie::Map places{{"caf\xC3\xA9", 1}, {"cafe", 2}, {"caf\xC3", 3}};
+    const auto sum_of = [&](const zerotrie::Search &what) {
+        size_t sum = 0;
+        for (const auto [key, value] : places.search(what)) sum += value;
+        return sum;
+    };
+    CHECK(sum_of(zerotrie::Search::glob_chars("caf?")) == 3 && sum_of(zerotrie::Search::glob("caf?")) == 5);
+    CHECK(sum_of(zerotrie::Search::glob_chars("caf[!e]*")) == 1 && sum_of(zerotrie::Search::glob("caf[!e]*")) == 4);
+    CHECK(sum_of(zerotrie::Search::glob_chars("caf?").beginnings()) == 3 && sum_of(zerotrie::Search::glob("?").beginnings()) == 6);
+    CHECK(sum_of(zerotrie::Search::glob_chars("*").within("caf\xC3")) == 1);
+    CHECK(thrown([] { (void)zerotrie::Search::glob_chars("caf\xC3"); }).status == ZEROTRIE_MALFORMED_SEARCH);
+    CHECK(thrown([] { (void)zerotrie::Search::glob_chars("[\xC3\xA9"); }).status == ZEROTRIE_MALFORMED_SEARCH);
     CHECK(names.nearest("etga", 1).size() == 1 && names.nearest("etga", 1)[0].key == "ETag" && names.nearest("etga", 1)[0].distance == 1);
     const zerotrie::Trie bad(Kind::SimpleAscii, "into"sv);
     CHECK(thrown([&] { (void)zerotrie::diff(bad, bad).begin(); }).status == ZEROTRIE_MALFORMED_TRIE);

@@ -84,7 +84,7 @@ from ._readers import (
     COUNT, INDEX, PAIRS, AnyPlace, Place, Reader, Table, Word, accelerated as accelerated,
 )
 from ._reverse import Reverse as Reverse, reverse as reverse
-from ._search import BY_GLOB, BY_SUBSEQUENCE, Search
+from ._search import BY_SUBSEQUENCE, Search
 from ._sets import (
     DIFFERENCE, INTERSECTION, SYMMETRIC_DIFFERENCE, UNION, Keyed, chosen, difference, intersection,
     kind_of, made_of, symmetric_difference, union,
@@ -441,13 +441,19 @@ class _Trie(Reader[Word], _InBytes, Mapping[Any, int]):
         return cast(Word, key.decode() if self._as_text else key)
 
     def glob(self, pattern: Key) -> Found[Word]:
-        """A view of the pairs whose keys a pattern matches, as "s*ing": `*` is any number of bytes,
-        `?` one byte, and `[a-z]` or `[!a-z]` a byte that is of a class or is not. A backslash takes
-        the meaning of the byte after it. In IGNORE_CASE this and the three below ignore case.
+        """A view of the pairs whose keys a pattern matches, as "s*ing": `*` is any number of
+        characters, `?` one of them, and `[a-z]` or `[!a-z]` one that is of a class or is not. A
+        backslash takes the meaning of the character after it. If the pattern is bytes, all of this is
+        by bytes; a pattern that is text finds only keys that are UTF-8. In IGNORE_CASE this and the
+        three below ignore case.
+
+        >>> words = StrTrie.build({"cafe": 1, "café": 2, "cafés": 3})
+        >>> list(words.glob("caf?")), list(words.glob(b"caf?"))
+        ([('cafe', 1), ('café', 2)], [('cafe', 1)])
 
         ZeroTrieError if it is malformed, or has more than 63 items.
         """
-        return Found(self, search=Search(BY_GLOB, key_bytes(pattern)).checked())
+        return Found(self, search=Search.glob(pattern))
 
     def subsequence(self, letters: Key) -> Found[Word]:
         """A view of the pairs whose keys have these bytes in this order, with any bytes before,

@@ -9,7 +9,8 @@ from ._errors import check_status
 from ._library import EXCLUDED, INCLUDED, UNBOUNDED, Bytes, RawSearch, lib
 from ._pairs import Key, key_bytes, whole_number
 
-BY_RANGE, BY_GLOB, BY_SUBSEQUENCE, BY_EDITS, BY_CHAR_EDITS, BY_SWAPS, BY_CHAR_SWAPS = range(7)
+BY_RANGE, BY_GLOB, BY_SUBSEQUENCE, BY_EDITS, BY_CHAR_EDITS = range(5)
+BY_SWAPS, BY_CHAR_SWAPS, BY_CHAR_GLOB = range(5, 8)
 
 
 class Search:
@@ -66,6 +67,12 @@ class Search:
         ends = [key_bytes(end) for end in (stop, above) if end is not None]
         first = prefix if start is None else max(key_bytes(start), prefix)
         return cls.range(first, min(ends) if ends else None)
+
+    @classmethod
+    def glob(cls, pattern: Key) -> Search:
+        """The keys that a pattern matches: by characters if it is text, and else by bytes."""
+        by = BY_CHAR_GLOB if isinstance(pattern, str) else BY_GLOB
+        return cls(by, key_bytes(pattern)).checked()
 
     @classmethod
     def fuzzy(cls, word: Key, edits: int, beginnings: bool, swaps: bool) -> Search:

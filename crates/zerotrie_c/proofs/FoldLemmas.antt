@@ -1,5 +1,5 @@
 -- Texts, words and keys as a kind compares them.
-use Rattle.std.proofs.Common.{◌≡◌, ◌≢◌, ◌≤◌, ◌<◌, ◌⊎◌, ℕ, zero, suc, List, [], ◌∷◌, ◌++◌, Bool, true, false, map, length, get_or, inl, inr, refl, sym, ap, ◌∙◌, subst, arith, Option, Some, None}
+use Rattle.std.proofs.Common.{◌≡◌, ◌≢◌, ◌≤◌, ◌<◌, ℕ, zero, suc, List, [], ◌∷◌, ◌++◌, Bool, true, false, map, length, get_or, inl, inr, refl, sym, ap, ◌∙◌, subst, arith, Option, Some, None}
 use Rattle.std.specs.Prelude.{◌&&◌}
 use Rattle.std.specs.Char.{to_ascii_lowercase}
 use Rattle.std.specs.Str.{chars, chars_after, continuation_len, lead_bits, IsUtf8}
@@ -16,10 +16,9 @@ use Rattle.zerotrie_core.specs.declared.TrieKind.{TrieKind}
 use Rattle.zerotrie_core.specs.declared.TrieKind.TheVariants.{Simple, Ignore, Hash, Ext}
 use Rattle.zerotrie_index.specs.Tries.{folded_key}
 use Rattle.zerotrie_search.specs.Automata.{ignores_case, word_by, IsMalformedWord, IsLongWord}
-use Rattle.zerotrie_search.specs.Globs.{items, no_item}
 use Rattle.zerotrie_search.specs.declared.any.SearchBy.{SearchBy}
 use Rattle.zerotrie_search.specs.declared.any.SearchBy.TheVariants as by
-use Rattle.zerotrie_c.specs.Searched.{bound_with, finds_given, finds_how, finds_whole, given_how, search_by, text_by, AreTextsOf, HasTexts, IsSearchFault, IsWordFault}
+use Rattle.zerotrie_c.specs.Searched.{bound_with, finds_given, finds_how, finds_whole, given_how, search_by, text_by, AreTextsOf, HasTexts, IsFaultHow, IsSearchFault, IsWordFault}
 use Rattle.zerotrie_c.specs.declared.folding.FoldedTexts.{FoldedTexts}
 use Rattle.zerotrie_c.specs.declared.searches.Search.{Search}
 
@@ -89,7 +88,7 @@ scalars_lower (c ∷ cs) is =
 utf8_lower : (bs : List ℕ) → IsUtf8 bs → IsUtf8 (map to_ascii_lowercase bs)
 utf8_lower bs utf8 = (map to_ascii_lowercase utf8.0, (scalars_lower utf8.0 utf8.1.0, encodes_lower utf8.0 ∙ ap (map to_ascii_lowercase) utf8.1.1))
 
--- so what is wrong with a word in lower case is wrong with the word
+-- what is wrong with a word in lower case is wrong with the word
 as_long : (bs : List ℕ) → length (map to_ascii_lowercase bs) ≡ length bs
 as_long bs = length-map bs to_ascii_lowercase
 
@@ -119,58 +118,6 @@ word_fault_given how word status h = elim h [
   | inr long ↦ inr (long.0, long_given how word long.1)
 ]
 
--- and what is wrong with a search of texts in lower case, with the search
-abbrev IsFault : (number edits from_bound to_bound : ℕ) → List ℕ → ℕ → Type 0
-IsFault number edits from_bound to_bound text status =
-    ((status ≡ 20) × ((6 < number) ⊎ ((number ≡ 0) × ((2 < from_bound) ⊎ (2 < to_bound)))))
-    ⊎ ((status ≡ 21) × (((number ≡ 1) × (no_item text ≢ [])) ⊎ (((number ≡ 4) ⊎ (number ≡ 6)) × (IsUtf8 text → ⊥))))
-    ⊎ ((status ≡ 22) × (((number ≡ 1) × (63 < length (items text)))
-    ⊎ ((number ≡ 3) × ((63 < length text) ⊎ (254 < edits)))
-    ⊎ ((number ≡ 4) × ((63 < length (chars text)) ⊎ (254 < edits)))
-    ⊎ ((number ≡ 5) × ((63 < length text) ⊎ (7 < edits)))
-    ⊎ ((number ≡ 6) × ((63 < length (chars text)) ⊎ (7 < edits)))))
-
-module _ (number edits from_bound to_bound : ℕ) (text : List ℕ) where
-  -- what holds of the text of the search with this number holds of the text
-  at_number : (n : ℕ) → number ≡ n → (P : List ℕ → Type 0) → P (text_by (search_by number edits) ignore_case text) → P (text_by (search_by n edits) ignore_case text)
-  at_number n is P h = subst (λ m. P (text_by (search_by m edits) ignore_case text)) is h
-
-  fault_lower : (status : ℕ) → IsFault number edits from_bound to_bound (text_by (search_by number edits) ignore_case text) status → IsFault number edits from_bound to_bound text status
-  fault_lower status h = elim h [
-    | inl unknown ↦ inl unknown
-    | inr more ↦ elim more [
-      | inl bad ↦ inr (inl (
-        bad.0,
-        elim bad.1 [
-          | inl pattern ↦ inl (pattern.0, at_number 1 pattern.0 (λ t. no_item t ≢ []) pattern.1)
-          | inr word ↦ inr (
-            word.0,
-            λ utf8. elim word.0 [
-              | inl is ↦ at_number 4 is (λ t. IsUtf8 t → ⊥) word.1 (utf8_lower text utf8)
-              | inr is ↦ at_number 6 is (λ t. IsUtf8 t → ⊥) word.1 (utf8_lower text utf8)
-            ],
-          )
-        ],
-      ))
-      | inr long ↦ inr (inr (
-        long.0,
-        elim long.1 [
-          | inl pattern ↦ inl (pattern.0, at_number 1 pattern.0 (λ t. 63 < length (items t)) pattern.1)
-          | inr word ↦ inr (elim word [
-            | inl fuzzy ↦ inl (fuzzy.0, long_given (by.Fuzzy edits) text (at_number 3 fuzzy.0 (IsLongWord (by.Fuzzy edits)) fuzzy.1))
-            | inr others ↦ inr (elim others [
-              | inl fuzzy ↦ inl (fuzzy.0, long_given (by.FuzzyChars edits) text (at_number 4 fuzzy.0 (IsLongWord (by.FuzzyChars edits)) fuzzy.1))
-              | inr last ↦ inr (elim last [
-                | inl swaps ↦ inl (swaps.0, long_given (by.Swaps edits) text (at_number 5 swaps.0 (IsLongWord (by.Swaps edits)) swaps.1))
-                | inr swaps ↦ inr (swaps.0, long_given (by.SwapsChars edits) text (at_number 6 swaps.0 (IsLongWord (by.SwapsChars edits)) swaps.1))
-              ])
-            ])
-          ])
-        ],
-      ))
-    ]
-  ]
-
 -- a search with the texts of another one, as a kind compares them
 module _ (kind : Kind) (s f : Search) (texts : FoldedTexts) (are : AreTextsOf kind s texts) (has : HasTexts texts s f) where
   text_is : f.text.now ≡ text_by (search_by s.by s.edits) kind s.text.now
@@ -189,14 +136,16 @@ module _ (kind : Kind) (s f : Search) (texts : FoldedTexts) (are : AreTextsOf ki
   pub finds_folded : (λ key. finds_given (ignores_case kind) f (folded_key kind key)) ≡ finds_whole kind s
   finds_folded = fun_ext finds_folded_key
 
-pub fault_given : (s f : Search) (texts : FoldedTexts) → AreTextsOf ignore_case s texts → HasTexts texts s f → (status : ℕ) → IsSearchFault f status → IsSearchFault s status
-fault_given s f texts are has status h =
-    fault_lower s.by s.edits s.from_bound s.to_bound s.text.now status
-    (subst (λ n. IsFault n s.edits s.from_bound s.to_bound (text_by (search_by s.by s.edits) ignore_case s.text.now) status) has.by
-    (subst (λ n. IsFault f.by n s.from_bound s.to_bound (text_by (search_by s.by s.edits) ignore_case s.text.now) status) has.edits
-    (subst (λ n. IsFault f.by f.edits n s.to_bound (text_by (search_by s.by s.edits) ignore_case s.text.now) status) has.from_bound
-    (subst (λ n. IsFault f.by f.edits f.from_bound n (text_by (search_by s.by s.edits) ignore_case s.text.now) status) has.to_bound
-    (subst (λ t. IsFault f.by f.edits f.from_bound f.to_bound t status) (has.text ∙ are.text) h)))))
+-- so what is wrong with a search of texts in lower case is wrong with the search
+module _ (s f : Search) (texts : FoldedTexts) (are : AreTextsOf ignore_case s texts) (has : HasTexts texts s f) where
+  fault_same : (how : Option SearchBy) → f.text.now ≡ text_by how ignore_case s.text.now → (status : ℕ) → IsFaultHow how f status → IsFaultHow how s status
+  fault_same None is status h = rw (has.by, has.from_bound, has.to_bound) at h
+  fault_same (Some how) is status h = word_fault_given how s.text.now status (subst (λ t. IsWordFault how t status) is h)
+
+  pub fault_given : (status : ℕ) → IsSearchFault f status → IsSearchFault s status
+  fault_given status h =
+      fault_same (search_by s.by s.edits) (has.text ∙ are.text) status
+      (subst (λ n. IsFaultHow (search_by s.by n) f status) has.edits (subst (λ n. IsFaultHow (search_by n f.edits) f status) has.by h))
 
 -- where case counts, texts and keys are compared as they are
 exact_key : (kind : TrieKind) → kind ≢ Ignore → (key : List ℕ) → folded_key (kind_of kind) key ≡ key

@@ -1,5 +1,5 @@
 -- The keys nearest to a word, as C is told of them.
-use Rattle.std.specs.Prelude.{◌≡◌, ◌⊎◌, ◌++◌, ℕ, List, [], length, map, min, nat_le, true, Option, Some, None, if◌then◌else◌}
+use Rattle.std.specs.Prelude.{◌≡◌, ◌⊎◌, ◌++◌, ◌&&◌, ℕ, List, [], length, map, min, nat_le, true, Option, Some, None, if◌then◌else◌}
 use Rattle.zerotrie_core.specs.Kind.{Kind}
 use Rattle.zerotrie_core.specs.Maps.{Pairs}
 use Rattle.zerotrie_core.specs.declared.ZeroTrieBuildError.TheVariants.{BufferTooSmall, OutOfMemory}
@@ -12,7 +12,7 @@ use Rattle.zerotrie_c.specs.Statuses.{done, status_of}
 
 -- how edits are counted, by the number of the search: of bytes, or of characters; the same with swaps
 abbrev pub edits_by : ℕ → ℕ → Option SearchBy
-edits_by number edits = if nat_le number 2 then None else search_by number edits
+edits_by number edits = if nat_le 3 number && nat_le number 6 then search_by number edits else None
 
 -- how many edits make a key of a word, if any number does; the key is as a kind compares it, and the word too
 abbrev pub measured : Kind → SearchBy → List ℕ → List ℕ → Option ℕ

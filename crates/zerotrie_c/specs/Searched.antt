@@ -1,6 +1,5 @@
 -- The searches that C asks for.
-use Rattle.std.specs.Prelude.{◌≡◌, ◌≢◌, ◌<◌, ◌⊎◌, ◌==◌, ◌&&◌, ℕ, List, [], Bool, Option, Some, None, length, if◌then◌else◌}
-use Rattle.std.specs.Str.{chars, IsUtf8}
+use Rattle.std.specs.Prelude.{◌≡◌, ◌≢◌, ◌<◌, ◌⊎◌, ◌==◌, ◌&&◌, ℕ, List, Bool, Option, Some, None, if◌then◌else◌}
 use Rattle.std.specs.declared.ops.Bound.{Bound}
 use Rattle.std.specs.declared.ops.Bound.TheVariants.{Included, Excluded, Unbounded}
 use Rattle.zerotrie_core.specs.Kind.{Kind}
@@ -8,8 +7,7 @@ use Rattle.zerotrie_core.specs.Maps.{Pairs}
 use Rattle.zerotrie_index.specs.Tries.{folded_key}
 use Rattle.zerotrie_search.specs.Searches.{accepted}
 use Rattle.zerotrie_search.specs.Sets.{from_left, to_left, some_front}
-use Rattle.zerotrie_search.specs.Globs.{items, no_item}
-use Rattle.zerotrie_search.specs.Automata.{finds_by, finds_in, word_by, IsMalformedWord, IsLongWord, IsOverSwaps}
+use Rattle.zerotrie_search.specs.Automata.{finds_by, finds_in, word_by, IsMalformedWord, IsLongWord}
 use Rattle.zerotrie_search.specs.declared.any.SearchBy.{SearchBy}
 use Rattle.zerotrie_search.specs.declared.any.SearchBy.TheVariants as by
 use Rattle.zerotrie_c.specs.Statuses.{done, unknown_search, malformed_search, search_too_long}
@@ -32,7 +30,8 @@ search_by number edits =
     else (if number == 3 then Some (by.Fuzzy edits)
     else (if number == 4 then Some (by.FuzzyChars edits)
     else (if number == 5 then Some (by.Swaps edits)
-    else (if number == 6 then Some (by.SwapsChars edits) else None)))))
+    else (if number == 6 then Some (by.SwapsChars edits)
+    else (if number == 7 then Some by.GlobChars else None))))))
 
 -- the keys between the bounds of a search if it has no word, or those that its word finds, as a kind compares them
 abbrev pub finds_how : Option SearchBy → Kind → Search → List ℕ → Bool
@@ -52,31 +51,20 @@ or_beginnings beginnings finds = if beginnings then some_front finds else finds
 abbrev pub finds : Kind → Search → List ℕ → Bool
 finds kind s = or_beginnings s.beginnings (finds_whole kind s)
 
--- no search, or no bound of a range, has the number
-abbrev pub IsUnknownSearch : Search → Type 0
-IsUnknownSearch s = (6 < s.by) ⊎ ((s.by ≡ 0) × ((2 < s.from_bound) ⊎ (2 < s.to_bound)))
+-- a word that no search refuses, and why one is refused
+abbrev pub IsRightWord : SearchBy → List ℕ → Type 0
+IsRightWord by word = (IsMalformedWord by word → ⊥) × (IsLongWord by word → ⊥)
 
--- a part of the pattern is no item, or the word of characters is not UTF-8
-abbrev pub IsMalformedSearch : Search → Type 0
-IsMalformedSearch s = ((s.by ≡ 1) × (no_item s.text.now ≢ [])) ⊎ (((s.by ≡ 4) ⊎ (s.by ≡ 6)) × (IsUtf8 s.text.now → ⊥))
+abbrev pub IsWordFault : SearchBy → List ℕ → ℕ → Type 0
+IsWordFault by word status = ((status ≡ malformed_search) × IsMalformedWord by word) ⊎ ((status ≡ search_too_long) × IsLongWord by word)
 
--- a word of more letters or edits than a search takes
-abbrev pub IsOver : Search → List ℕ → Type 0
-IsOver s letters = (63 < length letters) ⊎ (254 < s.edits)
+-- why a search is refused: no search, or no bound of a range, has the number; or its word is refused
+abbrev pub IsFaultHow : Option SearchBy → Search → ℕ → Type 0
+IsFaultHow None s status = (status ≡ unknown_search) × ((s.by ≢ 0) ⊎ (2 < s.from_bound) ⊎ (2 < s.to_bound))
+IsFaultHow (Some by) s status = IsWordFault by s.text.now status
 
--- the pattern has too many items, or the word too many letters or edits
-abbrev pub IsLongSearch : Search → Type 0
-IsLongSearch s = ((s.by ≡ 1) × (63 < length (items s.text.now)))
-    ⊎ ((s.by ≡ 3) × IsOver s s.text.now)
-    ⊎ ((s.by ≡ 4) × IsOver s (chars s.text.now))
-    ⊎ ((s.by ≡ 5) × IsOverSwaps s.edits s.text.now)
-    ⊎ ((s.by ≡ 6) × IsOverSwaps s.edits (chars s.text.now))
-
--- why a search is refused
 abbrev pub IsSearchFault : Search → ℕ → Type 0
-IsSearchFault s status = ((status ≡ unknown_search) × IsUnknownSearch s)
-    ⊎ ((status ≡ malformed_search) × IsMalformedSearch s)
-    ⊎ ((status ≡ search_too_long) × IsLongSearch s)
+IsSearchFault s = IsFaultHow (search_by s.by s.edits) s
 
 -- What a part of a search of these pairs comes to: a search without a fault is a listing of the pairs that it finds, as
 -- the kind compares keys; one with a fault is refused by it, and nothing is written.
@@ -97,13 +85,6 @@ IsFoundSome kind s pairs status old_keys keys old_ends ends old_values values ol
 -- what is told of a search alone: that it has no fault, or its fault
 abbrev pub IsSearchChecked : Search → ℕ → Type 0
 IsSearchChecked s status = ((status ≡ done) × ((fault : ℕ) → IsSearchFault s fault → ⊥)) ⊎ IsSearchFault s status
-
--- words of private functions: a word without a fault, and why one is refused
-abbrev pub IsRightWord : SearchBy → List ℕ → Type 0
-IsRightWord by word = (IsMalformedWord by word → ⊥) × (IsLongWord by word → ⊥)
-
-abbrev pub IsWordFault : SearchBy → List ℕ → ℕ → Type 0
-IsWordFault by word status = ((status ≡ malformed_search) × IsMalformedWord by word) ⊎ ((status ≡ search_too_long) × IsLongWord by word)
 
 -- words of private functions: the keys that a search finds with its texts as they are; the letters of a pattern may be
 -- taken in both cases
