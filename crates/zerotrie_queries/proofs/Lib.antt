@@ -17,5 +17,6 @@ mod DiffLemmas
 mod NearLemmas
 mod FoldLemmas
 mod EditsLemmas
+mod BeginsLemmas
 mod MeasuredLemmas
 mod WordLemmas

@@ -97,6 +97,7 @@ impl FoldedWords {
                 Some(sought) => Some(Sought {
                     by: sought.by,
                     word: self.word.as_slice(),
+                    begins: sought.begins,
                 }),
                 None => None,
             },

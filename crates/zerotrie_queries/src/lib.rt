@@ -13,6 +13,7 @@ mod exact;
 mod file;
 mod first_pairs;
 mod folding;
+mod found;
 mod json_text;
 mod listing;
 mod lookups;

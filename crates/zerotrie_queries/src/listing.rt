@@ -25,6 +25,7 @@ mod nearest;
 pub use distances::write_distances;
 
 use crate::folding::FoldedWords;
+use crate::found::Found;
 use crate::listing::forms::write_first;
 use crate::listing::nearest::write_nearest;
 use crate::prefix::KindPrefix;
@@ -252,9 +253,10 @@ fn write_stored<W: Write>(
         let no_key = Not(StartsWith(b""));
         return write_matched(alloc, trie, form, choice, no_key, limit, output);
     };
-    let kind = trie.kind;
+    let (kind, begins) = (trie.kind, sought.begins);
     by_automaton!(any, automaton => {
-        write_matched(alloc, trie, form, choice, ByKind(kind, automaton), limit, output)
+        let automaton = ByKind(kind, Found { begins, automaton });
+        write_matched(alloc, trie, form, choice, automaton, limit, output)
     })
 }
 
@@ -371,9 +373,9 @@ fn write_between<W: Write>(
         let no_key = Not(StartsWith(b""));
         return write_matched_between(alloc, trie, form, choice, no_key, limit, from, to, output);
     };
-    let kind = trie.kind;
+    let (kind, begins) = (trie.kind, sought.begins);
     by_automaton!(any, automaton => {
-        let automaton = ByKind(kind, automaton);
+        let automaton = ByKind(kind, Found { begins, automaton });
         write_matched_between(alloc, trie, form, choice, automaton, limit, from, to, output)
     })
 }
@@ -504,8 +506,10 @@ fn has_chosen(alloc: Global, trie: &TrieRef<'_>, choice: Choice<'_>) -> Result<b
     let Some(any) = sought.automaton(trie.kind) else {
         return has_matched(alloc, trie, choice, Not(StartsWith(b"")));
     };
-    let kind = trie.kind;
-    by_automaton!(any, automaton => has_matched(alloc, trie, choice, ByKind(kind, automaton)))
+    let (kind, begins) = (trie.kind, sought.begins);
+    by_automaton!(any, automaton => {
+        has_matched(alloc, trie, choice, ByKind(kind, Found { begins, automaton }))
+    })
 }
 
 /// Returns the fewest edits of the word of a choice with which a pair is chosen, or as many as it allows if

@@ -168,7 +168,7 @@ fn write_by_edits<W: Write>(
 }
 
 /// Writes the first pairs whose keys are chosen, the nearest first.
-#[tactic(auto, using(crate::proofs::EditsLemmas::exact_none, crate::proofs::EditsLemmas::edits_found, crate::proofs::EditsLemmas::most_found, crate::proofs::FoldLemmas::found_folded))]
+#[tactic(auto, using(crate::proofs::EditsLemmas::exact_none, crate::proofs::EditsLemmas::exact_no_word, crate::proofs::EditsLemmas::exact_begins, crate::proofs::EditsLemmas::edits_found, crate::proofs::EditsLemmas::most_found, crate::proofs::EditsLemmas::found_whole))]
 pub(crate) fn write_nearest<W: Write>(
     alloc: Global,
     trie: &TrieRef<'_>,
@@ -192,6 +192,9 @@ pub(crate) fn write_nearest<W: Write>(
     let Some(sought) = choice.sought else {
         return write_exact(alloc, trie, form, choice, limit, output);
     };
+    if sought.begins {
+        return write_exact(alloc, trie, form, choice, limit, output);
+    }
     match sought.automaton(trie.kind) {
         Some(any) => write_by_edits(alloc, trie, form, choice, any, limit, output),
         None => write_exact(alloc, trie, form, choice, limit, output),
