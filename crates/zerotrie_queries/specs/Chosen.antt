@@ -152,14 +152,6 @@ pub record Coming : Type 0 where
 abbrev pub coming : Left → List ℕ × ℕ → Coming
 coming left current = record { key = current.0; value = current.1; pairs = left.pairs }
 
--- The state of a listing of the nearest: the pair in hand, the pairs to come, how many edits make keys of the word,
--- and how many make the key in hand.
-pub record Measuring : Type 0 where
-  pub current : List ℕ × ℕ
-  pub left : Left
-  pub measure : List ℕ → Option ℕ
-  pub edits : ℕ
-
 -- how many edits make a key of a word, if a condition holds of the key
 abbrev pub measured_if : (holds : List ℕ → Bool) → (measure : List ℕ → Option ℕ) → List ℕ → Option ℕ
 measured_if holds measure key = if holds key then measure key else None

@@ -1,6 +1,6 @@
 //! The keys that a word finds, or those that begin so.
 
-ghost use Rattle.std.specs.Prelude.{IfSome};
+ghost use Rattle.std.specs.Prelude.{◌≡◌, ◌&&◌, ℕ, List, [], IfSome};
 ghost use Rattle.zerotrie_queries.specs.Chosen.{found_from, found_left};
 
 use zerotrie_core::ByteSet;
@@ -12,6 +12,16 @@ use zerotrie_search::Automaton;
 pub(crate) struct Found<S> {
     pub(crate) begins: bool,
     pub(crate) automaton: S,
+}
+
+impl<S: Automaton> Found<S> {
+    /// Returns whether any bytes may follow those before a state.
+    fn is_over(&self, inner: S::State) -> bool
+        requires { (front : List ℕ) × S.IsAfter self.now.automaton front inner }
+        ensures { result ≡ (self.now.begins && S.accepts_from self.now.automaton inner []) }
+    {
+        self.begins && self.automaton.is_match(inner)
+    }
 }
 
 impl<S: Automaton> Automaton for Found<S> {
@@ -30,7 +40,7 @@ impl<S: Automaton> Automaton for Found<S> {
 
     fn step(&self, state: Option<S::State>, byte: u8) -> Option<S::State> {
         let inner = state?;
-        if self.begins && self.automaton.is_match(inner) {
+        if self.is_over(inner) {
             return None;
         }
         Some(self.automaton.step(inner, byte))
@@ -52,7 +62,7 @@ impl<S: Automaton> Automaton for Found<S> {
 
     fn wanted(&self, state: Option<S::State>) -> Option<ByteSet> {
         let inner = state?;
-        if self.begins && self.automaton.is_match(inner) {
+        if self.is_over(inner) {
             return None;
         }
         self.automaton.wanted(inner)
