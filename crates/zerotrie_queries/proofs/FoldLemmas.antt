@@ -21,7 +21,7 @@ use Rattle.zerotrie_search.specs.Automata.{edits_to, finds_by, finds_in, free_if
 use Rattle.zerotrie_search.specs.Searches.{accepted}
 use Rattle.zerotrie_search.specs.Sets.{by_bytes, some_front}
 use Rattle.zerotrie_search.specs.Sorted.{within}
-use Rattle.zerotrie_queries.specs.Chosen.{at_edits, by_edits, found_from, sought_at, closest, edits_matched, edits_of, folded_bound, measured, is_in, is_matched, is_chosen, is_word, word_of, chosen, IsFolded, AreWordsOf, HasWords}
+use Rattle.zerotrie_queries.specs.Chosen.{at_edits, by_edits, found_from, sought_at, closest, edits_matched, edits_of, folded_bound, measured, is_in, is_kept, is_matched, is_chosen, is_word, word_of, chosen, IsFolded, AreWordsOf, HasWords}
 use Rattle.zerotrie_queries.specs.Sorted.{picked}
 use Rattle.zerotrie_queries.specs.declared.folding.FoldedWords.{FoldedWords}
 use Rattle.zerotrie_queries.specs.declared.question.Choice.{Choice}
@@ -32,7 +32,7 @@ use Rattle.zerotrie_search.specs.Nearest.{nearest}
 use Rattle.zerotrie_search.specs.declared.any.SearchBy.{SearchBy}
 use Rattle.zerotrie_search.specs.declared.any.SearchBy.TheVariants as by
 use Rattle.zerotrie_queries.proofs.NearLemmas.{nearest_alike}
-use Rattle.zerotrie_queries.proofs.ChoiceLemmas.{accepted_alike, accepted_within}
+use Rattle.zerotrie_queries.proofs.ChoiceLemmas.{accepted_alike, accepted_within, by_all}
 
 some_inj : {A : Type 0} {x y : A} → Some x ≡ Some y → x ≡ y
 some_inj {A} {x} {y} h = ap (λ o. unwrap_or o x) h
@@ -149,21 +149,22 @@ in_folded kind c d key from to =
     rw (f, t) refl
 
 -- a choice with the folded words of another one chooses the same keys
-pub chosen_folded : (kind : TrieKind) (c : Choice) (words : FoldedWords) (d : Choice) → AreWordsOf kind c words → HasWords words c d → (key : List ℕ) → is_chosen kind d key ≡ is_chosen kind c key
-chosen_folded kind c words d are has key =
+kept_folded : (kind : TrieKind) (c : Choice) (words : FoldedWords) (d : Choice) → AreWordsOf kind c words → HasWords words c d → (key : List ℕ) → is_kept kind d key ≡ is_kept kind c key
+kept_folded kind c words d are has key =
     let begins : begins_with (kind_of kind) d.prefix.now key ≡ begins_with (kind_of kind) c.prefix.now key
     = ap (λ p. begins_with (kind_of kind) p key) (has.prefix ∙ are.prefix) ∙ prefix_folded (kind_of kind) c.prefix.now key in
     let inside = in_folded kind c d key (has.from ∙ are.from) (has.to ∙ are.to) in
-    let found = matched_folded kind c.sought d.sought words.word.items key are.word has.by has.word has.begins in
-    rw (begins, inside, found) refl
+    rw (begins, inside, has.without) refl
+
+pub chosen_folded : (kind : TrieKind) (c : Choice) (words : FoldedWords) (d : Choice) → AreWordsOf kind c words → HasWords words c d → (key : List ℕ) → is_chosen kind d key ≡ is_chosen kind c key
+chosen_folded kind c words d are has key =
+    ap (λ b. b && is_matched kind d.sought key) (kept_folded kind c words d are has key)
+    ∙ ap (λ b. is_kept kind c key && b) (matched_folded kind c.sought d.sought words.word.items key are.word has.by has.word has.begins)
 
 pub measured_folded : (kind : TrieKind) (c : Choice) (words : FoldedWords) (d : Choice) → AreWordsOf kind c words → HasWords words c d → (key : List ℕ) → measured kind d key ≡ measured kind c key
 measured_folded kind c words d are has key =
-    let begins : begins_with (kind_of kind) d.prefix.now key ≡ begins_with (kind_of kind) c.prefix.now key
-    = ap (λ p. begins_with (kind_of kind) p key) (has.prefix ∙ are.prefix) ∙ prefix_folded (kind_of kind) c.prefix.now key in
-    let inside = in_folded kind c d key (has.from ∙ are.from) (has.to ∙ are.to) in
-    let edits = edits_folded kind c.sought d.sought words.word.items key are.word has.by has.word has.begins in
-    rw (begins, inside, edits) refl
+    ap (λ b. if b then edits_matched kind d.sought key else None) (kept_folded kind c words d are has key)
+    ∙ ap (λ o. if is_kept kind c key then o else None) (edits_folded kind c.sought d.sought words.word.items key are.word has.by has.word has.begins)
 
 -- other edits leave words as they are
 words_at : (kind : TrieKind) (e : ℕ) (o : Option Sought) → word_of kind (option_map (sought_at e) o) ≡ word_of kind o
@@ -203,6 +204,7 @@ has_at e c words d h = record {
   prefix = h.prefix;
   from = h.from;
   to = h.to;
+  without = h.without;
   by = has_by e c.sought d.sought h.by;
   word = has_word e words.word.items c.sought d.sought h.word;
   begins = has_begins e c.sought d.sought h.begins;
@@ -288,15 +290,12 @@ if_found (Ok found) kind bytes accepts left lists h = λ m means. subst (λ l. (
 if_found (Err e) kind bytes accepts left lists h = tt
 
 -- whether one is chosen
-pub by_all_found : (kind : TrieKind) (c : Choice) (accepts : List ℕ → Bool) (bytes : List ℕ) → IsFolded kind c → ((key : List ℕ) → accepts key ≡ is_matched kind c.sought key) → (r : Result Bool AllocError)
-    → IfOk r (λ found. (m : Map) → Means (kind_of kind) bytes m
-    → (length (accepted (λ key. (begins_with (kind_of kind) c.prefix.now key && bounds_contain by_bytes (bound_map (λ b. b.now) c.range.from) (bound_map (λ b. b.now) c.range.to) (folded_key (kind_of kind) key)) && accepts key) (entries m)) == 0) ≡ not found)
+pub by_all_found : (kind : TrieKind) (c : Choice) (keeps accepts : List ℕ → Bool) (bytes : List ℕ) → ((key : List ℕ) → keeps key ≡ is_kept kind c key) → ((key : List ℕ) → accepts key ≡ is_matched kind c.sought key) → (r : Result Bool AllocError)
+    → IfOk r (λ found. (m : Map) → Means (kind_of kind) bytes m → (length (accepted (λ key. keeps key && accepts key) (entries m)) == 0) ≡ not found)
     → IfOk r (λ found. (m : Map) → Means (kind_of kind) bytes m → (length (chosen kind c (entries m)) == 0) ≡ not found)
-by_all_found kind c accepts bytes h is (Ok found) all = λ m means.
-    subst (λ l. (length l == 0) ≡ not found)
-    (accepted_alike (λ key. (begins_with (kind_of kind) c.prefix.now key && bounds_contain by_bytes (bound_map (λ b. b.now) c.range.from) (bound_map (λ b. b.now) c.range.to) (folded_key (kind_of kind) key)) && accepts key) (is_chosen kind c) (λ key. rw (in_range kind c h key, is key) refl) (entries m))
-    (all m means)
-by_all_found kind c accepts bytes h is (Err e) all = tt
+by_all_found kind c keeps accepts bytes kept is (Ok found) all = λ m means.
+    subst (λ l. (length l == 0) ≡ not found) (accepted_alike (λ key. keeps key && accepts key) (is_chosen kind c) (by_all kind c keeps accepts kept is) (entries m)) (all m means)
+by_all_found kind c keeps accepts bytes kept is (Err e) all = tt
 
 -- the fewest edits are these, if they choose a pair
 pub closest_here : (kind : TrieKind) (c : Choice) (pairs : Pairs) (e n : ℕ) → e < n → (length (chosen kind (at_edits e c) pairs) == 0) ≡ false → closest kind c pairs e (n - e) ≡ chosen kind (at_edits e c) pairs

@@ -1,5 +1,5 @@
 -- The pairs that are chosen of a trie.
-use Rattle.std.specs.Prelude.{◌≡◌, ℕ, List, Bool, true, false, ◌&&◌, ◌==◌, Option, Some, None, [], length, nat_le, unwrap_or, if◌then◌else◌}
+use Rattle.std.specs.Prelude.{◌≡◌, ℕ, List, Bool, true, false, ◌&&◌, ◌==◌, Option, Some, None, [], length, nat_le, not, unwrap_or, if◌then◌else◌}
 use Rattle.std.proofs.Common.{zero, suc}
 use Rattle.std.specs.Range.Bound.{bound_map, bounds_contain}
 use Rattle.std.specs.Option.{option_map}
@@ -20,6 +20,7 @@ use Rattle.zerotrie_search.specs.declared.any.SearchBy.TheVariants as by
 use Rattle.zerotrie_search.specs.declared.range.KeyRange.{KeyRange}
 use Rattle.zerotrie_queries.specs.declared.folding.FoldedWords.{FoldedWords}
 use Rattle.zerotrie_queries.specs.declared.question.Choice.{Choice}
+use Rattle.zerotrie_queries.specs.declared.question.Pattern.{Pattern}
 use Rattle.zerotrie_queries.specs.declared.question.Sought.{Sought}
 
 -- whether a word is one of its sort: a pattern that is not malformed, text, and not too long
@@ -61,9 +62,23 @@ abbrev pub is_matched : TrieKind → Option Sought → List ℕ → Bool
 is_matched kind None key = true
 is_matched kind (Some s) key = is_word s.by (word_by (kind_of kind) s.by s.word.now) && found_from s.begins (finds_by (kind_of kind) s.by s.word.now) key
 
+-- the sort of a pattern, of characters or of bytes
+abbrev pub pattern_by : (by_chars : Bool) → SearchBy
+pattern_by true = by.GlobChars
+pattern_by false = by.Glob
+
+-- whether no pattern matches it; one that is malformed matches none
+abbrev pub is_spared : TrieKind → Option Pattern → List ℕ → Bool
+is_spared kind None key = true
+is_spared kind (Some p) key = not (is_word (pattern_by p.by_chars) p.text.now && finds_by (kind_of kind) (pattern_by p.by_chars) p.text.now key)
+
+-- whether the conditions of a choice hold but that of its word
+abbrev pub is_kept : TrieKind → Choice → List ℕ → Bool
+is_kept kind c key = (begins_with (kind_of kind) c.prefix.now key && is_in kind c.range key) && is_spared kind c.without key
+
 -- whether it is chosen
 abbrev pub is_chosen : TrieKind → Choice → List ℕ → Bool
-is_chosen kind c key = (begins_with (kind_of kind) c.prefix.now key && is_in kind c.range key) && is_matched kind c.sought key
+is_chosen kind c key = is_kept kind c key && is_matched kind c.sought key
 
 -- the word by which keys are sought, as the kind compares keys, or no bytes
 abbrev pub word_of : TrieKind → Option Sought → List ℕ
@@ -87,6 +102,7 @@ pub record HasWords (words : FoldedWords) (c with_words : Choice) : Type 0 where
   pub prefix : with_words.prefix.now ≡ words.prefix.items
   pub from : bound_map (λ b. b.now) with_words.range.from ≡ bound_map (λ v. v.items) words.from
   pub to : bound_map (λ b. b.now) with_words.range.to ≡ bound_map (λ v. v.items) words.to
+  pub without : with_words.without ≡ c.without
   pub by : option_map (λ s. s.by) with_words.sought ≡ option_map (λ s. s.by) c.sought
   pub word : option_map (λ s. s.word.now) with_words.sought ≡ option_map (λ _. words.word.items) c.sought
   pub begins : option_map (λ s. s.begins) with_words.sought ≡ option_map (λ s. s.begins) c.sought
@@ -110,7 +126,7 @@ abbrev pub sought_at : ℕ → Sought → Sought
 sought_at e s = record { by = by_edits e s.by; word = s.word; begins = s.begins }
 
 abbrev pub at_edits : ℕ → Choice → Choice
-at_edits e c = record { prefix = c.prefix; range = c.range; sought = option_map (sought_at e) c.sought }
+at_edits e c = record { prefix = c.prefix; range = c.range; without = c.without; sought = option_map (sought_at e) c.sought }
 
 -- the pairs whose keys are chosen, in their order
 abbrev pub chosen : TrieKind → Choice → Pairs → Pairs
@@ -128,10 +144,6 @@ edits_matched kind None key = Some 0
 edits_matched kind (Some s) key =
     if s.begins then free_if (is_matched kind (Some s) key)
     else if is_word s.by (word_by (kind_of kind) s.by s.word.now) then edits_to (ignores_case (kind_of kind)) s.by (word_by (kind_of kind) s.by s.word.now) (folded_key (kind_of kind) key) else None
-
--- whether the other conditions of a choice hold
-abbrev pub is_kept : TrieKind → Choice → List ℕ → Bool
-is_kept kind c key = begins_with (kind_of kind) c.prefix.now key && is_in kind c.range key
 
 -- the same number of a key of which the other conditions hold
 abbrev pub measured : TrieKind → Choice → List ℕ → Option ℕ

@@ -131,6 +131,15 @@ impl<'a> Sought<'a> {
     }
 }
 
+/// A pattern of a listing.
+#[derive(Clone, Copy, Debug)]
+pub struct Pattern<'a> {
+    /// Whether it matches characters, and otherwise bytes.
+    pub by_chars: bool,
+    /// The pattern.
+    pub text: &'a [u8],
+}
+
 /// Which keys a listing has: those that hold all of this. In a trie that ignores case, keys, bounds and
 /// the word are compared in lower case, and the letters of a pattern are taken in both cases.
 #[derive(Clone, Copy, Debug)]
@@ -139,6 +148,8 @@ pub struct Choice<'a> {
     pub prefix: &'a [u8],
     /// They are between these bounds, by their bytes.
     pub range: KeyRange<'a>,
+    /// This pattern does not match them, if there is one. A malformed one matches no key.
+    pub without: Option<Pattern<'a>>,
     /// This word finds them, if there is one.
     pub sought: Option<Sought<'a>>,
 }
@@ -161,6 +172,7 @@ impl<'a> Choice<'a> {
         Choice {
             prefix: self.prefix,
             range: self.range,
+            without: self.without,
             sought: match self.sought {
                 Some(sought) => Some(sought.with_edits(edits)),
                 None => None,
