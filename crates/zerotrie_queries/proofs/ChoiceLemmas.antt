@@ -1,6 +1,6 @@
 -- The pairs that are chosen.
 use Rattle.std.proofs.Common.{◌≡◌, ℕ, suc, ◌≤◌, List, [], ◌∷◌, Bool, true, false, cond, not, length, refl, sym, ap, ◌∙◌, arith, subst, Option, Some, None, Result, Ok, Err, IfOk, IfSome, IfNone, OnOk, OnErr}
-use Rattle.std.specs.Prelude.{◌&&◌, ◌==◌}
+use Rattle.std.specs.Prelude.{◌&&◌, ◌==◌, is_none}
 use Rattle.std.specs.Io.KnownBytes.{Appends}
 use Rattle.std.proofs.lemmas.Bool.{ne_eqb}
 use Rattle.std.proofs.lemmas.List.Filters.{length-filter_both}
@@ -12,12 +12,13 @@ use Rattle.zerotrie_core.specs.Texts.{Lists}
 use Rattle.zerotrie_core.specs.declared.TrieKind.{TrieKind}
 use Rattle.zerotrie_files.specs.Parts.{AppendsPart}
 use Rattle.zerotrie_search.specs.Searches.{accepted, IsSearch}
-use Rattle.zerotrie_queries.specs.Chosen.{begins_left, chosen, is_chosen, is_in, is_matched}
+use Rattle.zerotrie_queries.specs.Chosen.{begins_left, chosen, is_chosen, is_in, is_kept, is_matched, is_spared}
 use Rattle.zerotrie_queries.specs.Json.{IsFirstNoText}
 use Rattle.zerotrie_queries.specs.Listed.{limited, IsPrintable, ArePrinted, AreListed, AreListedInPart, AreNoText}
 use Rattle.zerotrie_queries.specs.Printed.{listed}
 use Rattle.zerotrie_queries.specs.declared.print.Form.{Form}
 use Rattle.zerotrie_queries.specs.declared.question.Choice.{Choice}
+use Rattle.zerotrie_queries.specs.declared.question.Pattern.{Pattern}
 
 -- those that are accepted are no more than all
 pub few_accepted : (accepts : List ℕ → Bool) (pairs : Pairs) → length (accepted accepts pairs) ≤ length pairs
@@ -114,35 +115,45 @@ accepted_within p q (e ∷ pairs) h = go (p e.0) (q e.0) refl refl (accepted_wit
     go true false is inside rest = absurd (let no : false ≡ true = sym inside ∙ h e.0 is in cc)
     go false false is inside rest = rest
 
--- all keys begin with no byte
-free_prefix : (kind : TrieKind) (prefix key : List ℕ) → prefix ≡ [] → begins_with (kind_of kind) prefix key ≡ true
-free_prefix kind prefix key is = rw is refl
+and_true : (b : Bool) → (b && true) ≡ b
+and_true true = refl
+and_true false = refl
 
-true_and : (a b c : Bool) → a ≡ true → b ≡ true → c ≡ ((a && b) && c)
-true_and a b c p q = rw (p, q) refl
+-- a choice without a range and a pattern keeps the keys with its prefix
+pub kept_by_prefix : (kind : TrieKind) (c : Choice) → is_none c.without ≡ true → ((key : List ℕ) → is_in kind c.range key ≡ true) → (key : List ℕ) → is_kept kind c key ≡ begins_with (kind_of kind) c.prefix.now key
+kept_by_prefix kind c none all key =
+    let spared : (o : Option Pattern) → is_none o ≡ true → is_spared kind o key ≡ true = λ o is. no_pattern kind o key is in
+    ap (λ b. (begins_with (kind_of kind) c.prefix.now key && b) && is_spared kind c.without key) (all key)
+    ∙ ap (λ b. (begins_with (kind_of kind) c.prefix.now key && true) && b) (spared c.without none)
+    ∙ and_true (begins_with (kind_of kind) c.prefix.now key && true)
+    ∙ and_true (begins_with (kind_of kind) c.prefix.now key)
+  where
+    no_pattern : (kind : TrieKind) (o : Option Pattern) (key : List ℕ) → is_none o ≡ true → is_spared kind o key ≡ true
+    no_pattern kind None key is = refl
+    no_pattern kind (Some p) key is = absurd (cc)
 
-and_true : (a b c : Bool) → b ≡ true → c ≡ true → a ≡ ((a && b) && c)
-and_true true b c p q = rw (p, q) refl
-and_true false b c p q = refl
+-- and without a prefix all keys
+pub kept_free : (kind : TrieKind) (c : Choice) → c.prefix.now ≡ [] → ((key : List ℕ) → is_kept kind c key ≡ begins_with (kind_of kind) c.prefix.now key) → (key : List ℕ) → is_kept kind c key ≡ true
+kept_free kind c none kept key = kept key ∙ ap (λ p. begins_with (kind_of kind) p key) none
 
--- without a prefix and a range the keys are chosen that the automaton accepts
-pub alone : (kind : TrieKind) (c : Choice) (accepts : List ℕ → Bool) → c.prefix.now ≡ [] → ((key : List ℕ) → is_in kind c.range key ≡ true) → ((key : List ℕ) → accepts key ≡ is_matched kind c.sought key)
+-- if it keeps all keys, those are chosen that the automaton accepts
+pub alone : (kind : TrieKind) (c : Choice) (accepts : List ℕ → Bool) → ((key : List ℕ) → is_kept kind c key ≡ true) → ((key : List ℕ) → accepts key ≡ is_matched kind c.sought key)
     → (key : List ℕ) → accepts key ≡ is_chosen kind c key
-alone kind c accepts none all is key = is key ∙ true_and (begins_with (kind_of kind) c.prefix.now key) (is_in kind c.range key) (is_matched kind c.sought key) (free_prefix kind c.prefix.now key none) (all key)
+alone kind c accepts free is key = is key ∙ sym (ap (λ b. b && is_matched kind c.sought key) (free key))
 
-pub by_automaton_alone : (kind : TrieKind) (c : Choice) (accepts : List ℕ → Bool) → c.prefix.now ≡ [] → ((key : List ℕ) → is_in kind c.range key ≡ true) → ((key : List ℕ) → accepts key ≡ is_matched kind c.sought key)
+pub by_automaton_alone : (kind : TrieKind) (c : Choice) (accepts : List ℕ → Bool) → ((key : List ℕ) → is_kept kind c key ≡ true) → ((key : List ℕ) → accepts key ≡ is_matched kind c.sought key)
     → (pairs : Pairs) → accepted accepts pairs ≡ chosen kind c pairs
-by_automaton_alone kind c accepts none all is = accepted_alike accepts (is_chosen kind c) (alone kind c accepts none all is)
+by_automaton_alone kind c accepts free is = accepted_alike accepts (is_chosen kind c) (alone kind c accepts free is)
 
 -- with all conditions
-pub by_all : (kind : TrieKind) (c : Choice) (inside accepts : List ℕ → Bool) → ((key : List ℕ) → inside key ≡ is_in kind c.range key) → ((key : List ℕ) → accepts key ≡ is_matched kind c.sought key)
-    → (key : List ℕ) → ((begins_with (kind_of kind) c.prefix.now key && inside key) && accepts key) ≡ is_chosen kind c key
-by_all kind c inside accepts range is key = rw (range key, is key) refl
+pub by_all : (kind : TrieKind) (c : Choice) (keeps accepts : List ℕ → Bool) → ((key : List ℕ) → keeps key ≡ is_kept kind c key) → ((key : List ℕ) → accepts key ≡ is_matched kind c.sought key)
+    → (key : List ℕ) → (keeps key && accepts key) ≡ is_chosen kind c key
+by_all kind c keeps accepts kept is key = ap (λ b. b && accepts key) (kept key) ∙ ap (λ b. is_kept kind c key && b) (is key)
 
 -- and with a prefix alone
-pub by_prefix_alone : (kind : TrieKind) (c : Choice) → c.sought ≡ None → ((key : List ℕ) → is_in kind c.range key ≡ true) → (pairs : Pairs) → beginning (kind_of kind) c.prefix.now pairs ≡ chosen kind c pairs
-by_prefix_alone kind c none all = accepted_alike (begins_with (kind_of kind) c.prefix.now) (is_chosen kind c)
-    (λ key. and_true (begins_with (kind_of kind) c.prefix.now key) (is_in kind c.range key) (is_matched kind c.sought key) (all key) (rw none refl))
+pub by_prefix_alone : (kind : TrieKind) (c : Choice) → c.sought ≡ None → ((key : List ℕ) → is_kept kind c key ≡ begins_with (kind_of kind) c.prefix.now key) → (pairs : Pairs) → beginning (kind_of kind) c.prefix.now pairs ≡ chosen kind c pairs
+by_prefix_alone kind c none kept = accepted_alike (begins_with (kind_of kind) c.prefix.now) (is_chosen kind c)
+    (λ key. sym (ap (λ o. is_kept kind c key && is_matched kind o key) none ∙ and_true (is_kept kind c key) ∙ kept key))
 
 -- a prefix is at its end if it has no byte left
 pub ends_here : (kind : TrieKind) (left : List ℕ) → (length left == 0) ≡ begins_left kind (Some left) []

@@ -1,6 +1,6 @@
 -- Keys, bounds and words as a kind compares them.
 use Rattle.std.proofs.Common.{◌≡◌, ◌≢◌, ℕ, zero, suc, List, [], ◌∷◌, Bool, true, false, ◌+◌, ◌-◌, ◌<◌, ◌^◌, arith, length, not, refl, sym, ap, ◌∙◌, subst, Option, Some, None, Result, Ok, Err, IfOk}
-use Rattle.std.specs.Prelude.{◌&&◌, ◌==◌, unwrap_or}
+use Rattle.std.specs.Prelude.{◌&&◌, ◌==◌, ◌||◌, map, unwrap_or, if◌then◌else◌}
 use Rattle.std.specs.Option.{option_map}
 use Rattle.std.specs.Range.Bound.{bound_map, bounds_contain}
 use Rattle.std.specs.declared.ops.Bound.{Bound}
@@ -17,11 +17,11 @@ use Rattle.std.specs.declared.alloc.AllocError.{AllocError}
 use Rattle.zerotrie_core.specs.declared.TrieKind.{TrieKind}
 use Rattle.zerotrie_core.specs.declared.TrieKind.TheVariants.{Simple, Ignore, Hash, Ext}
 use Rattle.zerotrie_index.specs.Tries.{folded_key}
-use Rattle.zerotrie_search.specs.Automata.{finds_in, ignores_case, most_by, word_by}
+use Rattle.zerotrie_search.specs.Automata.{edits_to, finds_by, finds_in, free_if, ignores_case, most_by, word_by}
 use Rattle.zerotrie_search.specs.Searches.{accepted}
-use Rattle.zerotrie_search.specs.Sets.{by_bytes}
+use Rattle.zerotrie_search.specs.Sets.{by_bytes, some_front}
 use Rattle.zerotrie_search.specs.Sorted.{within}
-use Rattle.zerotrie_queries.specs.Chosen.{at_edits, by_edits, closest, edits_matched, edits_of, folded_bound, measured, is_in, is_matched, is_chosen, is_word, word_of, chosen, IsFolded, AreWordsOf, HasWords}
+use Rattle.zerotrie_queries.specs.Chosen.{at_edits, by_edits, found_from, sought_at, closest, edits_matched, edits_of, folded_bound, measured, is_in, is_kept, is_matched, is_chosen, is_word, word_of, chosen, IsFolded, AreWordsOf, HasWords}
 use Rattle.zerotrie_queries.specs.Sorted.{picked}
 use Rattle.zerotrie_queries.specs.declared.folding.FoldedWords.{FoldedWords}
 use Rattle.zerotrie_queries.specs.declared.question.Choice.{Choice}
@@ -32,7 +32,7 @@ use Rattle.zerotrie_search.specs.Nearest.{nearest}
 use Rattle.zerotrie_search.specs.declared.any.SearchBy.{SearchBy}
 use Rattle.zerotrie_search.specs.declared.any.SearchBy.TheVariants as by
 use Rattle.zerotrie_queries.proofs.NearLemmas.{nearest_alike}
-use Rattle.zerotrie_queries.proofs.ChoiceLemmas.{accepted_alike, accepted_within}
+use Rattle.zerotrie_queries.proofs.ChoiceLemmas.{accepted_alike, accepted_within, by_all}
 
 some_inj : {A : Type 0} {x y : A} → Some x ≡ Some y → x ≡ y
 some_inj {A} {x} {y} h = ap (λ o. unwrap_or o x) h
@@ -109,24 +109,36 @@ words_folded kind c words d are has = record {
 }
 
 -- a word that is folded finds the same keys
+matched_as : (kind : TrieKind) (b : SearchBy) (begins : Bool) (word other key : List ℕ) → word_by (kind_of kind) b word ≡ word_by (kind_of kind) b other
+    → (is_word b (word_by (kind_of kind) b word) && found_from begins (finds_by (kind_of kind) b word) key) ≡ (is_word b (word_by (kind_of kind) b other) && found_from begins (finds_by (kind_of kind) b other) key)
+matched_as kind b begins word other key same = ap (λ w. is_word b w && found_from begins (λ k. finds_in (ignores_case (kind_of kind)) b w (folded_key (kind_of kind) k)) key) same
+
 matched_folded : (kind : TrieKind) (o p : Option Sought) (word key : List ℕ) → word ≡ word_of kind o
-    → option_map (λ s. s.by) p ≡ option_map (λ s. s.by) o → option_map (λ s. s.word.now) p ≡ option_map (λ _. word) o → is_matched kind p key ≡ is_matched kind o key
-matched_folded kind None None word key is by has = refl
-matched_folded kind None (Some t) word key is by has = absurd (cc)
-matched_folded kind (Some s) None word key is by has = absurd (cc)
-matched_folded kind (Some s) (Some t) word key is by has =
+    → option_map (λ s. s.by) p ≡ option_map (λ s. s.by) o → option_map (λ s. s.word.now) p ≡ option_map (λ _. word) o → option_map (λ s. s.begins) p ≡ option_map (λ s. s.begins) o → is_matched kind p key ≡ is_matched kind o key
+matched_folded kind None None word key is by has begins = refl
+matched_folded kind None (Some t) word key is by has begins = absurd (cc)
+matched_folded kind (Some s) None word key is by has begins = absurd (cc)
+matched_folded kind (Some s) (Some t) word key is by has begins =
     let same : word_by (kind_of kind) s.by t.word.now ≡ word_by (kind_of kind) s.by s.word.now = ap (word_by (kind_of kind) s.by) (some_inj has ∙ is) ∙ word_twice kind s.by s.word.now in
-    rw (some_inj by, same) refl
+    rw (some_inj by, some_inj begins) (matched_as kind s.by s.begins t.word.now s.word.now key same)
 
 -- and by as many edits
+edits_as : (kind : TrieKind) (b : SearchBy) (begins : Bool) (word other key : List ℕ) → word_by (kind_of kind) b word ≡ word_by (kind_of kind) b other
+    → (if begins then free_if (is_word b (word_by (kind_of kind) b word) && found_from begins (finds_by (kind_of kind) b word) key)
+    else if is_word b (word_by (kind_of kind) b word) then edits_to (ignores_case (kind_of kind)) b (word_by (kind_of kind) b word) (folded_key (kind_of kind) key) else None)
+    ≡ (if begins then free_if (is_word b (word_by (kind_of kind) b other) && found_from begins (finds_by (kind_of kind) b other) key)
+    else if is_word b (word_by (kind_of kind) b other) then edits_to (ignores_case (kind_of kind)) b (word_by (kind_of kind) b other) (folded_key (kind_of kind) key) else None)
+edits_as kind b true word other key same = ap free_if (matched_as kind b true word other key same)
+edits_as kind b false word other key same = ap (λ w. if is_word b w then edits_to (ignores_case (kind_of kind)) b w (folded_key (kind_of kind) key) else None) same
+
 edits_folded : (kind : TrieKind) (o p : Option Sought) (word key : List ℕ) → word ≡ word_of kind o
-    → option_map (λ s. s.by) p ≡ option_map (λ s. s.by) o → option_map (λ s. s.word.now) p ≡ option_map (λ _. word) o → edits_matched kind p key ≡ edits_matched kind o key
-edits_folded kind None None word key is by has = refl
-edits_folded kind None (Some t) word key is by has = absurd (cc)
-edits_folded kind (Some s) None word key is by has = absurd (cc)
-edits_folded kind (Some s) (Some t) word key is by has =
+    → option_map (λ s. s.by) p ≡ option_map (λ s. s.by) o → option_map (λ s. s.word.now) p ≡ option_map (λ _. word) o → option_map (λ s. s.begins) p ≡ option_map (λ s. s.begins) o → edits_matched kind p key ≡ edits_matched kind o key
+edits_folded kind None None word key is by has begins = refl
+edits_folded kind None (Some t) word key is by has begins = absurd (cc)
+edits_folded kind (Some s) None word key is by has begins = absurd (cc)
+edits_folded kind (Some s) (Some t) word key is by has begins =
     let same : word_by (kind_of kind) s.by t.word.now ≡ word_by (kind_of kind) s.by s.word.now = ap (word_by (kind_of kind) s.by) (some_inj has ∙ is) ∙ word_twice kind s.by s.word.now in
-    rw (some_inj by, same) refl
+    rw (some_inj by, some_inj begins) (edits_as kind s.by s.begins t.word.now s.word.now key same)
 
 -- so are the bounds
 in_folded : (kind : TrieKind) (c d : Choice) (key : List ℕ) → bound_map (λ b. b.now) d.range.from ≡ folded_bound kind (bound_map (λ b. b.now) c.range.from)
@@ -137,24 +149,25 @@ in_folded kind c d key from to =
     rw (f, t) refl
 
 -- a choice with the folded words of another one chooses the same keys
-pub chosen_folded : (kind : TrieKind) (c : Choice) (words : FoldedWords) (d : Choice) → AreWordsOf kind c words → HasWords words c d → (key : List ℕ) → is_chosen kind d key ≡ is_chosen kind c key
-chosen_folded kind c words d are has key =
+kept_folded : (kind : TrieKind) (c : Choice) (words : FoldedWords) (d : Choice) → AreWordsOf kind c words → HasWords words c d → (key : List ℕ) → is_kept kind d key ≡ is_kept kind c key
+kept_folded kind c words d are has key =
     let begins : begins_with (kind_of kind) d.prefix.now key ≡ begins_with (kind_of kind) c.prefix.now key
     = ap (λ p. begins_with (kind_of kind) p key) (has.prefix ∙ are.prefix) ∙ prefix_folded (kind_of kind) c.prefix.now key in
     let inside = in_folded kind c d key (has.from ∙ are.from) (has.to ∙ are.to) in
-    let found = matched_folded kind c.sought d.sought words.word.items key are.word has.by has.word in
-    rw (begins, inside, found) refl
+    rw (begins, inside, has.without) refl
+
+pub chosen_folded : (kind : TrieKind) (c : Choice) (words : FoldedWords) (d : Choice) → AreWordsOf kind c words → HasWords words c d → (key : List ℕ) → is_chosen kind d key ≡ is_chosen kind c key
+chosen_folded kind c words d are has key =
+    ap (λ b. b && is_matched kind d.sought key) (kept_folded kind c words d are has key)
+    ∙ ap (λ b. is_kept kind c key && b) (matched_folded kind c.sought d.sought words.word.items key are.word has.by has.word has.begins)
 
 pub measured_folded : (kind : TrieKind) (c : Choice) (words : FoldedWords) (d : Choice) → AreWordsOf kind c words → HasWords words c d → (key : List ℕ) → measured kind d key ≡ measured kind c key
 measured_folded kind c words d are has key =
-    let begins : begins_with (kind_of kind) d.prefix.now key ≡ begins_with (kind_of kind) c.prefix.now key
-    = ap (λ p. begins_with (kind_of kind) p key) (has.prefix ∙ are.prefix) ∙ prefix_folded (kind_of kind) c.prefix.now key in
-    let inside = in_folded kind c d key (has.from ∙ are.from) (has.to ∙ are.to) in
-    let edits = edits_folded kind c.sought d.sought words.word.items key are.word has.by has.word in
-    rw (begins, inside, edits) refl
+    ap (λ b. if b then edits_matched kind d.sought key else None) (kept_folded kind c words d are has key)
+    ∙ ap (λ o. if is_kept kind c key then o else None) (edits_folded kind c.sought d.sought words.word.items key are.word has.by has.word has.begins)
 
 -- other edits leave words as they are
-words_at : (kind : TrieKind) (e : ℕ) (o : Option Sought) → word_of kind (option_map {U = Sought} (λ s. record { by = by_edits e s.by; word = s.word }) o) ≡ word_of kind o
+words_at : (kind : TrieKind) (e : ℕ) (o : Option Sought) → word_of kind (option_map (sought_at e) o) ≡ word_of kind o
 words_at kind e None = refl
 words_at kind e (Some s) = word_edited kind e s.by s.word.now
 
@@ -167,26 +180,34 @@ are_at kind e c words h = record {
 }
 
 has_by : (e : ℕ) (o p : Option Sought) → option_map (λ s. s.by) p ≡ option_map (λ s. s.by) o
-    → option_map (λ s. s.by) (option_map {U = Sought} (λ s. record { by = by_edits e s.by; word = s.word }) p) ≡ option_map (λ s. s.by) (option_map {U = Sought} (λ s. record { by = by_edits e s.by; word = s.word }) o)
+    → option_map (λ s. s.by) (option_map (sought_at e) p) ≡ option_map (λ s. s.by) (option_map (sought_at e) o)
 has_by e None None h = refl
 has_by e None (Some t) h = absurd (cc)
 has_by e (Some s) None h = absurd (cc)
 has_by e (Some s) (Some t) h = ap (λ b. Some (by_edits e b)) (some_inj h)
 
 has_word : (e : ℕ) (word : List ℕ) (o p : Option Sought) → option_map (λ s. s.word.now) p ≡ option_map (λ _. word) o
-    → option_map (λ s. s.word.now) (option_map {U = Sought} (λ s. record { by = by_edits e s.by; word = s.word }) p) ≡ option_map (λ _. word) (option_map {U = Sought} (λ s. record { by = by_edits e s.by; word = s.word }) o)
+    → option_map (λ s. s.word.now) (option_map (sought_at e) p) ≡ option_map (λ _. word) (option_map (sought_at e) o)
 has_word e word None None h = refl
 has_word e word None (Some t) h = absurd (cc)
 has_word e word (Some s) None h = absurd (cc)
 has_word e word (Some s) (Some t) h = h
+
+has_begins : (e : ℕ) (o p : Option Sought) → option_map (λ s. s.begins) p ≡ option_map (λ s. s.begins) o → option_map (λ s. s.begins) (option_map (sought_at e) p) ≡ option_map (λ s. s.begins) (option_map (sought_at e) o)
+has_begins e None None h = refl
+has_begins e None (Some t) h = absurd (cc)
+has_begins e (Some s) None h = absurd (cc)
+has_begins e (Some s) (Some t) h = h
 
 has_at : (e : ℕ) (c : Choice) (words : FoldedWords) (d : Choice) → HasWords words c d → HasWords words (at_edits e c) (at_edits e d)
 has_at e c words d h = record {
   prefix = h.prefix;
   from = h.from;
   to = h.to;
+  without = h.without;
   by = has_by e c.sought d.sought h.by;
   word = has_word e words.word.items c.sought d.sought h.word;
+  begins = has_begins e c.sought d.sought h.begins;
 }
 
 edits_alike : (o p : Option Sought) → option_map (λ s. s.by) p ≡ option_map (λ s. s.by) o → unwrap_or (option_map (λ s. most_by s.by) p) 0 ≡ unwrap_or (option_map (λ s. most_by s.by) o) 0
@@ -217,7 +238,7 @@ module _ (kind : TrieKind) (c : Choice) (words : FoldedWords) (d : Choice) (are 
 
 -- other edits leave a choice folded
 folded_at_word : (kind : TrieKind) (e : ℕ) (o : Option Sought) → option_map (λ s. word_by (kind_of kind) s.by s.word.now) o ≡ option_map (λ s. s.word.now) o
-    → option_map (λ s. word_by (kind_of kind) s.by s.word.now) (option_map {U = Sought} (λ s. record { by = by_edits e s.by; word = s.word }) o) ≡ option_map (λ s. s.word.now) (option_map {U = Sought} (λ s. record { by = by_edits e s.by; word = s.word }) o)
+    → option_map (λ s. word_by (kind_of kind) s.by s.word.now) (option_map (sought_at e) o) ≡ option_map (λ s. s.word.now) (option_map (sought_at e) o)
 folded_at_word kind e None h = refl
 folded_at_word kind e (Some s) h = ap (λ w. Some w) (word_edited kind e s.by s.word.now) ∙ h
 
@@ -232,11 +253,26 @@ in_range kind c h key = rw (h.from, h.to) refl
 pub same_word : (kind : TrieKind) (c : Choice) (s : Sought) → IsFolded kind c → c.sought ≡ Some s → word_by (kind_of kind) s.by s.word.now ≡ s.word.now
 same_word kind c s h is = some_inj (subst (λ o. option_map (λ t. word_by (kind_of kind) t.by t.word.now) o ≡ option_map (λ t. t.word.now) o) is h.word)
 
+-- a front of the fold of a key is the fold of a front
+front_folded : (kind : TrieKind) (finds : List ℕ → Bool) (key : List ℕ) → some_front finds (folded_key (kind_of kind) key) ≡ some_front (λ k. finds (folded_key (kind_of kind) k)) key
+front_folded kind finds [] = refl
+front_folded kind finds (b ∷ key) = ap (λ x. finds [] || x) (front_folded kind (λ rest. finds (fold_byte (kind_of kind) b ∷ rest)) key)
+
+from_folded : (kind : TrieKind) (begins : Bool) (finds : List ℕ → Bool) (key : List ℕ) → found_from begins finds (folded_key (kind_of kind) key) ≡ found_from begins (λ k. finds (folded_key (kind_of kind) k)) key
+from_folded kind true finds key = front_folded kind finds key
+from_folded kind false finds key = refl
+
 -- and a word finds the keys whose folds it finds
 pub found_folded : (kind : TrieKind) (c : Choice) (s : Sought) (accepts : List ℕ → Bool) → IsFolded kind c → c.sought ≡ Some s → is_word s.by s.word.now ≡ true → accepts ≡ finds_in (ignores_case (kind_of kind)) s.by s.word.now
-    → (key : List ℕ) → accepts (folded_key (kind_of kind) key) ≡ is_matched kind c.sought key
+    → (key : List ℕ) → found_from s.begins accepts (folded_key (kind_of kind) key) ≡ is_matched kind c.sought key
 found_folded kind c s accepts h is word finds key =
-    rw (is, same_word kind c s h is, word, finds) refl
+    let same = same_word kind c s h is in
+    let told : true ≡ is_word s.by (word_by (kind_of kind) s.by s.word.now) = sym (ap (is_word s.by) same ∙ word) in
+    from_folded kind s.begins accepts key
+    ∙ ap (λ f. found_from s.begins (λ k. f (folded_key (kind_of kind) k)) key) finds
+    ∙ ap (λ w. found_from s.begins (λ k. finds_in (ignores_case (kind_of kind)) s.by w (folded_key (kind_of kind) k)) key) (sym same)
+    ∙ ap (λ b. b && found_from s.begins (finds_by (kind_of kind) s.by s.word.now) key) told
+    ∙ ap (λ o. is_matched kind o key) (sym is)
 
 -- a word that is none of its sort finds none
 pub none_found : (kind : TrieKind) (c : Choice) (s : Sought) → IsFolded kind c → c.sought ≡ Some s → is_word s.by s.word.now ≡ false → (key : List ℕ) → false ≡ is_matched kind c.sought key
@@ -254,15 +290,12 @@ if_found (Ok found) kind bytes accepts left lists h = λ m means. subst (λ l. (
 if_found (Err e) kind bytes accepts left lists h = tt
 
 -- whether one is chosen
-pub by_all_found : (kind : TrieKind) (c : Choice) (accepts : List ℕ → Bool) (bytes : List ℕ) → IsFolded kind c → ((key : List ℕ) → accepts key ≡ is_matched kind c.sought key) → (r : Result Bool AllocError)
-    → IfOk r (λ found. (m : Map) → Means (kind_of kind) bytes m
-    → (length (accepted (λ key. (begins_with (kind_of kind) c.prefix.now key && bounds_contain by_bytes (bound_map (λ b. b.now) c.range.from) (bound_map (λ b. b.now) c.range.to) (folded_key (kind_of kind) key)) && accepts key) (entries m)) == 0) ≡ not found)
+pub by_all_found : (kind : TrieKind) (c : Choice) (keeps accepts : List ℕ → Bool) (bytes : List ℕ) → ((key : List ℕ) → keeps key ≡ is_kept kind c key) → ((key : List ℕ) → accepts key ≡ is_matched kind c.sought key) → (r : Result Bool AllocError)
+    → IfOk r (λ found. (m : Map) → Means (kind_of kind) bytes m → (length (accepted (λ key. keeps key && accepts key) (entries m)) == 0) ≡ not found)
     → IfOk r (λ found. (m : Map) → Means (kind_of kind) bytes m → (length (chosen kind c (entries m)) == 0) ≡ not found)
-by_all_found kind c accepts bytes h is (Ok found) all = λ m means.
-    subst (λ l. (length l == 0) ≡ not found)
-    (accepted_alike (λ key. (begins_with (kind_of kind) c.prefix.now key && bounds_contain by_bytes (bound_map (λ b. b.now) c.range.from) (bound_map (λ b. b.now) c.range.to) (folded_key (kind_of kind) key)) && accepts key) (is_chosen kind c) (λ key. rw (in_range kind c h key, is key) refl) (entries m))
-    (all m means)
-by_all_found kind c accepts bytes h is (Err e) all = tt
+by_all_found kind c keeps accepts bytes kept is (Ok found) all = λ m means.
+    subst (λ l. (length l == 0) ≡ not found) (accepted_alike (λ key. keeps key && accepts key) (is_chosen kind c) (by_all kind c keeps accepts kept is) (entries m)) (all m means)
+by_all_found kind c keeps accepts bytes kept is (Err e) all = tt
 
 -- the fewest edits are these, if they choose a pair
 pub closest_here : (kind : TrieKind) (c : Choice) (pairs : Pairs) (e n : ℕ) → e < n → (length (chosen kind (at_edits e c) pairs) == 0) ≡ false → closest kind c pairs e (n - e) ≡ chosen kind (at_edits e c) pairs

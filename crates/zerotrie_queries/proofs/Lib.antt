@@ -17,5 +17,7 @@ mod DiffLemmas
 mod NearLemmas
 mod FoldLemmas
 mod EditsLemmas
+mod KeptLemmas
+mod BeginsLemmas
 mod MeasuredLemmas
 mod WordLemmas

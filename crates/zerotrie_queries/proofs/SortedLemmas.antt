@@ -24,7 +24,7 @@ use Rattle.zerotrie_search.specs.Searches.{accepted}
 use Rattle.zerotrie_search.specs.Sets.{by_bytes}
 use Rattle.zerotrie_search.specs.Sorted.{within}
 use Rattle.zerotrie_search.proofs.PathLemmas.{lists_few}
-use Rattle.zerotrie_queries.specs.Chosen.{chosen, is_chosen, is_in, is_matched, IsFolded}
+use Rattle.zerotrie_queries.specs.Chosen.{chosen, is_chosen, is_in, is_matched, is_spared, IsFolded}
 use Rattle.zerotrie_queries.specs.Sorted.{picked, below_some, AreWithin}
 use Rattle.zerotrie_queries.specs.declared.question.Order.TheVariants.{ByBytes}
 use Rattle.zerotrie_queries.specs.declared.question.Choice.{Choice}
@@ -131,24 +131,24 @@ both true false p q = q
 both false b p q = p
 
 -- the parts of what is chosen
-both_parts : (a b c : Bool) → ((a && b) && c) ≡ true → (a ≡ true) × (b ≡ true)
-both_parts true true c h = (refl, refl)
-both_parts true false c h = absurd (cc)
-both_parts false b c h = absurd (cc)
+both_parts : (a b c d : Bool) → (((a && b) && c) && d) ≡ true → (a ≡ true) × (b ≡ true)
+both_parts true true c d h = (refl, refl)
+both_parts true false c d h = absurd (cc)
+both_parts false b c d h = absurd (cc)
 
 -- the keys that are chosen are between a prefix and the bytes above all keys that begin with it
 pub prefix_within : (kind : TrieKind) (c : Choice) (above : Option (List ℕ)) → kind ≢ Ignore
     → IfSome above (λ bound. (key : List ℕ) → is_some (after_run c.prefix.now key) ≡ true → slice_cmp nat_cmp key bound ≡ Less)
     → AreWithin kind c (Included c.prefix.now) (below_some above)
 prefix_within kind c above exact h key is =
-    let begins = (both_parts (begins_with (kind_of kind) c.prefix.now key) (is_in kind c.range key) (is_matched kind c.sought key) is).0 in
+    let begins = (both_parts (begins_with (kind_of kind) c.prefix.now key) (is_in kind c.range key) (is_spared kind c.without key) (is_matched kind c.sought key) is).0 in
     let run = as_run kind exact c.prefix.now key begins in
     both (is_le (slice_cmp nat_cmp c.prefix.now key)) (is_up_to_end by_bytes (below_some above) key) (run_from c.prefix.now key run) (ends c.prefix.now key above h run)
 
 -- they are in the range
 pub range_within : (kind : TrieKind) (c : Choice) → kind ≢ Ignore → IsFolded kind c → AreWithin kind c (bound_map (λ b. b.now) c.range.from) (bound_map (λ b. b.now) c.range.to)
 range_within kind c exact h key is =
-    let inside = (both_parts (begins_with (kind_of kind) c.prefix.now key) (is_in kind c.range key) (is_matched kind c.sought key) is).1 in
+    let inside = (both_parts (begins_with (kind_of kind) c.prefix.now key) (is_in kind c.range key) (is_spared kind c.without key) (is_matched kind c.sought key) is).1 in
     subst (λ k. bounds_contain by_bytes (bound_map (λ b. b.now) c.range.from) (bound_map (λ b. b.now) c.range.to) k ≡ true) (exact_key kind exact key) (in_range kind c h key ∙ inside)
 
 -- without bounds all keys are

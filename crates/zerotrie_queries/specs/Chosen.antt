@@ -1,5 +1,5 @@
 -- The pairs that are chosen of a trie.
-use Rattle.std.specs.Prelude.{◌≡◌, ℕ, List, Bool, true, false, ◌&&◌, ◌==◌, Option, Some, None, [], length, nat_le, unwrap_or, if◌then◌else◌}
+use Rattle.std.specs.Prelude.{◌≡◌, ℕ, List, Bool, true, false, ◌&&◌, ◌==◌, Option, Some, None, [], length, nat_le, not, unwrap_or, if◌then◌else◌}
 use Rattle.std.proofs.Common.{zero, suc}
 use Rattle.std.specs.Range.Bound.{bound_map, bounds_contain}
 use Rattle.std.specs.Option.{option_map}
@@ -10,9 +10,9 @@ use Rattle.zerotrie_core.specs.Kinds.{kind_of}
 use Rattle.zerotrie_core.specs.Listings.{Left}
 use Rattle.zerotrie_core.specs.declared.TrieKind.{TrieKind}
 use Rattle.zerotrie_index.specs.Tries.{folded_key}
-use Rattle.zerotrie_search.specs.Automata.{edits_to, finds_by, ignores_case, most_by, word_by}
+use Rattle.zerotrie_search.specs.Automata.{edits_to, finds_by, free_if, ignores_case, most_by, word_by}
 use Rattle.zerotrie_search.specs.Searches.{accepted}
-use Rattle.zerotrie_search.specs.Sets.{by_bytes}
+use Rattle.zerotrie_search.specs.Sets.{by_bytes, some_front}
 use Rattle.zerotrie_search.specs.Globs as globs
 use Rattle.zerotrie_search.specs.declared.TheConstants.{WORD_LIMIT}
 use Rattle.zerotrie_search.specs.declared.any.SearchBy.{SearchBy}
@@ -20,6 +20,7 @@ use Rattle.zerotrie_search.specs.declared.any.SearchBy.TheVariants as by
 use Rattle.zerotrie_search.specs.declared.range.KeyRange.{KeyRange}
 use Rattle.zerotrie_queries.specs.declared.folding.FoldedWords.{FoldedWords}
 use Rattle.zerotrie_queries.specs.declared.question.Choice.{Choice}
+use Rattle.zerotrie_queries.specs.declared.question.Pattern.{Pattern}
 use Rattle.zerotrie_queries.specs.declared.question.Sought.{Sought}
 
 -- whether a word is one of its sort: a pattern that is not malformed, text, and not too long
@@ -47,14 +48,37 @@ folded_bound kind bound = bound_map (folded_key (kind_of kind)) bound
 abbrev pub is_in : TrieKind → KeyRange → List ℕ → Bool
 is_in kind r key = bounds_contain by_bytes (folded_bound kind (bound_map (λ b. b.now) r.from)) (folded_bound kind (bound_map (λ b. b.now) r.to)) (folded_key (kind_of kind) key)
 
+-- whether a key is found, or if that is asked, begins with a key that is
+abbrev pub found_from : (begins : Bool) → (finds : List ℕ → Bool) → List ℕ → Bool
+found_from begins finds key = if begins then some_front finds key else finds key
+
+-- the same from a state, or from where a front was found
+abbrev pub found_left : {S : Type 0} → (begins : Bool) → (S → List ℕ → Bool) → Option S → List ℕ → Bool
+found_left begins finds_from None key = true
+found_left begins finds_from (Some state) key = found_from begins (finds_from state) key
+
 -- whether a word finds it, if there is one
 abbrev pub is_matched : TrieKind → Option Sought → List ℕ → Bool
 is_matched kind None key = true
-is_matched kind (Some s) key = is_word s.by (word_by (kind_of kind) s.by s.word.now) && finds_by (kind_of kind) s.by s.word.now key
+is_matched kind (Some s) key = is_word s.by (word_by (kind_of kind) s.by s.word.now) && found_from s.begins (finds_by (kind_of kind) s.by s.word.now) key
+
+-- the sort of a pattern, of characters or of bytes
+abbrev pub pattern_by : (by_chars : Bool) → SearchBy
+pattern_by true = by.GlobChars
+pattern_by false = by.Glob
+
+-- whether no pattern matches it; one that is malformed matches none
+abbrev pub is_spared : TrieKind → Option Pattern → List ℕ → Bool
+is_spared kind None key = true
+is_spared kind (Some p) key = not (is_word (pattern_by p.by_chars) p.text.now && finds_by (kind_of kind) (pattern_by p.by_chars) p.text.now key)
+
+-- whether the conditions of a choice hold but that of its word
+abbrev pub is_kept : TrieKind → Choice → List ℕ → Bool
+is_kept kind c key = (begins_with (kind_of kind) c.prefix.now key && is_in kind c.range key) && is_spared kind c.without key
 
 -- whether it is chosen
 abbrev pub is_chosen : TrieKind → Choice → List ℕ → Bool
-is_chosen kind c key = (begins_with (kind_of kind) c.prefix.now key && is_in kind c.range key) && is_matched kind c.sought key
+is_chosen kind c key = is_kept kind c key && is_matched kind c.sought key
 
 -- the word by which keys are sought, as the kind compares keys, or no bytes
 abbrev pub word_of : TrieKind → Option Sought → List ℕ
@@ -78,8 +102,10 @@ pub record HasWords (words : FoldedWords) (c with_words : Choice) : Type 0 where
   pub prefix : with_words.prefix.now ≡ words.prefix.items
   pub from : bound_map (λ b. b.now) with_words.range.from ≡ bound_map (λ v. v.items) words.from
   pub to : bound_map (λ b. b.now) with_words.range.to ≡ bound_map (λ v. v.items) words.to
+  pub without : with_words.without ≡ c.without
   pub by : option_map (λ s. s.by) with_words.sought ≡ option_map (λ s. s.by) c.sought
   pub word : option_map (λ s. s.word.now) with_words.sought ≡ option_map (λ _. words.word.items) c.sought
+  pub begins : option_map (λ s. s.begins) with_words.sought ≡ option_map (λ s. s.begins) c.sought
 
 -- how many edits are allowed, if keys are sought by edits
 abbrev pub edits_of : Choice → ℕ
@@ -96,8 +122,11 @@ by_edits e (by.SwapsChars edits) = by.SwapsChars e
 by_edits e (by.Fuzzy edits) = by.Fuzzy e
 by_edits e (by.FuzzyChars edits) = by.FuzzyChars e
 
+abbrev pub sought_at : ℕ → Sought → Sought
+sought_at e s = record { by = by_edits e s.by; word = s.word; begins = s.begins }
+
 abbrev pub at_edits : ℕ → Choice → Choice
-at_edits e c = record { prefix = c.prefix; range = c.range; sought = option_map {U = Sought} (λ s. record { by = by_edits e s.by; word = s.word }) c.sought }
+at_edits e c = record { prefix = c.prefix; range = c.range; without = c.without; sought = option_map (sought_at e) c.sought }
 
 -- the pairs whose keys are chosen, in their order
 abbrev pub chosen : TrieKind → Choice → Pairs → Pairs
@@ -109,15 +138,12 @@ closest kind c pairs e zero = chosen kind (at_edits e c) pairs
 closest kind c pairs e (suc n) = if length (chosen kind (at_edits e c) pairs) == 0 then closest kind c pairs (suc e) n else chosen kind (at_edits e c) pairs
 
 -- how many edits make a key of the word by which keys are sought, if some number does; none if it finds the key by no
--- edits, or if there is no word
+-- edits, if keys are sought that begin with one that it finds, or if there is no word
 abbrev pub edits_matched : TrieKind → Option Sought → List ℕ → Option ℕ
 edits_matched kind None key = Some 0
 edits_matched kind (Some s) key =
-    if is_word s.by (word_by (kind_of kind) s.by s.word.now) then edits_to (ignores_case (kind_of kind)) s.by (word_by (kind_of kind) s.by s.word.now) (folded_key (kind_of kind) key) else None
-
--- whether the other conditions of a choice hold
-abbrev pub is_kept : TrieKind → Choice → List ℕ → Bool
-is_kept kind c key = begins_with (kind_of kind) c.prefix.now key && is_in kind c.range key
+    if s.begins then free_if (is_matched kind (Some s) key)
+    else if is_word s.by (word_by (kind_of kind) s.by s.word.now) then edits_to (ignores_case (kind_of kind)) s.by (word_by (kind_of kind) s.by s.word.now) (folded_key (kind_of kind) key) else None
 
 -- the same number of a key of which the other conditions hold
 abbrev pub measured : TrieKind → Choice → List ℕ → Option ℕ
@@ -137,14 +163,6 @@ pub record Coming : Type 0 where
 -- the state of a stream with this current pair, of which this is left
 abbrev pub coming : Left → List ℕ × ℕ → Coming
 coming left current = record { key = current.0; value = current.1; pairs = left.pairs }
-
--- The state of a listing of the nearest: the pair in hand, the pairs to come, how many edits make keys of the word,
--- and how many make the key in hand.
-pub record Measuring : Type 0 where
-  pub current : List ℕ × ℕ
-  pub left : Left
-  pub measure : List ℕ → Option ℕ
-  pub edits : ℕ
 
 -- how many edits make a key of a word, if a condition holds of the key
 abbrev pub measured_if : (holds : List ℕ → Bool) → (measure : List ℕ → Option ℕ) → List ℕ → Option ℕ

@@ -84,7 +84,7 @@ impl FoldedWords {
     }
 
     /// Returns a choice with these words in place of its own.
-    pub fn in_place_of<'w>(&'w self, choice: Choice<'_>) -> Choice<'w>
+    pub fn in_place_of<'w>(&'w self, choice: Choice<'w>) -> Choice<'w>
         ensures { HasWords self.now choice.entry result }
     {
         Choice {
@@ -93,10 +93,12 @@ impl FoldedWords {
                 from: lent(&self.from),
                 to: lent(&self.to),
             },
+            without: choice.without,
             sought: match choice.sought {
                 Some(sought) => Some(Sought {
                     by: sought.by,
                     word: self.word.as_slice(),
+                    begins: sought.begins,
                 }),
                 None => None,
             },

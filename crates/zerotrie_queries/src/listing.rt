@@ -2,7 +2,7 @@
 
 ghost use Rattle.std.specs.Prelude.{◌≡◌, ◌==◌, length, not, ◌≢◌, ℕ, List, [], None, true, IfOk, IfErr, IfSome, IfNone, OnOk, OnErr};
 ghost use Rattle.std.specs.FinMap.{entries};
-ghost use Rattle.zerotrie_core.specs.Maps.{Map, beginning};
+ghost use Rattle.zerotrie_core.specs.Maps.{Map, beginning, begins_with};
 ghost use Rattle.zerotrie_core.specs.Texts.{Means};
 ghost use Rattle.zerotrie_core.specs.WellFormed.{IsWellFormed};
 ghost use Rattle.zerotrie_core.specs.Kinds.{kind_of};
@@ -10,7 +10,7 @@ ghost use Rattle.zerotrie_search.specs.Searches.{accepted};
 ghost use Rattle.std.specs.Range.Bound.{bound_map};
 ghost use Rattle.zerotrie_core.specs.declared.TrieKind.{TrieKind};
 ghost use Rattle.zerotrie_core.specs.declared.TrieKind.TheVariants.{Ignore};
-ghost use Rattle.zerotrie_queries.specs.Chosen.{at_edits, chosen, closest, edits_of, is_chosen, is_in, is_matched, IsFolded};
+ghost use Rattle.zerotrie_queries.specs.Chosen.{at_edits, chosen, closest, edits_of, is_chosen, is_in, is_kept, is_matched, IsFolded};
 ghost use Rattle.zerotrie_queries.specs.Sorted.{AreWithin, picked};
 ghost use Rattle.zerotrie_queries.specs.declared.question.Order.TheVariants.{ByBytes, Closest};
 ghost use Rattle.zerotrie_queries.specs.Listed.{AreListed, AreListedInPart, AreNoText, AreUnlisted, IsListingNoted};
@@ -25,9 +25,10 @@ mod nearest;
 pub use distances::write_distances;
 
 use crate::folding::FoldedWords;
+use crate::found::Found;
+use crate::kept::conditions;
 use crate::listing::forms::write_first;
 use crate::listing::nearest::write_nearest;
-use crate::prefix::KindPrefix;
 use crate::print::Form;
 use crate::question::{Choice, Order};
 use crate::sorted::{above_prefix, stream_chosen, upper_bound};
@@ -119,13 +120,20 @@ fn is_unbounded(range: KeyRange<'_>) -> bool
     }
 }
 
-/// Returns whether a choice has no condition but that of its automaton.
-fn is_free(choice: Choice<'_>) -> bool
-    ensures prefix { result ≡ true → choice.entry.prefix.now ≡ [] }
-    ensures range { result ≡ true → (kind : TrieKind) → (key : List ℕ)
-        → is_in kind choice.entry.range key ≡ true }
+/// Returns whether a choice has no condition but a prefix and that of its word.
+fn is_by_prefix(choice: Choice<'_>) -> bool
+    ensures { result ≡ true → (kind : TrieKind) → (key : List ℕ)
+        → is_kept kind choice.entry key ≡ begins_with (kind_of kind) choice.entry.prefix.now key }
 {
-    choice.prefix.is_empty() && is_unbounded(choice.range)
+    choice.without.is_none() && is_unbounded(choice.range)
+}
+
+/// Returns whether a choice has no condition but that of its word.
+fn is_free(choice: Choice<'_>) -> bool
+    ensures { result ≡ true → (kind : TrieKind) → (key : List ℕ)
+        → is_kept kind choice.entry key ≡ true }
+{
+    choice.prefix.is_empty() && is_by_prefix(choice)
 }
 
 /// Writes the first pairs that hold all conditions of a choice, in the order of the trie. The automaton
@@ -152,12 +160,7 @@ fn write_with_all<T: Automaton + Copy + Drop, W: Write>(
         (W.contents output.new.inner)) }
     ensures noted { IsNoted result output.old.failed output.new.failed }
 {
-    let prefix = KindPrefix {
-        kind: trie.kind,
-        prefix: choice.prefix,
-    };
-    let range = ByKind(trie.kind, choice.range);
-    let all = Both(Both(prefix, range), automaton);
+    let all = Both(conditions(trie.kind, choice), automaton);
     write_accepted(alloc, trie, form, all, limit, output)
 }
 
@@ -215,7 +218,7 @@ fn write_unmatched<W: Write>(
         (W.contents output.new.inner)) }
     ensures noted { IsNoted result output.old.failed output.new.failed }
 {
-    if is_unbounded(choice.range) {
+    if is_by_prefix(choice) {
         write_prefix(alloc, trie, form, choice.prefix, limit, output)
     } else {
         let any_key = StartsWith(b"");
@@ -252,9 +255,10 @@ fn write_stored<W: Write>(
         let no_key = Not(StartsWith(b""));
         return write_matched(alloc, trie, form, choice, no_key, limit, output);
     };
-    let kind = trie.kind;
+    let (kind, begins) = (trie.kind, sought.begins);
     by_automaton!(any, automaton => {
-        write_matched(alloc, trie, form, choice, ByKind(kind, automaton), limit, output)
+        let automaton = ByKind(kind, Found { begins, automaton });
+        write_matched(alloc, trie, form, choice, automaton, limit, output)
     })
 }
 
@@ -327,12 +331,7 @@ fn write_matched_between<T: Automaton + Copy + Drop, W: Write>(
             alloc, trie, form, choice, automaton, limit, from, to, output,
         );
     }
-    let prefix = KindPrefix {
-        kind: trie.kind,
-        prefix: choice.prefix,
-    };
-    let range = ByKind(trie.kind, choice.range);
-    let chosen = Both(Both(prefix, range), automaton);
+    let chosen = Both(conditions(trie.kind, choice), automaton);
     write_accepted_between(alloc, trie, form, choice, chosen, limit, from, to, output)
 }
 
@@ -371,9 +370,9 @@ fn write_between<W: Write>(
         let no_key = Not(StartsWith(b""));
         return write_matched_between(alloc, trie, form, choice, no_key, limit, from, to, output);
     };
-    let kind = trie.kind;
+    let (kind, begins) = (trie.kind, sought.begins);
     by_automaton!(any, automaton => {
-        let automaton = ByKind(kind, automaton);
+        let automaton = ByKind(kind, Found { begins, automaton });
         write_matched_between(alloc, trie, form, choice, automaton, limit, from, to, output)
     })
 }
@@ -482,12 +481,7 @@ fn has_matched<T: Automaton + Drop>(
     ensures { IfOk result (λ found. (m : Map) → Means (kind_of trie.now.kind) trie.now.bytes.now m
         → (length (chosen trie.now.kind choice.entry (entries m)) == 0) ≡ not found) }
 {
-    let prefix = KindPrefix {
-        kind: trie.kind,
-        prefix: choice.prefix,
-    };
-    let range = ByKind(trie.kind, choice.range);
-    has_accepted(alloc, trie, Both(Both(prefix, range), automaton))
+    has_accepted(alloc, trie, Both(conditions(trie.kind, choice), automaton))
 }
 
 /// Returns whether a trie has a pair whose key is chosen.
@@ -504,8 +498,10 @@ fn has_chosen(alloc: Global, trie: &TrieRef<'_>, choice: Choice<'_>) -> Result<b
     let Some(any) = sought.automaton(trie.kind) else {
         return has_matched(alloc, trie, choice, Not(StartsWith(b"")));
     };
-    let kind = trie.kind;
-    by_automaton!(any, automaton => has_matched(alloc, trie, choice, ByKind(kind, automaton)))
+    let (kind, begins) = (trie.kind, sought.begins);
+    by_automaton!(any, automaton => {
+        has_matched(alloc, trie, choice, ByKind(kind, Found { begins, automaton }))
+    })
 }
 
 /// Returns the fewest edits of the word of a choice with which a pair is chosen, or as many as it allows if

@@ -74,11 +74,13 @@ pub struct Sought<'a> {
     pub by: SearchBy,
     /// The word.
     pub word: &'a [u8],
+    /// Whether it also finds each key that begins with one that it finds.
+    pub begins: bool,
 }
 
 impl<'a> Sought<'a> {
-    /// Returns the automaton of the keys that the word finds, as a kind compares them, or `None` if the word
-    /// is none of its sort. The word is as the kind compares keys.
+    /// Returns the automaton of the keys that the word finds by itself, as a kind compares them, or `None` if
+    /// the word is none of its sort. The word is as the kind compares keys.
     #[tactic(auto, using(crate::proofs::WordLemmas::word_faultless, crate::proofs::WordLemmas::word_error))]
     pub(crate) fn automaton(self, kind: TrieKind) -> Option<AnyAutomaton<'a>>
         ensures some { IfSome result (λ any. (is_word self.entry.by self.entry.word.now ≡ true)
@@ -111,6 +113,7 @@ impl<'a> Sought<'a> {
     fn with_edits(self, edits: u32) -> Self
         ensures by { result.by ≡ by_edits edits self.entry.by }
         ensures word { result.word ≡ self.entry.word }
+        ensures begins { result.begins ≡ self.entry.begins }
     {
         let by = match self.by {
             SearchBy::Fuzzy(_) => SearchBy::Fuzzy(edits),
@@ -123,8 +126,18 @@ impl<'a> Sought<'a> {
         Sought {
             by,
             word: self.word,
+            begins: self.begins,
         }
     }
+}
+
+/// A pattern of a listing.
+#[derive(Clone, Copy, Debug)]
+pub struct Pattern<'a> {
+    /// Whether it matches characters, and otherwise bytes.
+    pub by_chars: bool,
+    /// The pattern.
+    pub text: &'a [u8],
 }
 
 /// Which keys a listing has: those that hold all of this. In a trie that ignores case, keys, bounds and
@@ -135,6 +148,8 @@ pub struct Choice<'a> {
     pub prefix: &'a [u8],
     /// They are between these bounds, by their bytes.
     pub range: KeyRange<'a>,
+    /// This pattern does not match them, if there is one. A malformed one matches no key.
+    pub without: Option<Pattern<'a>>,
     /// This word finds them, if there is one.
     pub sought: Option<Sought<'a>>,
 }
@@ -157,6 +172,7 @@ impl<'a> Choice<'a> {
         Choice {
             prefix: self.prefix,
             range: self.range,
+            without: self.without,
             sought: match self.sought {
                 Some(sought) => Some(sought.with_edits(edits)),
                 None => None,

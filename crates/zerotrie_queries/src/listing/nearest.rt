@@ -10,10 +10,10 @@ ghost use Rattle.zerotrie_queries.specs.Listed.{AreListed, AreListedInPart, AreN
 ghost use Rattle.zerotrie_queries.specs.Sorted.{picked};
 ghost use Rattle.zerotrie_queries.specs.declared.question.Order.TheVariants.{Nearest};
 
+use crate::kept::conditions;
 use crate::listing::forms::write_first;
 use crate::listing::write_sorted;
 use crate::near::stream_near;
-use crate::prefix::KindPrefix;
 use crate::print::Form;
 use crate::question::Choice;
 use std::alloc::Global;
@@ -21,7 +21,7 @@ use std::io;
 use std::io::Write;
 use zerotrie_core::{Trie, TrieRef};
 use zerotrie_files::Noted;
-use zerotrie_search::{AnyAutomaton, Automaton, Both, ByKind, Fuzzy};
+use zerotrie_search::{AnyAutomaton, Automaton, ByKind, Fuzzy};
 
 /// Writes the first pairs whose keys are chosen, the nearest first. The first automaton measures keys as the
 /// word of the choice does, and the other one accepts the keys of which the other conditions hold.
@@ -84,11 +84,7 @@ fn write_near<T: Fuzzy, W: Write>(
         (W.contents output.new.inner)) }
     ensures noted { IsNoted result output.old.failed output.new.failed }
 {
-    let prefix = KindPrefix {
-        kind: trie.kind,
-        prefix: choice.prefix,
-    };
-    let kept = Both(prefix, ByKind(trie.kind, choice.range));
+    let kept = conditions(trie.kind, choice);
     write_kept(alloc, trie, form, choice, automaton, kept, limit, output)
 }
 
@@ -168,7 +164,7 @@ fn write_by_edits<W: Write>(
 }
 
 /// Writes the first pairs whose keys are chosen, the nearest first.
-#[tactic(auto, using(crate::proofs::EditsLemmas::exact_none, crate::proofs::EditsLemmas::edits_found, crate::proofs::EditsLemmas::most_found, crate::proofs::FoldLemmas::found_folded))]
+#[tactic(auto, using(crate::proofs::EditsLemmas::exact_none, crate::proofs::EditsLemmas::exact_no_word, crate::proofs::EditsLemmas::exact_begins, crate::proofs::EditsLemmas::edits_found, crate::proofs::EditsLemmas::most_found, crate::proofs::EditsLemmas::found_whole))]
 pub(crate) fn write_nearest<W: Write>(
     alloc: Global,
     trie: &TrieRef<'_>,
@@ -192,6 +188,9 @@ pub(crate) fn write_nearest<W: Write>(
     let Some(sought) = choice.sought else {
         return write_exact(alloc, trie, form, choice, limit, output);
     };
+    if sought.begins {
+        return write_exact(alloc, trie, form, choice, limit, output);
+    }
     match sought.automaton(trie.kind) {
         Some(any) => write_by_edits(alloc, trie, form, choice, any, limit, output),
         None => write_exact(alloc, trie, form, choice, limit, output),

@@ -1,4 +1,5 @@
 use Rattle.std.proofs.Common.{rules, ◌≡◌, ◌<◌, ◌^◌, length, true, false}
+use Rattle.zerotrie_search.specs.Searches.{accepted_left}
 use Rattle.zerotrie_queries.specs.Sorted.{picked}
 use Rattle.zerotrie_queries.specs.declared.question.Order.TheVariants.{Nearest}
 use Rattle.zerotrie_queries.proofs.ChoiceLemmas.{if_none_weaker, if_some_weaker, on_err_so, listed_all, listed_part, no_text}
@@ -34,26 +35,26 @@ pub returns-clause-all : goal.returns-clause-all
 returns-clause-all g c =
     let trie = c.args.trie.now in
     let short : length trie.bytes.now < 2 ^ 64 = search rules in
-    let seen = picked_near trie.kind c.args.choice (g.S.Automaton.accepts c.args.kept) (g.T.Fuzzy.measure c.args.automaton) (g.T.Fuzzy.most c.args.automaton) c.requires.kept c.requires.measures c.requires.most trie.bytes.now c.in_ok-seen.seen.left short c.in_ok-seen.ensures.lists in
-    let source = picked_near trie.kind c.args.choice (g.S.Automaton.accepts c.args.kept) (g.T.Fuzzy.measure c.args.automaton) (g.T.Fuzzy.most c.args.automaton) c.requires.kept c.requires.measures c.requires.most trie.bytes.now c.in_ok-pairs.pairs.left short c.in_ok-pairs.ensures.lists in
+    let seen = picked_near trie.kind c.args.choice (g.S.Automaton.accepts c.args.kept) (g.T.Fuzzy.measure c.args.automaton) (g.T.Fuzzy.most c.args.automaton) c.requires.kept c.requires.measures c.requires.most trie.bytes.now (accepted_left (g.S.Automaton.accepts c.in_ok-seen.seen.automaton) c.in_ok-seen.seen.pairs.left) short c.in_ok-seen.ensures.lists in
+    let source = picked_near trie.kind c.args.choice (g.S.Automaton.accepts c.args.kept) (g.T.Fuzzy.measure c.args.automaton) (g.T.Fuzzy.most c.args.automaton) c.requires.kept c.requires.measures c.requires.most trie.bytes.now (accepted_left (g.S.Automaton.accepts c.in_ok-pairs.pairs.automaton) c.in_ok-pairs.pairs.pairs.left) short c.in_ok-pairs.ensures.lists in
     if_none_weaker c.write_first.result
-    (λ p. listed_all (picked Nearest trie.kind c.args.choice) trie.kind trie.bytes.now c.args.form c.args.limit _ _ c.in_ok-seen.seen.left.pairs c.in_ok-pairs.pairs.left.pairs seen source p.0 p.1)
+    (λ p. listed_all (picked Nearest trie.kind c.args.choice) trie.kind trie.bytes.now c.args.form c.args.limit _ _ (accepted_left (g.S.Automaton.accepts c.in_ok-seen.seen.automaton) c.in_ok-seen.seen.pairs.left).pairs (accepted_left (g.S.Automaton.accepts c.in_ok-pairs.pairs.automaton) c.in_ok-pairs.pairs.pairs.left).pairs seen source p.0 p.1)
     c.write_first.ensures.all
 
 pub returns-clause-none : goal.returns-clause-none
 returns-clause-none g c =
     let trie = c.args.trie.now in
     let short : length trie.bytes.now < 2 ^ 64 = search rules in
-    let seen = picked_near trie.kind c.args.choice (g.S.Automaton.accepts c.args.kept) (g.T.Fuzzy.measure c.args.automaton) (g.T.Fuzzy.most c.args.automaton) c.requires.kept c.requires.measures c.requires.most trie.bytes.now c.in_ok-seen.seen.left short c.in_ok-seen.ensures.lists in
+    let seen = picked_near trie.kind c.args.choice (g.S.Automaton.accepts c.args.kept) (g.T.Fuzzy.measure c.args.automaton) (g.T.Fuzzy.most c.args.automaton) c.requires.kept c.requires.measures c.requires.most trie.bytes.now (accepted_left (g.S.Automaton.accepts c.in_ok-seen.seen.automaton) c.in_ok-seen.seen.pairs.left) short c.in_ok-seen.ensures.lists in
     if_some_weaker c.write_first.result
-    (λ k p. ((p.0, no_text (picked Nearest trie.kind c.args.choice) trie.kind trie.bytes.now c.args.limit c.in_ok-seen.seen.left.pairs k.items seen p.1), p.2))
+    (λ k p. ((p.0, no_text (picked Nearest trie.kind c.args.choice) trie.kind trie.bytes.now c.args.limit (accepted_left (g.S.Automaton.accepts c.in_ok-seen.seen.automaton) c.in_ok-seen.seen.pairs.left).pairs k.items seen p.1), p.2))
     c.write_first.ensures.none
 
 pub returns-clause-part : goal.returns-clause-part
 returns-clause-part g c =
     let trie = c.args.trie.now in
     let short : length trie.bytes.now < 2 ^ 64 = search rules in
-    let source = picked_near trie.kind c.args.choice (g.S.Automaton.accepts c.args.kept) (g.T.Fuzzy.measure c.args.automaton) (g.T.Fuzzy.most c.args.automaton) c.requires.kept c.requires.measures c.requires.most trie.bytes.now c.in_ok-pairs.pairs.left short c.in_ok-pairs.ensures.lists in
+    let source = picked_near trie.kind c.args.choice (g.S.Automaton.accepts c.args.kept) (g.T.Fuzzy.measure c.args.automaton) (g.T.Fuzzy.most c.args.automaton) c.requires.kept c.requires.measures c.requires.most trie.bytes.now (accepted_left (g.S.Automaton.accepts c.in_ok-pairs.pairs.automaton) c.in_ok-pairs.pairs.pairs.left) short c.in_ok-pairs.ensures.lists in
     on_err_so c.write_first.result
-    (λ p. listed_part (picked Nearest trie.kind c.args.choice) trie.kind trie.bytes.now c.args.form c.args.limit _ _ c.in_ok-pairs.pairs.left.pairs source p)
+    (λ p. listed_part (picked Nearest trie.kind c.args.choice) trie.kind trie.bytes.now c.args.form c.args.limit _ _ (accepted_left (g.S.Automaton.accepts c.in_ok-pairs.pairs.automaton) c.in_ok-pairs.pairs.pairs.left).pairs source p)
     c.write_first.ensures.part
