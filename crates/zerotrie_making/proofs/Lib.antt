@@ -4,6 +4,8 @@ mod PlaceLemmas
 mod ListedLemmas
 mod JsonLineLemmas
 mod KeptLemmas
+mod MergedLemmas
+mod SmallLemmas
 mod WholeLemmas
 mod UnreadLemmas
 mod RefusedLemmas

@@ -1,10 +1,9 @@
 -- Pairs that a trie lists, read again and built.
-use Rattle.std.proofs.Common.{◌≡◌, ℕ, ◌^◌, ◌<◌, ◌++◌, List, [], ◌∷◌, Bool, Some, refl, ap, ◌∙◌, subst, sym}
-use Rattle.std.specs.Prelude.{◌≢◌, All, Ok}
-use Rattle.std.proofs.lemmas.List.Elements.{All-nil, All-cons, All-map, All-append}
+use Rattle.std.proofs.Common.{◌≡◌, ℕ, ◌++◌, List, [], ◌∷◌, Bool, Some, refl, ap, ◌∙◌, subst, sym}
+use Rattle.std.specs.Prelude.{◌≢◌, Ok}
 use Rattle.zerotrie_core.specs.Kind.{Kind}
-use Rattle.zerotrie_core.specs.Maps.{Map, Pairs, with_front, beginning}
-use Rattle.zerotrie_core.specs.Texts.{Lists, ListEach, Means, nothing, value, literal, span, branch, no_edge, edge}
+use Rattle.zerotrie_core.specs.Maps.{Map, Pairs, beginning}
+use Rattle.zerotrie_core.specs.Texts.{Means}
 use Rattle.zerotrie_lines.specs.Lines.{tsv_line, tsv_lines}
 use Rattle.zerotrie_lines.specs.Laws.{LinesReadBack, OneReading}
 use Rattle.zerotrie_lines.specs.declared.reading.Format.TheVariants.{Tsv}
@@ -14,6 +13,7 @@ use Rattle.zerotrie_queries.specs.Printed.{pair_lines}
 use Rattle.zerotrie_queries.specs.declared.print.Style.TheVariants as style
 use Rattle.zerotrie_core.specs.declared.TrieKind.{TrieKind}
 use Rattle.zerotrie_core.specs.Routes.{IsBuild}
+use Rattle.zerotrie_making.proofs.SmallLemmas.{values_below}
 use Rattle.zerotrie_making.specs.Plans.{content_of, route_of, IsFormOf}
 use Rattle.zerotrie_making.specs.Sources.{IsPairs}
 use Rattle.zerotrie_making.specs.Kept.{kept}
@@ -23,23 +23,6 @@ use Rattle.zerotrie_making.specs.declared.plan.FileForm.{FileForm}
 use Rattle.zerotrie_making.specs.declared.plan.FileForm.TheVariants as form
 use Rattle.zerotrie_making.specs.declared.plan.Plan.{Plan}
 use Rattle.zerotrie_making.specs.declared.plan.Source.TheVariants.{Text}
-
-abbrev Small : List ℕ × ℕ → Type 0
-Small e = e.1 < 2 ^ 64
-
--- what a text lists has values below 2 ^ 64
-mutual
-  values_below : {kind : Kind} {bytes : List ℕ} {pairs : Pairs} → Lists kind bytes pairs → All Small pairs
-  values_below nothing = All-nil Small
-  values_below (value {v = v} {pairs = pairs} s n text) = All-cons Small ([], v) pairs s.below (values_below text)
-  values_below (literal {b = b} {pairs = pairs} l n text) = All-map Small (λ e. (b ∷ e.0, e.1)) pairs (values_below text)
-  values_below (span {pairs = pairs} run s some high n r f text) = All-map Small (λ e. (run ++ e.0, e.1)) pairs (values_below text)
-  values_below (branch b each) = each_below each
-
-  each_below : {kind : Kind} {edges : List ℕ} {targets : List (List ℕ)} {pairs : Pairs} → ListEach kind edges targets pairs → All Small pairs
-  each_below no_edge = All-nil Small
-  each_below (edge {e = e} {pairs = pairs} {more = more} n text each) =
-      All-append Small (with_front e pairs) more (All-map Small (λ p. (e ∷ p.0, p.1)) pairs (values_below text)) (each_below each)
 
 -- what is built for a file that has no index is a trie
 trie_built : (of : FileForm) (kind : Kind) (sorted : Bool) (pairs : Pairs) (bytes : List ℕ) → of ≢ form.Index → IsBuiltAs (content_of of kind) sorted pairs bytes

@@ -12,16 +12,21 @@ use Rattle.zerotrie_lines.specs.declared.reading.Format.{Format}
 use Rattle.zerotrie_lines.specs.declared.reading.LineEnd.{LineEnd}
 use Rattle.zerotrie_making.specs.Others.{IsOther}
 use Rattle.zerotrie_making.specs.Sources.{IsPairs, NoPairs}
-use Rattle.zerotrie_making.specs.Made.{OfInput, Explains, ExplainsKept}
+use Rattle.zerotrie_making.specs.Made.{OfInput, Explains, ExplainsKept, ExplainsOf, IsNotMerged}
 use Rattle.zerotrie_core.specs.declared.ZeroTrieBuildError.{ZeroTrieBuildError}
 use Rattle.zerotrie_index.specs.declared.error.ZeroIndexBuildError.{ZeroIndexBuildError}
 use Rattle.zerotrie_making.specs.declared.others.OtherFile.{OtherFile}
 use Rattle.zerotrie_making.specs.declared.plan.Plan.{Plan}
 use Rattle.zerotrie_making.specs.declared.plan.Source.{Source}
 use Rattle.zerotrie_making.specs.declared.plan.Source.TheVariants.{Text, Json, JsonLines}
+use Rattle.zerotrie_sets.specs.declared.selection.Rule.{Rule}
+use Rattle.zerotrie_sets.specs.declared.selection.Rule.TheVariants as rules
+use Rattle.zerotrie_making.specs.Kept.{kept, number_at}
+use Rattle.zerotrie_making.specs.declared.duplicates.Duplicates.TheVariants.{Sum}
+use Rattle.zerotrie_making.specs.declared.error.NumberedKey.{NumberedKey}
 use Rattle.zerotrie_making.specs.declared.error.Shown.{Shown}
 use Rattle.zerotrie_making.specs.declared.error.MakeError.{MakeError}
-use Rattle.zerotrie_making.specs.declared.error.MakeError.TheVariants.{NotText, Line, NotJson, NotPairs, NotPair, Keys, Refused, IndexRefused, OutOfMemory}
+use Rattle.zerotrie_making.specs.declared.error.MakeError.TheVariants.{NotText, Line, NotJson, NotPairs, NotPair, Keys, SumTooLarge, Refused, IndexRefused, OutOfMemory}
 
 pub of_table : (plan : Plan) (input : List ℕ) (table : Pairs) (Fact : Pairs → Type 0) → IsOther input None → (pairs : Pairs) × IsPairs plan.read.source input pairs × (table ≡ lowered plan.read.lower_case pairs)
     → Fact table → OfInput plan input Fact
@@ -35,15 +40,47 @@ explains_of plan input table (NotJson line column) own h fact = absurd fact
 explains_of plan input table NotPairs own h fact = absurd fact
 explains_of plan input table (NotPair bad) own h fact = absurd fact
 explains_of plan input table (Keys s) own h fact = of_table plan input table (λ pairs. ExplainsKept plan pairs (Keys s)) own h fact
+explains_of plan input table (SumTooLarge k) own h fact = of_table plan input table (λ pairs. ExplainsKept plan pairs (SumTooLarge k)) own h fact
 explains_of plan input table (Refused e) own h fact = of_table plan input table (λ pairs. ExplainsKept plan pairs (Refused e)) own h fact
 explains_of plan input table (IndexRefused e) own h fact = of_table plan input table (λ pairs. ExplainsKept plan pairs (IndexRefused e)) own h fact
 explains_of plan input table OutOfMemory own h fact = tt
+
+-- why no file is made of pairs that are kept is why none is made of all
+pub kept_refusal : (plan : Plan) (pairs : Pairs) (e : MakeError) → ExplainsOf plan.file (number_at plan.read.duplicates pairs) (kept plan.read.duplicates pairs) e → ExplainsKept plan pairs e
+kept_refusal plan pairs (NotText other) h = h
+kept_refusal plan pairs (Line number bad) h = h
+kept_refusal plan pairs (NotJson line column) h = h
+kept_refusal plan pairs NotPairs h = h
+kept_refusal plan pairs (NotPair bad) h = h
+kept_refusal plan pairs (Keys s) h = h
+kept_refusal plan pairs (SumTooLarge k) h = absurd h
+kept_refusal plan pairs (Refused e) h = h
+kept_refusal plan pairs (IndexRefused e) h = h
+kept_refusal plan pairs OutOfMemory h = h
+
+-- and so is why they are not merged
+pub merge_refusal : (plan : Plan) (rule : Rule) (pairs : Pairs) (e : MakeError) → (rule ≡ rules.Sum → plan.read.duplicates ≡ Sum) → IsNotMerged rule pairs e → ExplainsKept plan pairs e
+merge_refusal plan rule pairs (NotText other) sum h = absurd h
+merge_refusal plan rule pairs (Line number bad) sum h = absurd h
+merge_refusal plan rule pairs (NotJson line column) sum h = absurd h
+merge_refusal plan rule pairs NotPairs sum h = absurd h
+merge_refusal plan rule pairs (NotPair bad) sum h = absurd h
+merge_refusal plan rule pairs (Keys s) sum h = absurd h
+merge_refusal plan rule pairs (SumTooLarge k) sum h = (sum h.0, h.1)
+merge_refusal plan rule pairs (Refused e) sum h = absurd h
+merge_refusal plan rule pairs (IndexRefused e) sum h = absurd h
+merge_refusal plan rule pairs OutOfMemory sum h = h
 
 -- an input that is no pairs shows no keys
 no_keys : (source : Source) (input : List ℕ) (s : Shown) → NoPairs source input (Keys s) → ⊥
 no_keys (Text format end) input s h = h
 no_keys Json input s h = h
 no_keys JsonLines input s h = h
+
+no_sum : (source : Source) (input : List ℕ) (k : NumberedKey) → NoPairs source input (SumTooLarge k) → ⊥
+no_sum (Text format end) input k h = h
+no_sum Json input k h = h
+no_sum JsonLines input k h = h
 
 no_refusal : (source : Source) (input : List ℕ) (e : ZeroTrieBuildError) → NoPairs source input (Refused e) → ⊥
 no_refusal (Text format end) input e h = h
@@ -69,6 +106,7 @@ no_pairs plan input (NotJson line column) h = h
 no_pairs plan input NotPairs h = h
 no_pairs plan input (NotPair bad) h = h
 no_pairs plan input (Keys s) h = absurd (no_keys plan.read.source input s h)
+no_pairs plan input (SumTooLarge k) h = absurd (no_sum plan.read.source input k h)
 no_pairs plan input (Refused e) h = absurd (no_refusal plan.read.source input e h)
 no_pairs plan input (IndexRefused e) h = absurd (no_index_refusal plan.read.source input e h)
 no_pairs plan input OutOfMemory h = tt

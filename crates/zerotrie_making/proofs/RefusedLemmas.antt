@@ -1,5 +1,5 @@
 -- A build that has a cause of an error returns no bytes.
-use Rattle.std.proofs.Common.{◌≡◌, ℕ, zero, suc, ◌<◌, ◌≤◌, List, [], ◌∷◌, length, get_or, Bool, true, false, Some, refl, sym, ◌∙◌, ap, subst, arith, inl, inr}
+use Rattle.std.proofs.Common.{◌≡◌, ℕ, zero, suc, ◌^◌, ◌<◌, ◌≤◌, List, [], ◌∷◌, length, get_or, Bool, true, false, Some, refl, sym, ◌∙◌, ap, subst, arith, inl, inr}
 use Rattle.std.specs.Prelude.{◌≢◌, ◌==◌, All, Any}
 use Rattle.std.specs.FinMap.{entries}
 use Rattle.std.proofs.lemmas.Bool.{cases_Bool}
@@ -22,13 +22,17 @@ use Rattle.zerotrie_making.specs.Plans.{Content, a_trie, an_index, content_of, r
 use Rattle.zerotrie_making.specs.Kept.{kept}
 use Rattle.zerotrie_making.specs.Sources.{IsPairs}
 use Rattle.zerotrie_making.specs.Json.{pairs_in}
-use Rattle.zerotrie_making.specs.Made.{OfInput, AreAtFault, ExplainsKept, IsBuiltAs, IsFile, IsFileOfKept, IsIndexRefusedBy, IsTrieRefusedBy}
+use Rattle.zerotrie_making.specs.Made.{OfInput, AreAtFault, ExplainsKept, IsBuiltAs, IsTooLargeAt, IsFile, IsFileOfKept, IsIndexRefusedBy, IsTrieRefusedBy}
 use Rattle.zerotrie_making.specs.Laws.{RefusedMakesNoFile}
 use Rattle.zerotrie_making.specs.declared.plan.Plan.{Plan}
 use Rattle.zerotrie_making.specs.declared.plan.Source.{Source}
 use Rattle.zerotrie_making.specs.declared.plan.Source.TheVariants.{Text, Json, JsonLines}
 use Rattle.zerotrie_making.specs.declared.error.MakeError.{MakeError}
-use Rattle.zerotrie_making.specs.declared.error.MakeError.TheVariants.{NotText, Line, NotJson, NotPairs, NotPair, Keys, Refused, IndexRefused, OutOfMemory}
+use Rattle.zerotrie_making.specs.declared.error.MakeError.TheVariants.{NotText, Line, NotJson, NotPairs, NotPair, Keys, SumTooLarge, Refused, IndexRefused, OutOfMemory}
+use Rattle.zerotrie_making.specs.declared.duplicates.Duplicates.{Duplicates}
+use Rattle.zerotrie_making.specs.declared.duplicates.Duplicates.TheVariants.{Sum}
+use Rattle.zerotrie_making.specs.declared.error.NumberedKey.{NumberedKey}
+use Rattle.zerotrie_making.proofs.SmallLemmas.{trie_small, index_small, no_large}
 use Rattle.zerotrie_making.proofs.UnreadLemmas.{some_is, no_file}
 
 -- a value is found at the key of each pair
@@ -143,6 +147,17 @@ index_never excludes an_index true pairs bytes e built why other = elim why.1 [
 ]
 index_never excludes an_index false pairs bytes e built why other = no_index_cause excludes pairs bytes e built.0 why.0 other why.1
 
+-- values of pairs of which something was built are below 2^64
+built_small : (content : Content) (sorted : Bool) (pairs : Pairs) (bytes key : List ℕ) (v : ℕ) → IsBuiltAs content sorted pairs bytes → value_at simple_ascii pairs key ≡ Some v → v < 2 ^ 64
+built_small (a_trie kind) sorted pairs bytes key v built found = trie_small kind pairs bytes key v built.1 found
+built_small an_index sorted pairs bytes key v built found = index_small pairs bytes key v (is_index sorted pairs bytes built) found
+
+-- so none is of pairs that have a sum that is too large
+sum_never : (content : Content) (sorted : Bool) (duplicates : Duplicates) (pairs : Pairs) (bytes : List ℕ) (k : NumberedKey) → IsBuiltAs content sorted (kept duplicates pairs) bytes → duplicates ≡ Sum → IsTooLargeAt pairs k → ⊥
+sum_never content sorted duplicates pairs bytes k built is large =
+    let merged = subst (λ d. IsBuiltAs content sorted (kept d pairs) bytes) is built in
+    no_large pairs k large (λ key v found. built_small content sorted (kept Sum pairs) bytes key v merged found)
+
 -- an input is one list of pairs at most
 one_list : OneReading → (source : Source) (input : List ℕ) (pairs others : Pairs) → IsPairs source input pairs → IsPairs source input others → others ≡ pairs
 one_list one (Text format end) input pairs others h k = one format end input pairs others h k
@@ -167,6 +182,10 @@ refused one bad excludes plan input file (Keys s) h some other crowd made =
     let o = of_one one plan input file (Keys s) h made in
     let ps = kept plan.read.duplicates o.0 in
     keys_never excludes (content_of plan.file.form (kind_for plan.file.kind ps)) plan.file.sorted ps o.2.bytes o.1.0 o.2.build o.1.1
+refused one bad excludes plan input file (SumTooLarge k) h some other crowd made =
+    let o = of_one one plan input file (SumTooLarge k) h made in
+    let ps = kept plan.read.duplicates o.0 in
+    sum_never (content_of plan.file.form (kind_for plan.file.kind ps)) plan.file.sorted plan.read.duplicates o.0 o.2.bytes k o.2.build o.1.0 o.1.1
 refused one bad excludes plan input file (Refused e) h some other crowd made =
     let o = of_one one plan input file (Refused e) h made in
     let ps = kept plan.read.duplicates o.0 in

@@ -11,7 +11,7 @@ use Rattle.zerotrie_making.specs.declared.others.OtherFile.TheVariants.{Utf16, G
 use Rattle.zerotrie_making.specs.declared.plan.Source.{Source}
 use Rattle.zerotrie_making.specs.declared.plan.Source.TheVariants.{Text, Json, JsonLines}
 use Rattle.zerotrie_making.specs.declared.error.MakeError.{MakeError}
-use Rattle.zerotrie_making.specs.declared.error.MakeError.TheVariants.{NotText, Line, NotJson, NotPairs, NotPair, Keys, Refused, IndexRefused, OutOfMemory}
+use Rattle.zerotrie_making.specs.declared.error.MakeError.TheVariants.{NotText, Line, NotJson, NotPairs, NotPair, Keys, SumTooLarge, Refused, IndexRefused, OutOfMemory}
 
 pub some_is : {A : Type 0} (a b : A) → Some a ≡ Some b → a ≡ b
 some_is {A} a b e = ap (inside a) e
@@ -39,6 +39,7 @@ no_file bad (Text format end) input (NotJson line column) pairs own h some p = h
 no_file bad (Text format end) input NotPairs pairs own h some p = h
 no_file bad (Text format end) input (NotPair why) pairs own h some p = h
 no_file bad (Text format end) input (Keys s) pairs own h some p = h
+no_file bad (Text format end) input (SumTooLarge k) pairs own h some p = h
 no_file bad (Text format end) input (Refused e) pairs own h some p = h
 no_file bad (Text format end) input (IndexRefused e) pairs own h some p = h
 no_file bad (Text format end) input OutOfMemory pairs own h some p = some refl
@@ -47,6 +48,7 @@ no_file bad Json input (NotJson line column) pairs own h some p = absurd (cc (sy
 no_file bad Json input NotPairs pairs own h some p = no_value input h.0 p.0 pairs h.1 p.1 h.2 p.2
 no_file bad Json input (NotPair why) pairs own h some p = no_value input h.0 p.0 pairs h.1 p.1 h.2 p.2
 no_file bad Json input (Keys s) pairs own h some p = h
+no_file bad Json input (SumTooLarge k) pairs own h some p = h
 no_file bad Json input (Refused e) pairs own h some p = h
 no_file bad Json input (IndexRefused e) pairs own h some p = h
 no_file bad Json input OutOfMemory pairs own h some p = some refl
@@ -56,6 +58,7 @@ no_file bad JsonLines input (NotJson line column) pairs own h some p = h
 no_file bad JsonLines input NotPairs pairs own h some p = absurd (cc (sym h.0 ∙ p))
 no_file bad JsonLines input (NotPair why) pairs own h some p = absurd (cc (sym h.0 ∙ p))
 no_file bad JsonLines input (Keys s) pairs own h some p = h
+no_file bad JsonLines input (SumTooLarge k) pairs own h some p = h
 no_file bad JsonLines input (Refused e) pairs own h some p = h
 no_file bad JsonLines input (IndexRefused e) pairs own h some p = h
 no_file bad JsonLines input OutOfMemory pairs own h some p = some refl

@@ -1,5 +1,5 @@
 -- Which file a plan makes of an input, and why it makes none.
-use Rattle.std.specs.Prelude.{◌≡◌, ◌≢◌, ℕ, List, length, Bool, true, false, Result, Ok, Err, Some, None}
+use Rattle.std.specs.Prelude.{◌≡◌, ◌≢◌, ◌<◌, ◌+◌, ℕ, List, length, take, Bool, true, false, Result, Ok, Err, Some, None}
 use Rattle.zerotrie_core.specs.Kind.{perfect_hash}
 use Rattle.zerotrie_core.specs.Maps.{Pairs}
 use Rattle.zerotrie_core.specs.Routes.{Takes, HasCause, IsBuild}
@@ -16,14 +16,17 @@ use Rattle.zerotrie_lines.specs.declared.fault.ReadError.TheVariants as fault
 use Rattle.zerotrie_making.specs.Others.{IsOther}
 use Rattle.zerotrie_making.specs.Sources.{IsPairs, NoPairs}
 use Rattle.zerotrie_making.specs.Plans.{Content, a_trie, an_index, content_of, route_of, kind_for, IsFormOf}
-use Rattle.zerotrie_making.specs.Kept.{kept, number_at}
+use Rattle.zerotrie_sets.specs.declared.selection.Rule.{Rule}
+use Rattle.zerotrie_sets.specs.declared.selection.Rule.TheVariants as rules
+use Rattle.zerotrie_making.specs.Kept.{kept, number_at, number_of, IsTooLarge}
+use Rattle.zerotrie_making.specs.declared.duplicates.Duplicates.TheVariants.{Sum}
 use Rattle.zerotrie_making.specs.declared.plan.FilePlan.{FilePlan}
 use Rattle.zerotrie_making.specs.declared.plan.Made.{Made as MadeFile}
 use Rattle.zerotrie_making.specs.declared.plan.Plan.{Plan}
 use Rattle.zerotrie_making.specs.declared.error.NumberedKey.{NumberedKey}
 use Rattle.zerotrie_making.specs.declared.error.Shown.{Shown}
 use Rattle.zerotrie_making.specs.declared.error.MakeError.{MakeError}
-use Rattle.zerotrie_making.specs.declared.error.MakeError.TheVariants.{NotText, Line, NotJson, NotPairs, NotPair, Keys, Refused, IndexRefused, OutOfMemory}
+use Rattle.zerotrie_making.specs.declared.error.MakeError.TheVariants.{NotText, Line, NotJson, NotPairs, NotPair, Keys, SumTooLarge, Refused, IndexRefused, OutOfMemory}
 
 -- the input is no other file, it is pairs, and the fact holds of them, with their keys in lower case if the plan says so
 abbrev pub OfInput : Plan → List ℕ → (Pairs → Type 0) → Type 0
@@ -70,6 +73,24 @@ IsMade plan input made = OfInput plan input (λ pairs. IsMadeOfKept plan pairs m
 abbrev pub IsKeyAt : (ℕ → ℕ) → Pairs → ℕ → NumberedKey → Type 0
 IsKeyAt number pairs index k = (k.number ≡ number index) × (k.key.items ≡ key_at pairs index)
 
+-- it is the first pair, with its number, up to which the values of its key have a sum of 2^64 or more
+abbrev pub IsTooLargeAt : Pairs → NumberedKey → Type 0
+IsTooLargeAt pairs k = (i : ℕ) × (i < length pairs) × IsKeyAt (number_of None) pairs i k
+    × IsTooLarge k.key.items (take (i + 1) pairs) × ((key : List ℕ) → IsTooLarge key (take i pairs) → ⊥)
+
+-- why the pairs that have one key are not merged: the sum of their values is too large, or an allocation failed
+abbrev pub IsNotMerged : Rule → Pairs → MakeError → Type 0
+IsNotMerged rule pairs (NotText other) = ⊥
+IsNotMerged rule pairs (Line m bad) = ⊥
+IsNotMerged rule pairs (NotJson line column) = ⊥
+IsNotMerged rule pairs NotPairs = ⊥
+IsNotMerged rule pairs (NotPair bad) = ⊥
+IsNotMerged rule pairs (Keys s) = ⊥
+IsNotMerged rule pairs (SumTooLarge k) = (rule ≡ rules.Sum) × IsTooLargeAt pairs k
+IsNotMerged rule pairs (Refused e) = ⊥
+IsNotMerged rule pairs (IndexRefused e) = ⊥
+IsNotMerged rule pairs OutOfMemory = Unit {0}
+
 -- they are the keys that show a refusal
 abbrev pub Shows : (ℕ → ℕ) → Pairs → Refusal → Shown → Type 0
 Shows number pairs r s = (s.error ≡ r.error) × IsKeyAt number pairs r.first s.first × IsKeyAt number pairs r.second s.second
@@ -102,6 +123,7 @@ IsRefusedAs content sorted number pairs (NotJson line column) = ⊥
 IsRefusedAs content sorted number pairs NotPairs = ⊥
 IsRefusedAs content sorted number pairs (NotPair bad) = ⊥
 IsRefusedAs content sorted number pairs (Keys s) = (r : Refusal) × AreAtFault content sorted pairs r × Shows number pairs r s
+IsRefusedAs content sorted number pairs (SumTooLarge k) = ⊥
 IsRefusedAs content sorted number pairs (Refused e) = IsTrieRefusedBy content sorted pairs e
 IsRefusedAs content sorted number pairs (IndexRefused e) = IsIndexRefusedBy content sorted pairs e
 IsRefusedAs content sorted number pairs OutOfMemory = Unit {0}
@@ -110,11 +132,12 @@ IsRefusedAs content sorted number pairs OutOfMemory = Unit {0}
 abbrev pub ExplainsOf : FilePlan → (ℕ → ℕ) → Pairs → MakeError → Type 0
 ExplainsOf plan number pairs e = IsRefusedAs (content_of plan.form (kind_for plan.kind pairs)) plan.sorted number pairs e
 
--- why the plan makes no file of those of the pairs that are kept
+-- why the plan makes no file of those of the pairs that are kept: a sum of their values is too large, or a build fails
 abbrev pub ExplainsKept : Plan → Pairs → MakeError → Type 0
+ExplainsKept plan pairs (SumTooLarge k) = (plan.read.duplicates ≡ Sum) × IsTooLargeAt pairs k
 ExplainsKept plan pairs e = ExplainsOf plan.file (number_at plan.read.duplicates pairs) (kept plan.read.duplicates pairs) e
 
--- why the plan makes no file of the input: it is another file, it is no pairs, a build of its pairs fails, or an allocation failed
+-- why the plan makes no file of the input: it is another file, it is no pairs, a sum is too large, a build of its pairs fails, or an allocation failed
 abbrev pub Explains : Plan → List ℕ → MakeError → Type 0
 Explains plan input (NotText other) = NoPairs plan.read.source input (NotText other)
 Explains plan input (Line number bad) = NoPairs plan.read.source input (Line number bad)
@@ -122,6 +145,7 @@ Explains plan input (NotJson line column) = NoPairs plan.read.source input (NotJ
 Explains plan input NotPairs = NoPairs plan.read.source input NotPairs
 Explains plan input (NotPair bad) = NoPairs plan.read.source input (NotPair bad)
 Explains plan input (Keys s) = OfInput plan input (λ pairs. ExplainsKept plan pairs (Keys s))
+Explains plan input (SumTooLarge k) = OfInput plan input (λ pairs. ExplainsKept plan pairs (SumTooLarge k))
 Explains plan input (Refused e) = OfInput plan input (λ pairs. ExplainsKept plan pairs (Refused e))
 Explains plan input (IndexRefused e) = OfInput plan input (λ pairs. ExplainsKept plan pairs (IndexRefused e))
 Explains plan input OutOfMemory = Unit {0}

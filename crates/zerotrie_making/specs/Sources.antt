@@ -17,7 +17,7 @@ use Rattle.zerotrie_making.specs.declared.plan.Source.{Source}
 use Rattle.zerotrie_making.specs.declared.plan.Source.TheVariants.{Text, Json, JsonLines}
 use Rattle.zerotrie_making.specs.declared.error.NoPair.{NoPair}
 use Rattle.zerotrie_making.specs.declared.error.MakeError.{MakeError}
-use Rattle.zerotrie_making.specs.declared.error.MakeError.TheVariants.{NotText, Line, NotJson, NotPairs, NotPair, Keys, Refused, IndexRefused, OutOfMemory}
+use Rattle.zerotrie_making.specs.declared.error.MakeError.TheVariants.{NotText, Line, NotJson, NotPairs, NotPair, Keys, SumTooLarge, Refused, IndexRefused, OutOfMemory}
 
 -- the input is the text of this JSON value, after the byte order mark that may be in front
 abbrev pub IsJson : List ℕ → Value → Type 0
@@ -31,6 +31,7 @@ NoValue text (NotJson line column) = (document text ≡ None) × IsPlaceIn text 
 NoValue text NotPairs = ⊥
 NoValue text (NotPair bad) = ⊥
 NoValue text (Keys s) = ⊥
+NoValue text (SumTooLarge k) = ⊥
 NoValue text (Refused e) = ⊥
 NoValue text (IndexRefused e) = ⊥
 NoValue text OutOfMemory = Unit {0}
@@ -53,6 +54,7 @@ NoText format end input (NotJson line column) = ⊥
 NoText format end input NotPairs = ⊥
 NoText format end input (NotPair bad) = ⊥
 NoText format end input (Keys s) = ⊥
+NoText format end input (SumTooLarge k) = ⊥
 NoText format end input (Refused e) = ⊥
 NoText format end input (IndexRefused e) = ⊥
 NoText format end input OutOfMemory = Unit {0}
@@ -70,6 +72,7 @@ NoJson input (NotJson line column) = (IsUtf8 (strip_bom input) → document (str
 NoJson input NotPairs = IsUnread input None
 NoJson input (NotPair bad) = IsUnread input (Some bad)
 NoJson input (Keys s) = ⊥
+NoJson input (SumTooLarge k) = ⊥
 NoJson input (Refused e) = ⊥
 NoJson input (IndexRefused e) = ⊥
 NoJson input OutOfMemory = Unit {0}
@@ -82,6 +85,7 @@ NoJsonLines input (NotJson line column) = ⊥
 NoJsonLines input NotPairs = IsUnreadLine input None
 NoJsonLines input (NotPair bad) = IsUnreadLine input (Some bad)
 NoJsonLines input (Keys s) = ⊥
+NoJsonLines input (SumTooLarge k) = ⊥
 NoJsonLines input (Refused e) = ⊥
 NoJsonLines input (IndexRefused e) = ⊥
 NoJsonLines input OutOfMemory = Unit {0}

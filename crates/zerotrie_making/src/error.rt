@@ -72,6 +72,9 @@ pub enum MakeError {
     NotPair(NoPair),
     /// The build fails, and these keys show why.
     Keys(Shown),
+    /// The values of pairs that have one key are to be added, and this is the first pair up to which
+    /// those of its key have a sum of 2^64 or more.
+    SumTooLarge(NumberedKey),
     /// The build of a trie fails though no key is at fault: `CapacityExceeded` or
     /// `CouldNotSolvePerfectHash`.
     Refused(ZeroTrieBuildError),
@@ -113,7 +116,7 @@ fn number_of(numbers: Option<&[usize]>, index: usize) -> usize
 }
 
 /// Returns the key of an item, with the number of its pair.
-fn numbered(
+pub(crate) fn numbered(
     alloc: Global,
     numbers: Option<&[usize]>,
     items: &[(&[u8], usize)],

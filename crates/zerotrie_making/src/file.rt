@@ -10,7 +10,7 @@ ghost use Rattle.zerotrie_making.specs.Plans.{a_trie, an_index, content_of, rout
 ghost use Rattle.zerotrie_making.specs.Made.{IsIndexed, IsBuiltAs, IsFileOf, IsMade, IsMadeOf, IsMadeOfKept, IsRefusedAs, Explains, ExplainsOf, ExplainsKept};
 ghost use Rattle.zerotrie_making.specs.Kept.{number_in, number_of};
 
-use crate::duplicates::{Duplicates, Kept, firsts, lasts};
+use crate::duplicates::{Duplicates, Kept, firsts, lasts, merged};
 use crate::error::{MakeError, show};
 use crate::input::{items_in, read_input};
 use crate::others::other_file;
@@ -20,6 +20,7 @@ use std::alloc::{AllocError, Global};
 use zerotrie_core::{TrieKind, ZeroTrieBuildError};
 use zerotrie_index::ZeroIndexBuildError;
 use zerotrie_sealed::{seal, seal_index};
+use zerotrie_sets::Rule;
 
 /// Returns these bytes with the number of the kind in front.
 fn tag(kind: TrieKind, bytes: Vec<u8>) -> Result<Vec<u8>, AllocError>
@@ -216,6 +217,9 @@ fn make_from(alloc: Global, plan: Plan, items: &[(&[u8], usize)]) -> Result<Made
         Duplicates::Refuse => make_counted(alloc, plan.file, None, items),
         Duplicates::First => make_kept(alloc, plan.file, firsts(alloc, items)?),
         Duplicates::Last => make_kept(alloc, plan.file, lasts(alloc, items)?),
+        Duplicates::Sum => make_kept(alloc, plan.file, merged(alloc, Rule::Sum, items)?),
+        Duplicates::Min => make_kept(alloc, plan.file, merged(alloc, Rule::Min, items)?),
+        Duplicates::Max => make_kept(alloc, plan.file, merged(alloc, Rule::Max, items)?),
     }
 }
 
@@ -248,6 +252,10 @@ fn make_text(alloc: Global, plan: Plan, input: Vec<u8>) -> Result<Made, MakeErro
 /// let made = make(rt.alloc(), Plan { read, file }, input).map_err(|_| "refused")?;
 /// assert_eq!(rt; made.file.as_slice(), b"\x00ad\x90\x06ef\x90\x11".as_slice());
 /// assert_eq!(rt; made.keys, 2);
+/// let summed = ReadPlan { duplicates: Duplicates::Sum, ..read };
+/// let input = Vec::from_slice(rt.alloc(), b"ad\t2\nadef\t33\nad\t20\n")?;
+/// let made = make(rt.alloc(), Plan { read: summed, file }, input).map_err(|_| "refused")?;
+/// assert_eq!(rt; made.file.as_slice(), b"\x00ad\x90\x06ef\x90\x11".as_slice());
 /// let read = ReadPlan { source: Source::Text(Format::Lines, LineEnd::CrLf), ..read };
 /// let input = Vec::from_slice(rt.alloc(), b"\xFF\xFEa\0\n\0")?;
 /// let why = MakeError::NotText(OtherFile::Utf16);
@@ -256,8 +264,8 @@ fn make_text(alloc: Global, plan: Plan, input: Vec<u8>) -> Result<Made, MakeErro
 ///
 /// It takes the input. If keys must be copied from it, it is freed before the build. The error is
 /// `NotText` if the input is another file, `Line`, `NotJson`, `NotPairs` or `NotPair` if it is no
-/// pairs, `Keys` if keys show why a build of the pairs fails, `Refused` or `IndexRefused` if it fails
-/// and none do, and `OutOfMemory`.
+/// pairs, `SumTooLarge` if the plan adds values and a sum is 2^64 or more, `Keys` if keys show why a
+/// build of the pairs fails, `Refused` or `IndexRefused` if it fails and none do, and `OutOfMemory`.
 pub fn make(alloc: Global, plan: Plan, input: Vec<u8>) -> Result<Made, MakeError>
     ensures ok { IfOk result (IsMade plan input.items) }
     ensures err { IfErr result (λ e. Explains plan input.items e) }
