@@ -18,10 +18,11 @@ use crate::zerotrie_core::ByteSet;
 /// Why a pattern is an error.
 #[derive(Clone, Copy, Debug, PartialEq, Eq)]
 pub enum GlobError {
-    /// A class has no end, no letter, or a range that ends before it begins, or a backslash at the
-    /// end escapes nothing.
+    /// A class has no end, no letter, or a range that ends before it begins, a group has no end or is
+    /// in another one, a brace ends no group, or a backslash at the end escapes nothing.
     Malformed,
-    /// The pattern has more items than `WORD_LIMIT`.
+    /// The pattern has more items than `WORD_LIMIT`. Each brace of a group is one, and so is each of its
+    /// commas.
     TooLong,
 }
 
@@ -40,7 +41,7 @@ impl core::error::Error for GlobError {}
 ///
 /// ```
 /// # use zerotrie::{rstd::examples::*, zerotrie_search::*, zerotrie_base::*, zerotrie_core::*, zerotrie_any::*, zerotrie_ascii::*, zerotrie_hashed::*};
-/// let automaton = Glob::new(b"[a-c]*.rt")?;
+/// let automaton = Glob::new(b"[a-c]*.{rt,antt}")?;
 /// let mut state = automaton.start();
 /// for byte in b"core.rt" {
 ///     state = automaton.step(state, *byte);
@@ -50,8 +51,9 @@ impl core::error::Error for GlobError {}
 /// ```
 ///
 /// `*` is any number of bytes, `?` is one byte, `[a-z_]` is one byte of the class, and `[!a-z_]` or
-/// `[^a-z_]` one that is not of it. A backslash takes the meaning of the byte after it, in a class
-/// too. All other bytes are themselves.
+/// `[^a-z_]` one that is not of it. `{rt,antt}` is one of the alternatives, each of which is a pattern
+/// without such a group, and may be empty. A backslash takes the meaning of the byte after it, in a
+/// class too. All other bytes are themselves.
 ///
 /// A state has a bit for each place in the pattern.
 #[derive(Clone, Copy)]
@@ -76,7 +78,9 @@ impl<'p> Glob<'p> {
     /// ```
     /// # use zerotrie::{rstd::examples::*, zerotrie_search::*, zerotrie_base::*, zerotrie_core::*, zerotrie_any::*, zerotrie_ascii::*, zerotrie_hashed::*};
     /// assert!(Glob::new(b"[^aeiou]*").is_ok());
+    /// assert!(Glob::new(b"{un,}like{ly,}").is_ok());
     /// assert!(matches!(Glob::new(b"[z-a]"), Err(GlobError::Malformed)));
+    /// assert!(matches!(Glob::new(b"{a,b"), Err(GlobError::Malformed)));
     /// # Ok::<(), Fail>(())
     /// ```
     pub fn new(pattern: &'p [u8]) -> Result<Self, GlobError> {

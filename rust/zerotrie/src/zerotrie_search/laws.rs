@@ -10,6 +10,10 @@ use crate::zerotrie_core::laws::listing_is_the_map;
 /// computes: the last cell of the table of distances.
 pub fn distance_is_table() {}
 
+/// A pattern whose first group has some alternatives matches what one of the patterns matches that have
+/// an alternative in place of the group.
+pub fn group_is_choice() {}
+
 /// The pairs of a sorted listing ascend by the bytes of their keys.
 pub fn sorted_listing_ascends() {}
 

@@ -156,10 +156,10 @@ fn write_told(
 
 /// Returns how edits are counted, by the number of the search, or `None` if no search with edits has it.
 fn edits_by(number: u32, edits: u32) -> Option<SearchBy> {
-    if number <= 2 {
-        return None;
+    match number {
+        3..=6 => search_by(number, edits),
+        _ => None,
     }
-    search_by(number, edits)
 }
 
 /// Writes the pairs of a trie that are nearest to a word, by a copy of the word as the kind compares it.

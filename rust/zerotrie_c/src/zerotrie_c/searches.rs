@@ -49,6 +49,7 @@ pub fn search_by(number: u32, edits: u32) -> Option<SearchBy> {
         4 => Some(SearchBy::FuzzyChars(edits)),
         5 => Some(SearchBy::Swaps(edits)),
         6 => Some(SearchBy::SwapsChars(edits)),
+        7 => Some(SearchBy::GlobChars),
         _ => None,
     }
 }
@@ -65,20 +66,15 @@ pub fn word_of(kind: TrieKind, by: SearchBy, word: &[u8]) -> Result<AnyAutomaton
 
 /// Returns the automaton of a search for keys as a kind compares them, or the status of its fault.
 fn sought_of<'q>(kind: TrieKind, search: &Search<'q>) -> Result<AnyAutomaton<'q>, u32> {
-    match search.by {
-        0 => {
-            let from = bound_with(search.from_bound, search.text.get()).ok_or(UNKNOWN_SEARCH)?;
-            let to = bound_with(search.to_bound, search.to.get()).ok_or(UNKNOWN_SEARCH)?;
-            Ok(AnyAutomaton::Range(KeyRange { from, to }))
-        }
-        1 => word_of(kind, SearchBy::Glob, search.text.get()),
-        2 => word_of(kind, SearchBy::Subsequence, search.text.get()),
-        3 => word_of(kind, SearchBy::Fuzzy(search.edits), search.text.get()),
-        4 => word_of(kind, SearchBy::FuzzyChars(search.edits), search.text.get()),
-        5 => word_of(kind, SearchBy::Swaps(search.edits), search.text.get()),
-        6 => word_of(kind, SearchBy::SwapsChars(search.edits), search.text.get()),
-        _ => Err(UNKNOWN_SEARCH),
+    if let Some(by) = search_by(search.by, search.edits) {
+        return word_of(kind, by, search.text.get());
     }
+    if search.by != 0 {
+        return Err(UNKNOWN_SEARCH);
+    }
+    let from = bound_with(search.from_bound, search.text.get()).ok_or(UNKNOWN_SEARCH)?;
+    let to = bound_with(search.to_bound, search.to.get()).ok_or(UNKNOWN_SEARCH)?;
+    Ok(AnyAutomaton::Range(KeyRange { from, to }))
 }
 
 /// Returns the status of a search without a trie: `DONE` if it has a meaning, and else its fault,

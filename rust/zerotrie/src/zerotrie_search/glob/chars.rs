@@ -14,7 +14,7 @@ use crate::zerotrie_core::ByteSet;
 ///
 /// ```
 /// # use zerotrie::{rstd::examples::*, zerotrie_search::*, zerotrie_base::*, zerotrie_core::*, zerotrie_any::*, zerotrie_ascii::*, zerotrie_hashed::*};
-/// let automaton = GlobChars::new("caf[éè]?")?;
+/// let automaton = GlobChars::new("{caf[éè],thé}?")?;
 /// let mut state = automaton.start();
 /// for byte in "cafés".as_bytes() {
 ///     state = automaton.step(state, *byte);

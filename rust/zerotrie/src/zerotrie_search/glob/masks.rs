@@ -3,7 +3,7 @@
 
 use crate::rstd::prelude::*;
 use super::GlobError;
-use super::pattern::{Text, cases, first_item};
+use super::pattern::{Role, Text, cases, first_item};
 use crate::zerotrie_search::WORD_LIMIT;
 
 /// The masks of a pattern.
@@ -19,6 +19,17 @@ pub(in crate::zerotrie_search) struct Masks {
     last: u32,
 }
 
+/// The places that may be next.
+#[derive(Clone, Copy, Debug)]
+struct Ahead {
+    /// Those that may be first of all items from a place on.
+    all: u64,
+    /// Those that may be first of the other alternatives of its group.
+    others: u64,
+    /// Those that may be first behind the end of its group.
+    behind: u64,
+}
+
 /// Returns the marks with one more.
 fn marked(marks: u64, place: u32) -> u64 {
     marks | 1 << place
@@ -29,21 +40,26 @@ fn marked_if(marks: u64, place: u32, is: bool) -> u64 {
     if is { marked(marks, place) } else { marks }
 }
 
-/// Returns the marks of the stars of a pattern, and the number of its items.
-fn stars_of(pattern: Text<'_>) -> Result<(u64, u32), GlobError> {
+/// Returns the roles of the items of a pattern, and their number.
+fn roles_of(pattern: Text<'_>) -> Result<([Role; 64], u32), GlobError> {
     let mut left = pattern;
+    let mut in_group = false;
     let mut place: u32 = 0;
-    let mut stars: u64 = 0;
-    while let Some((item, rest)) = first_item(left, (0, 0)) {
+    let mut roles = [Role::Letter; 64];
+    while let Some((item, rest)) = first_item(left, in_group, (0, 0)) {
         if place as usize == WORD_LIMIT {
             return Err(GlobError::TooLong);
         }
-        stars = marked_if(stars, place, item.is_many);
+        roles[place as usize] = item.role;
         place += 1;
+        in_group = item.role.stays_in(in_group);
         left = rest;
     }
+    if in_group {
+        return Err(GlobError::Malformed);
+    }
     match left.first() {
-        None => Ok((stars, place)),
+        None => Ok((roles, place)),
         Some(_) => Err(GlobError::Malformed),
     }
 }
@@ -52,11 +68,13 @@ fn stars_of(pattern: Text<'_>) -> Result<(u64, u32), GlobError> {
 pub(in crate::zerotrie_search) fn takers_of(pattern: Text<'_>, any_case: bool, letter: u32) -> u64 {
     let letters = cases(any_case, letter);
     let mut left = pattern;
+    let mut in_group = false;
     let mut place: u32 = 0;
     let mut takers: u64 = 0;
-    while let Some((item, rest)) = first_item(left, letters) {
+    while let Some((item, rest)) = first_item(left, in_group, letters) {
         takers = marked_if(takers, place, item.takes);
         place += 1;
+        in_group = item.role.stays_in(in_group);
         left = rest;
     }
     takers
@@ -73,37 +91,74 @@ fn all_takers_of(pattern: Text<'_>, any_case: bool) -> [u64; 256] {
     takers
 }
 
-/// Returns the places that may be next after an item, and those that may be first from it on. `next`
-/// has those after its place. A star leads to itself and to what follows it, and is passed over.
-fn leads_to(is_star: bool, place: u32, next: u64) -> (u64, u64) {
-    if is_star {
-        let here = marked(next, place);
-        (here, here)
-    } else {
-        (next, marked(0, place))
+/// Returns the places ahead from an item on, by its role and the places ahead behind it.
+fn before(ahead: Ahead, role: Role, place: u32) -> Ahead {
+    let Ahead {
+        all,
+        others,
+        behind,
+    } = ahead;
+    match role {
+        Role::Many => Ahead {
+            all: marked(all, place),
+            others,
+            behind,
+        },
+        Role::Letter => Ahead {
+            all: marked(0, place),
+            others,
+            behind,
+        },
+        Role::Group => Ahead {
+            all: all | others,
+            others,
+            behind,
+        },
+        Role::Comma => Ahead {
+            all: behind,
+            others: all | others,
+            behind,
+        },
+        Role::End => Ahead {
+            all,
+            others: 0,
+            behind: all,
+        },
+    }
+}
+
+/// Returns the places that may be next after an item. A star leads to itself too.
+fn after(role: Role, ahead: Ahead, from: Ahead) -> u64 {
+    match role {
+        Role::Many => from.all,
+        Role::Group | Role::Comma | Role::End | Role::Letter => ahead.all,
     }
 }
 
 /// Returns the places that may be next after each item, and those that may be first.
-fn followers_of(stars: u64, last: u32) -> ([u64; 64], u64) {
+fn followers_of(roles: [Role; 64], last: u32) -> ([u64; 64], u64) {
     let mut followers = [0; 64];
     let mut place = last;
-    let mut next = marked(0, last);
+    let mut ahead = Ahead {
+        all: marked(0, last),
+        others: 0,
+        behind: 0,
+    };
     while place > 0 {
         place -= 1;
-        let is_star = (stars >> place) & 1 == 1;
-        let (after, first) = leads_to(is_star, place, next);
-        followers[place as usize] = after;
-        next = first;
+        let role = roles[place as usize];
+        let from = before(ahead, role, place);
+        followers[place as usize] = after(role, ahead, from);
+        ahead = from;
     }
-    (followers, next)
+    (followers, ahead.all)
 }
 
 impl Masks {
     /// Returns the masks of a pattern. With `any_case`, its letters are taken in both cases.
     pub(in crate::zerotrie_search) fn of(pattern: Text<'_>, any_case: bool) -> Result<Self, GlobError> {
-        let (stars, last) = stars_of(pattern)?;
-        let (followers, first) = followers_of(stars, last);
+        let (roles, last) = roles_of(pattern)?;
+        let (followers, first) = followers_of(roles, last);
         Ok(Masks {
             takers: all_takers_of(pattern, any_case),
             followers,

@@ -9,9 +9,15 @@ const CARET: u32 = b'^' as u32;
 
 const CLOSE: u32 = b']' as u32;
 
+const COMMA: u32 = b',' as u32;
+
 const DASH: u32 = b'-' as u32;
 
+const END: u32 = b'}' as u32;
+
 const ESCAPE: u32 = b'\\' as u32;
+
+const GROUP: u32 = b'{' as u32;
 
 const MANY: u32 = b'*' as u32;
 
@@ -88,11 +94,38 @@ fn has_case(from: u32, to: u32, cases: (u32, u32)) -> bool {
     (from <= cases.0 && cases.0 <= to) || (from <= cases.1 && cases.1 <= to)
 }
 
+/// What an item of a pattern is.
+#[derive(Clone, Copy, Debug)]
+pub(in crate::zerotrie_search) enum Role {
+    /// One letter.
+    Letter,
+    /// Any number of letters.
+    Many,
+    /// The beginning of a group.
+    Group,
+    /// What separates two alternatives of a group.
+    Comma,
+    /// The end of a group.
+    End,
+}
+
+impl Role {
+    /// Returns whether what is behind an item with this role is in a group. `in_group` says whether the
+    /// item is.
+    pub(in crate::zerotrie_search) fn stays_in(self, in_group: bool) -> bool {
+        match self {
+            Role::Group => true,
+            Role::End => false,
+            Role::Many | Role::Comma | Role::Letter => in_group,
+        }
+    }
+}
+
 /// An item of a pattern, beside a letter.
 #[derive(Clone, Copy, Debug)]
 pub(in crate::zerotrie_search) struct Item {
-    /// It is any number of letters.
-    pub(in crate::zerotrie_search) is_many: bool,
+    /// What it is.
+    pub(in crate::zerotrie_search) role: Role,
     /// It takes the letter.
     pub(in crate::zerotrie_search) takes: bool,
 }
@@ -151,7 +184,7 @@ fn class_item(text: Text<'_>, negated: bool, letter: (u32, u32)) -> Option<(Item
     let _first = class_letter(text)?;
     let (has, rest) = class_takes(text, letter)?;
     let item = Item {
-        is_many: false,
+        role: Role::Letter,
         takes: has != negated,
     };
     Some((item, rest))
@@ -168,20 +201,53 @@ fn opened(text: Text<'_>, letter: (u32, u32)) -> Option<(Item, Text<'_>)> {
     }
 }
 
-/// Returns the first item of a pattern beside a letter with these cases, and what is left of the pattern
-/// after it.
-pub(in crate::zerotrie_search) fn first_item(pattern: Text<'_>, letter: (u32, u32)) -> Option<(Item, Text<'_>)> {
-    let (first, rest) = pattern.first()?;
-    let is_many = first == MANY;
-    let takes = match first {
-        MANY | ANY => true,
-        OPEN => return opened(rest, letter),
-        ESCAPE => {
-            let (escaped, rest) = rest.first()?;
-            let takes = is_one(escaped, letter);
-            return Some((Item { is_many, takes }, rest));
+/// Returns an item that is one letter, beside a letter with these cases.
+fn one(letter: u32, cases: (u32, u32)) -> Item {
+    Item {
+        role: Role::Letter,
+        takes: is_one(letter, cases),
+    }
+}
+
+/// Returns the item that a letter is in a group or outside of one, if it is neither a backslash nor an
+/// opening bracket, beside a letter with these cases.
+fn item_of(first: u32, in_group: bool, letter: (u32, u32)) -> Option<Item> {
+    let (role, takes) = match first {
+        MANY => (Role::Many, true),
+        ANY => (Role::Letter, true),
+        GROUP => {
+            if in_group {
+                return None;
+            }
+            (Role::Group, false)
         }
-        _ => is_one(first, letter),
+        END => {
+            if !in_group {
+                return None;
+            }
+            (Role::End, false)
+        }
+        COMMA if in_group => (Role::Comma, false),
+        _ => return Some(one(first, letter)),
     };
-    Some((Item { is_many, takes }, rest))
+    Some(Item { role, takes })
+}
+
+/// Returns the first item of a pattern, or of what is left of it in a group, beside a letter with these
+/// cases, and what is left after it.
+pub(in crate::zerotrie_search) fn first_item(
+    pattern: Text<'_>,
+    in_group: bool,
+    letter: (u32, u32),
+) -> Option<(Item, Text<'_>)> {
+    let (first, rest) = pattern.first()?;
+    if first == ESCAPE {
+        let (escaped, rest) = rest.first()?;
+        return Some((one(escaped, letter), rest));
+    }
+    if first == OPEN {
+        return opened(rest, letter);
+    }
+    let item = item_of(first, in_group, letter)?;
+    Some((item, rest))
 }
