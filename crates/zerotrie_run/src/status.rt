@@ -57,7 +57,7 @@ impl Status {
             MakeError::Keys(_)
             | MakeError::SumTooLarge(_)
             | MakeError::Refused(_)
-            | MakeError::IndexRefused(_) => { Some(Status::Refused) }
+            | MakeError::IndexRefused(_) => Some(Status::Refused),
             MakeError::OutOfMemory => None,
         }
     }
