@@ -6,6 +6,7 @@ mod JsonLineLemmas
 mod KeptLemmas
 mod MergedLemmas
 mod SmallLemmas
+mod FewLemmas
 mod WholeLemmas
 mod UnreadLemmas
 mod RefusedLemmas

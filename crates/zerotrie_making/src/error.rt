@@ -55,6 +55,10 @@ pub enum NoPair {
 /// let file = FilePlan { kind: None, sorted: false, form: FileForm::Sealed };
 /// let input = Vec::from_slice(rt.alloc(), b"[\n  [\"ad\", 22}\n]\n")?;
 /// assert_eq!(rt; make(rt.alloc(), Plan { read, file }, input), Err(MakeError::NotJson(2, 12)));
+/// let read = ReadPlan { duplicates: Duplicates::Sum, ..read };
+/// let input = Vec::from_slice(rt.alloc(), b"[[\"a\", 18446744073709551615], [\"a\", 1]]")?;
+/// let key = NumberedKey { number: 2, key: Vec::from_slice(rt.alloc(), b"a")? };
+/// assert_eq!(rt; make(rt.alloc(), Plan { read, file }, input), Err(MakeError::SumTooLarge(key)));
 /// ```
 #[derive(PartialEq, Eq, Debug, Drop)]
 pub enum MakeError {

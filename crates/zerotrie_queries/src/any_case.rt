@@ -99,7 +99,7 @@ fn look_up_each<S: PairStream + Drop>(
 
 /// Returns the keys of a trie for which an operation has a value, of theirs and of what a look-up in
 /// another trie finds, in the order of bytes.
-fn look_up_all(
+pub fn look_up_all(
     alloc: Global,
     operation: Operation,
     trie: &TrieRef<'_>,
