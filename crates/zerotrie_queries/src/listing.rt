@@ -22,8 +22,6 @@ mod forms;
 mod json_object;
 mod nearest;
 
-pub use distances::write_distances;
-
 use crate::folding::FoldedWords;
 use crate::found::Found;
 use crate::kept::conditions;
@@ -32,15 +30,14 @@ use crate::listing::nearest::write_nearest;
 use crate::print::Form;
 use crate::question::{Choice, Order};
 use crate::sorted::{above_prefix, stream_chosen, upper_bound};
+pub use distances::write_distances;
 use std::alloc::{AllocError, Global};
 use std::io;
 use std::io::Write;
 use std::ops::Bound;
 use zerotrie_core::{PairStream, Trie, TrieKind, TrieRef};
 use zerotrie_files::Noted;
-use zerotrie_search::{
-    Automaton, Both, ByKind, KeyRange, Not, Search, StartsWith, by_automaton,
-};
+use zerotrie_search::{Automaton, Both, ByKind, KeyRange, Not, Search, StartsWith, by_automaton};
 
 /// Why pairs are not listed, or not all of them.
 #[derive(Debug, Drop)]

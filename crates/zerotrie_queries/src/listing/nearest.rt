@@ -196,4 +196,3 @@ pub(crate) fn write_nearest<W: Write>(
         None => write_exact(alloc, trie, form, choice, limit, output),
     }
 }
-
