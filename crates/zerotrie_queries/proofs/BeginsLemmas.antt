@@ -15,22 +15,8 @@ front_alike f g same [] = same []
 front_alike f g same (b ∷ key) =
     ap (λ x. x || some_front (λ rest. f (b ∷ rest)) key) (same []) ∙ ap (λ x. g [] || x) (front_alike (λ rest. f (b ∷ rest)) (λ rest. g (b ∷ rest)) (λ rest. same (b ∷ rest)) key)
 
--- sets that have the same keys are found alike
-pub found_alike : (begins : Bool) (f g : List ℕ → Bool) → ((key : List ℕ) → f key ≡ g key) → (key : List ℕ) → found_from begins f key ≡ found_from begins g key
-found_alike true f g same key = front_alike f g same key
-found_alike false f g same key = same key
-
--- a key ends where it is found, or any bytes follow
-pub found_end : (begins : Bool) (finds : List ℕ → Bool) → finds [] ≡ found_from begins finds []
-found_end true finds = refl
-found_end false finds = refl
-
-pub found_here : (begins : Bool) (finds : List ℕ → Bool) (byte : ℕ) → (begins && finds []) ≡ true → (key : List ℕ) → true ≡ found_from begins finds (byte ∷ key)
-found_here true finds byte here key = sym (ap (λ x. x || some_front (λ rest. finds (byte ∷ rest)) key) here)
-found_here false finds byte here key = absurd (cc)
-
--- or it goes on with a byte
-pub found_on : (begins : Bool) (finds after : List ℕ → Bool) (byte : ℕ) → (begins && finds []) ≡ false → ((key : List ℕ) → after key ≡ finds (byte ∷ key)) → (key : List ℕ) → found_from begins after key ≡ found_from begins finds (byte ∷ key)
+-- a key that is not found here goes on with a byte
+found_on : (begins : Bool) (finds after : List ℕ → Bool) (byte : ℕ) → (begins && finds []) ≡ false → ((key : List ℕ) → after key ≡ finds (byte ∷ key)) → (key : List ℕ) → found_from begins after key ≡ found_from begins finds (byte ∷ key)
 found_on true finds after byte here is key =
     front_alike after (λ rest. finds (byte ∷ rest)) is key ∙ sym (ap (λ x. x || some_front (λ rest. finds (byte ∷ rest)) key) here)
 found_on false finds after byte here is key = is key

@@ -1,6 +1,6 @@
 -- The pairs that are chosen.
 use Rattle.std.proofs.Common.{◌≡◌, ℕ, suc, ◌≤◌, List, [], ◌∷◌, Bool, true, false, cond, not, length, refl, sym, ap, ◌∙◌, arith, subst, Option, Some, None, Result, Ok, Err, IfOk, IfSome, IfNone, OnOk, OnErr}
-use Rattle.std.specs.Prelude.{◌&&◌, ◌==◌, is_none}
+use Rattle.std.specs.Prelude.{◌&&◌, ◌==◌}
 use Rattle.std.specs.Io.KnownBytes.{Appends}
 use Rattle.std.proofs.lemmas.Bool.{ne_eqb}
 use Rattle.std.proofs.lemmas.List.Filters.{length-filter_both}
@@ -12,13 +12,12 @@ use Rattle.zerotrie_core.specs.Texts.{Lists}
 use Rattle.zerotrie_core.specs.declared.TrieKind.{TrieKind}
 use Rattle.zerotrie_files.specs.Parts.{AppendsPart}
 use Rattle.zerotrie_search.specs.Searches.{accepted, IsSearch}
-use Rattle.zerotrie_queries.specs.Chosen.{begins_left, chosen, is_chosen, is_in, is_kept, is_matched, is_spared}
+use Rattle.zerotrie_queries.specs.Chosen.{begins_left, chosen, is_chosen, is_kept, is_matched}
 use Rattle.zerotrie_queries.specs.Json.{IsFirstNoText}
 use Rattle.zerotrie_queries.specs.Listed.{limited, IsPrintable, ArePrinted, AreListed, AreListedInPart, AreNoText}
 use Rattle.zerotrie_queries.specs.Printed.{listed}
 use Rattle.zerotrie_queries.specs.declared.print.Form.{Form}
 use Rattle.zerotrie_queries.specs.declared.question.Choice.{Choice}
-use Rattle.zerotrie_queries.specs.declared.question.Pattern.{Pattern}
 
 -- those that are accepted are no more than all
 pub few_accepted : (accepts : List ℕ → Bool) (pairs : Pairs) → length (accepted accepts pairs) ≤ length pairs
@@ -118,23 +117,6 @@ accepted_within p q (e ∷ pairs) h = go (p e.0) (q e.0) refl refl (accepted_wit
 and_true : (b : Bool) → (b && true) ≡ b
 and_true true = refl
 and_true false = refl
-
--- a choice without a range and a pattern keeps the keys with its prefix
-pub kept_by_prefix : (kind : TrieKind) (c : Choice) → is_none c.without ≡ true → ((key : List ℕ) → is_in kind c.range key ≡ true) → (key : List ℕ) → is_kept kind c key ≡ begins_with (kind_of kind) c.prefix.now key
-kept_by_prefix kind c none all key =
-    let spared : (o : Option Pattern) → is_none o ≡ true → is_spared kind o key ≡ true = λ o is. no_pattern kind o key is in
-    ap (λ b. (begins_with (kind_of kind) c.prefix.now key && b) && is_spared kind c.without key) (all key)
-    ∙ ap (λ b. (begins_with (kind_of kind) c.prefix.now key && true) && b) (spared c.without none)
-    ∙ and_true (begins_with (kind_of kind) c.prefix.now key && true)
-    ∙ and_true (begins_with (kind_of kind) c.prefix.now key)
-  where
-    no_pattern : (kind : TrieKind) (o : Option Pattern) (key : List ℕ) → is_none o ≡ true → is_spared kind o key ≡ true
-    no_pattern kind None key is = refl
-    no_pattern kind (Some p) key is = absurd (cc)
-
--- and without a prefix all keys
-pub kept_free : (kind : TrieKind) (c : Choice) → c.prefix.now ≡ [] → ((key : List ℕ) → is_kept kind c key ≡ begins_with (kind_of kind) c.prefix.now key) → (key : List ℕ) → is_kept kind c key ≡ true
-kept_free kind c none kept key = kept key ∙ ap (λ p. begins_with (kind_of kind) p key) none
 
 -- if it keeps all keys, those are chosen that the automaton accepts
 pub alone : (kind : TrieKind) (c : Choice) (accepts : List ℕ → Bool) → ((key : List ℕ) → is_kept kind c key ≡ true) → ((key : List ℕ) → accepts key ≡ is_matched kind c.sought key)

@@ -1,10 +1,6 @@
-use Rattle.std.proofs.Common.{rules, ◌≡◌, ◌==◌, ◌<◌, ◌∙◌, ◌≤◌, ◌+◌, ℕ, length, true, false, not, ap, sym, subst, arith}
+use Rattle.std.proofs.Common.{rules, ◌≡◌, ◌==◌, ◌<◌, ◌∙◌, ◌≤◌, ◌+◌, length, true, false, not, ap, subst, arith}
 use Rattle.std.specs.FinMap.{entries}
-use Rattle.zerotrie_core.specs.Kinds.{kind_of}
-use Rattle.zerotrie_core.specs.Maps.{Map}
-use Rattle.zerotrie_core.specs.Texts.{Means}
-use Rattle.zerotrie_queries.specs.Chosen.{at_edits, chosen, closest, edits_of}
-use Rattle.zerotrie_queries.specs.declared.question.Choice.{Choice}
+use Rattle.zerotrie_queries.specs.Chosen.{at_edits, chosen}
 use Rattle.zerotrie_queries.proofs.FoldLemmas.{closest_here, closest_beyond}
 use Rattle.zerotrie_queries.proofs.listing.fewest_edits.Goals as goal
 

@@ -1,5 +1,4 @@
-use Rattle.std.proofs.Common.{rules, ◌≡◌, ◌<◌, ◌^◌, ◌∙◌, length, true, false, sym}
-use Rattle.zerotrie_queries.specs.Chosen.{at_edits}
+use Rattle.std.proofs.Common.{rules, ◌≡◌, ◌<◌, ◌^◌, length, true, false}
 use Rattle.zerotrie_queries.specs.Sorted.{picked}
 use Rattle.zerotrie_queries.specs.declared.question.Order.TheVariants.{ByBytes, Closest}
 use Rattle.zerotrie_queries.proofs.ChoiceLemmas.{if_none_weaker, if_some_weaker, on_err_so, all_of, part_of, none_of}
