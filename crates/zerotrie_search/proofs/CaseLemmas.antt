@@ -2,7 +2,7 @@
 use Rattle.std.proofs.Common.{◌≡◌, ◌∷◌, ◌∙◌, ℕ, zero, suc, List, [], length, drop, refl, sym, ap, subst, Bool, true, false}
 use Rattle.std.specs.Prelude.{◌<◌, ◌==◌, ◌||◌, not, map, if◌then◌else◌}
 use Rattle.zerotrie_search.specs.Globs.{Item, many, any, one, class, group, comma, end, cased, in_any_case, takes}
-use Rattle.zerotrie_search.specs.GlobMasks.{cases, role_of, role_at, taken_at, takes_one, AreRoles}
+use Rattle.zerotrie_search.specs.GlobMasks.{cases, role_of, role_at, takes_one, AreRoles}
 use Rattle.zerotrie_search.specs.declared.glob.pattern.Role.{Role}
 
 or_same : (x : Bool) → (x || x) ≡ x

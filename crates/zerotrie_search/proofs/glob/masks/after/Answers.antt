@@ -1,5 +1,5 @@
 use Rattle.std.proofs.Common.{◌∙◌}
-use Rattle.zerotrie_search.specs.declared.glob.pattern.Role.TheVariants.{Many, Group, Comma, End, Letter}
+use Rattle.zerotrie_search.specs.declared.glob.pattern.Role.TheVariants.{Many}
 use Rattle.zerotrie_search.proofs.MarkLemmas.{after_by}
 use Rattle.zerotrie_search.proofs.glob.masks.after.Goals as goal
 

@@ -1,4 +1,4 @@
-use Rattle.std.proofs.Common.{◌≡◌, ◌∙◌, ◌+◌, ◌∷◌, drop, ap, sym}
+use Rattle.std.proofs.Common.{◌∙◌, ◌+◌, ◌∷◌, drop, ap}
 use Rattle.std.specs.Prelude.{◌||◌}
 use Rattle.zerotrie_search.specs.Globs as glob
 use Rattle.zerotrie_search.specs.GlobMasks.{any_match, takes_on}

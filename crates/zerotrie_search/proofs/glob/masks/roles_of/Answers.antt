@@ -1,9 +1,7 @@
-use Rattle.std.proofs.Common.{◌≡◌, ◌<◌, ◌+◌, ◌∙◌, ◌⊎◌, inl, inr, ◌∷◌, ℕ, [], ap, sym, arith, length, drop, get_or}
-use Rattle.std.specs.Prelude.{slice_set}
+use Rattle.std.proofs.Common.{◌∙◌, ◌∷◌, ap, sym, arith, length}
 use Rattle.std.proofs.lemmas.List.{length-set}
 use Rattle.zerotrie_search.specs.Globs.{items, items_in, no_item_in, unread, first_item}
-use Rattle.zerotrie_search.specs.GlobMasks.{letters_in, role_at}
-use Rattle.zerotrie_search.specs.declared.glob.pattern.Role.TheVariants.{Letter}
+use Rattle.zerotrie_search.specs.GlobMasks.{letters_in}
 use Rattle.zerotrie_search.proofs.GlobLemmas.{read_item, read_none, items_more, left_more, all_left_over}
 use Rattle.zerotrie_search.proofs.MarkLemmas.{drop_one, role_more}
 use Rattle.zerotrie_search.proofs.glob.masks.roles_of.Goals as goal

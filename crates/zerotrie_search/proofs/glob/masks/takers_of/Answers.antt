@@ -1,8 +1,8 @@
-use Rattle.std.proofs.Common.{◌≡◌, ◌∙◌, ◌∷◌, ap, sym, arith, length}
+use Rattle.std.proofs.Common.{◌∙◌, ◌∷◌, ap, sym, arith, length}
 use Rattle.std.specs.Prelude.{if◌then◌else◌}
-use Rattle.zerotrie_search.specs.Globs.{cased, items, items_in, stays_in, first_item}
+use Rattle.zerotrie_search.specs.Globs.{cased, items, items_in, first_item}
 use Rattle.zerotrie_search.specs.GlobMasks.{letters_in, cases, read, taken_at}
-use Rattle.zerotrie_search.proofs.CaseLemmas.{item_in, takes_cases, cased_more, cased_none, length_cased}
+use Rattle.zerotrie_search.proofs.CaseLemmas.{item_in, takes_cases, cased_more, length_cased}
 use Rattle.zerotrie_search.proofs.GlobLemmas.{read_item, read_none, no_items, items_more}
 use Rattle.zerotrie_search.proofs.MarkLemmas.{drop_one, bit_more, bits_none, takers_known}
 use Rattle.zerotrie_search.proofs.glob.masks.takers_of.Goals as goal
