@@ -272,9 +272,9 @@ typedef enum zerotrie_search_by ZEROTRIE_ENUM {
     /** the keys between two bounds, in the order of bytes as memcmp has it, a shorter key first */
     ZEROTRIE_BY_RANGE = 0,
     /** the keys that a pattern matches: `*` is any number of bytes, `?` is one byte, `[a-z_]` is
-     * one byte of the class, and `[!a-z_]` one that is not of it. A backslash takes the meaning of
-     * the byte after it, in a class too. All other bytes are themselves. A pattern has at most 63
-     * items. */
+     * one byte of the class, and `[!a-z_]` one that is not of it. `{a,bc}` is one of the patterns in
+     * it, which have no braces. A backslash takes the meaning of the byte after it, in a class too.
+     * All other bytes are themselves. A pattern has at most 63 items. */
     ZEROTRIE_BY_GLOB = 1,
     /** the keys that have these bytes in this order, with any bytes before, between and after */
     ZEROTRIE_BY_SUBSEQUENCE = 2,

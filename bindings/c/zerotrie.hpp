@@ -415,8 +415,8 @@ public:
         return made;
     }
     /// The keys that a pattern matches, as "s*ing": `*` is any number of bytes, `?` one byte, and
-    /// `[a-z]` or `[!a-z]` a byte that is of a class or is not; a backslash takes the meaning of
-    /// the byte after it. Throws Error if the pattern is malformed, or has more than 63 items.
+    /// `[a-z]` or `[!a-z]` a byte that is of a class or is not; `{a,bc}` is one of the patterns in it;
+    /// a backslash takes the meaning of the byte after it. Throws Error if the pattern is malformed, or has more than 63 items.
     [[nodiscard]] static Search glob(std::string_view pattern) {
         return Search(ZEROTRIE_BY_GLOB, pattern).checked();
     }

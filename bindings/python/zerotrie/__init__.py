@@ -442,10 +442,11 @@ class _Trie(Reader[Word], _InBytes, Mapping[Any, int]):
 
     def glob(self, pattern: Key) -> Found[Word]:
         """A view of the pairs whose keys a pattern matches, as "s*ing": `*` is any number of
-        characters, `?` one of them, and `[a-z]` or `[!a-z]` one that is of a class or is not. A
-        backslash takes the meaning of the character after it. If the pattern is bytes, all of this is
-        by bytes; a pattern that is text finds only keys that are UTF-8. In IGNORE_CASE this and the
-        three below ignore case.
+        characters, `?` one of them, `[a-z]` or `[!a-z]` one that is of a class or is not, and
+        `{a,bc}` what one of the patterns in it, which have no braces, matches. A backslash takes
+        the meaning of the character after it. If the pattern is bytes, all of this is by bytes; a
+        pattern that is text finds only keys that are UTF-8. In IGNORE_CASE this and the three below
+        ignore case.
 
         >>> words = StrTrie.build({"cafe": 1, "café": 2, "cafés": 3})
         >>> list(words.glob("caf?")), list(words.glob(b"caf?"))

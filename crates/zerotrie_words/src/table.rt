@@ -358,7 +358,7 @@ const LISTINGS: &[Subcommand] = &[
             Argument {
                 name: "glob",
                 form: Form::AnyText("P", Some('g')),
-                help: "Keys that match *, ?, [a-z], [!a-z] and \\ before any of these",
+                help: "Keys that match *, ?, [a-z], [!a-z], {a,b} and \\ before any of these",
             },
             Argument {
                 name: "fuzzy",
