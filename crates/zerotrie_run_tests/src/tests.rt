@@ -19,7 +19,7 @@ use zerotrie_queries::{
     Asked, Choice, Form, Language, Order, Query, ReportForm, Spelling, Style, View,
 };
 use zerotrie_run::{
-    Build, Check, Combine, Command, Diff, Keys, Place, Question, Status, TrieFile, run,
+    Build, Check, Combine, Command, Diff, Keys, Place, Question, Status, Summary, TrieFile, run,
 };
 use zerotrie_sealed::seal_index;
 use zerotrie_search::KeyRange;
@@ -114,8 +114,16 @@ const OF_JSON_LINES: Build<'static> = Build {
     ..BUILD
 };
 
-/// Builds of that file, told and untold, on standard output, and of an index.
-const BUILDS: [Row; 4] = [
+/// Builds of that file, told and untold, on standard output, of an index, and of no pairs.
+const BUILDS: [Row; 5] = [
+    Row {
+        files: &[("names.tsv", b"")],
+        command: Command::Build(BUILD),
+        status: Status::Done,
+        printed: b"",
+        told: b"zerotrie: names.trie: 0 keys, 1 bytes\n",
+        left: ("names.trie", b"\0"),
+    },
     Row {
         files: &[("names.tsv", NAMES)],
         command: Command::Build(INDEXING),
@@ -265,7 +273,27 @@ const SEALS: [Row; 7] = [
 ];
 
 /// Builds that are refused, and leave the file that was there.
-const REFUSED: [Row; 10] = [
+const REFUSED: [Row; 11] = [
+    Row {
+        files: &[
+            ("names.tsv", b"a\t2\nb\t1\na\t18446744073709551614\n"),
+            ("names.trie", TRIE),
+        ],
+        command: Command::Build(Build {
+            plan: Plan {
+                read: ReadPlan {
+                    duplicates: Duplicates::Sum,
+                    ..PLAN.read
+                },
+                ..PLAN
+            },
+            ..BUILD
+        }),
+        status: Status::Refused,
+        printed: b"",
+        told: b"zerotrie: names.tsv: line 3: the sum of the values of its key is 2^64 or more: a\n",
+        left: ("names.trie", TRIE),
+    },
     Row {
         files: &[("names.tsv", b"[\"a\",1]\n[\"b\"]\n"), ("names.trie", TRIE)],
         command: Command::Build(OF_JSON_LINES),
@@ -374,6 +402,7 @@ const ALL: Choice<'static> = Choice {
         from: Bound::Unbounded,
         to: Bound::Unbounded,
     },
+    without: None,
     sought: None,
 };
 
