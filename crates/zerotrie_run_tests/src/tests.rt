@@ -282,8 +282,9 @@ const REFUSED: [Row; 11] = [
         command: Command::Build(Build {
             plan: Plan {
                 read: ReadPlan {
+                    source: Source::Text(Format::Tsv, LineEnd::CrLf),
+                    lower_case: false,
                     duplicates: Duplicates::Sum,
-                    ..PLAN.read
                 },
                 ..PLAN
             },
