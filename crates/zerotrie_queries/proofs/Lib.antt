@@ -18,6 +18,5 @@ mod NearLemmas
 mod FoldLemmas
 mod EditsLemmas
 mod KeptLemmas
-mod BeginsLemmas
 mod MeasuredLemmas
 mod WordLemmas

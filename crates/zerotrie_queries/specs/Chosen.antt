@@ -52,11 +52,6 @@ is_in kind r key = bounds_contain by_bytes (folded_bound kind (bound_map (λ b. 
 abbrev pub found_from : (begins : Bool) → (finds : List ℕ → Bool) → List ℕ → Bool
 found_from begins finds key = if begins then some_front finds key else finds key
 
--- the same from a state, or from where a front was found
-abbrev pub found_left : {S : Type 0} → (begins : Bool) → (S → List ℕ → Bool) → Option S → List ℕ → Bool
-found_left begins finds_from None key = true
-found_left begins finds_from (Some state) key = found_from begins (finds_from state) key
-
 -- whether a word finds it, if there is one
 abbrev pub is_matched : TrieKind → Option Sought → List ℕ → Bool
 is_matched kind None key = true

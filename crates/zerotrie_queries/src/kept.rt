@@ -1,12 +1,13 @@
 //! The conditions of a choice but that of its word, as an automaton.
 
-ghost use Rattle.std.specs.Prelude.{◌≡◌, ◌&&◌, ℕ, List, true, false, IfSome, IfNone};
+ghost use Rattle.std.specs.Prelude.{◌≡◌, ◌&&◌, ℕ, List, None, true, false, IfSome, IfNone};
+ghost use Rattle.zerotrie_core.specs.Maps.{begins_with};
 ghost use Rattle.zerotrie_core.specs.Kinds.{kind_of};
 ghost use Rattle.zerotrie_search.specs.Automata.{any_accepts, finds_in, ignores_case};
 ghost use Rattle.zerotrie_search.specs.declared.any.AnyAutomaton.TheVariants as any;
 ghost use Rattle.zerotrie_search.specs.declared.any.SearchBy.TheVariants as by;
-ghost use Rattle.zerotrie_queries.specs.Chosen.{is_kept, is_spared, is_word, IsFolded};
-ghost use Rattle.zerotrie_queries.specs.Kept.{keeps, some_accepts, some_accepts_from, spares, MayBeAfter};
+ghost use Rattle.zerotrie_queries.specs.Chosen.{is_in, is_kept, is_spared, is_word, IsFolded};
+ghost use Rattle.zerotrie_queries.specs.Kept.{in_part, keeps, some_accepts, some_accepts_from, spares, MayBeAfter};
 
 use crate::prefix::KindPrefix;
 use crate::question::{Choice, Pattern};
@@ -67,8 +68,11 @@ impl<S: Automaton> Automaton for Maybe<S> {
 /// Accepts the keys that no pattern matches.
 pub(crate) type NoPattern<'p> = Not<ByKind<Either<Maybe<Glob<'p>>, Maybe<GlobChars<'p>>>>>;
 
+/// Accepts the keys with a prefix in a range.
+pub(crate) type Part<'p> = Both<KindPrefix<'p>, ByKind<KeyRange<'p>>>;
+
 /// Accepts the keys of which the conditions of a choice hold but that of its word.
-pub(crate) type Conditions<'p> = Both<Both<KindPrefix<'p>, ByKind<KeyRange<'p>>>, NoPattern<'p>>;
+pub(crate) type Conditions<'p> = Both<Part<'p>, NoPattern<'p>>;
 
 /// Returns the automaton of a pattern of bytes, as a kind compares keys. `None` if it is none of its sort.
 #[tactic(auto, using(crate::proofs::WordLemmas::word_faultless, crate::proofs::WordLemmas::word_error))]
@@ -131,16 +135,27 @@ fn no_pattern(kind: TrieKind, without: Option<Pattern<'_>>) -> NoPattern<'_>
     }
 }
 
+/// Returns the automaton of the keys with the prefix of a choice, in its range. Its bounds are as the
+/// kind compares keys. Without a pattern these are all conditions but that of the word.
+pub(crate) fn part_of(kind: TrieKind, choice: Choice<'_>) -> Part<'_>
+    requires { IsFolded kind choice }
+    ensures part { (key : List ℕ) → in_part result key ≡ (begins_with (kind_of kind) choice.entry.prefix.now key
+        && is_in kind choice.entry.range key) }
+    ensures all { choice.entry.without ≡ None → (key : List ℕ)
+        → in_part result key ≡ is_kept kind choice.entry key }
+{
+    let prefix = KindPrefix {
+        kind,
+        prefix: choice.prefix,
+    };
+    Both(prefix, ByKind(kind, choice.range))
+}
+
 /// Returns the automaton of the keys of which the conditions of a choice hold but that of its word. Its
 /// bounds are as the kind compares keys.
 pub(crate) fn conditions(kind: TrieKind, choice: Choice<'_>) -> Conditions<'_>
     requires { IsFolded kind choice }
     ensures { (key : List ℕ) → keeps result key ≡ is_kept kind choice.entry key }
 {
-    let prefix = KindPrefix {
-        kind,
-        prefix: choice.prefix,
-    };
-    let range = ByKind(kind, choice.range);
-    Both(Both(prefix, range), no_pattern(kind, choice.without))
+    Both(part_of(kind, choice), no_pattern(kind, choice.without))
 }

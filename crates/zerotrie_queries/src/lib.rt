@@ -13,7 +13,6 @@ mod exact;
 mod file;
 mod first_pairs;
 mod folding;
-mod found;
 mod json_text;
 mod kept;
 mod listing;

@@ -23,8 +23,7 @@ mod json_object;
 mod nearest;
 
 use crate::folding::FoldedWords;
-use crate::found::Found;
-use crate::kept::conditions;
+use crate::kept::{conditions, part_of};
 use crate::listing::forms::write_first;
 use crate::listing::nearest::write_nearest;
 use crate::print::Form;
@@ -37,7 +36,27 @@ use std::io::Write;
 use std::ops::Bound;
 use zerotrie_core::{PairStream, Trie, TrieKind, TrieRef};
 use zerotrie_files::Noted;
-use zerotrie_search::{Automaton, Both, ByKind, KeyRange, Not, Search, StartsWith, by_automaton};
+use zerotrie_search::{
+    Automaton, BeginsWith, Both, ByKind, KeyRange, Not, Search, StartsWith, by_automaton,
+};
+
+/// Does what is written with the automaton of a word, as a kind compares keys: that of the keys which
+/// the word finds, or if it is so, of those that begin with one.
+macro_rules! by_found {
+    ($any:expr, $kind:expr, $begins:expr, $automaton:ident => $result:expr) => {
+        if $begins {
+            by_automaton!($any, word => {
+                let $automaton = ByKind($kind, BeginsWith(word));
+                $result
+            })
+        } else {
+            by_automaton!($any, word => {
+                let $automaton = ByKind($kind, word);
+                $result
+            })
+        }
+    };
+}
 
 /// Why pairs are not listed, or not all of them.
 #[derive(Debug, Drop)]
@@ -134,17 +153,18 @@ fn is_free(choice: Choice<'_>) -> bool
 }
 
 /// Writes the first pairs that hold all conditions of a choice, in the order of the trie. The automaton
-/// accepts what that of the choice does.
-fn write_with_all<T: Automaton + Copy + Drop, W: Write>(
+/// accepts what that of the choice does, and the other one the keys of which the other conditions hold.
+fn write_with_all<T: Automaton + Copy + Drop, S: Automaton + Copy + Drop, W: Write>(
     alloc: Global,
     trie: &TrieRef<'_>,
     form: Form,
     choice: Choice<'_>,
     automaton: T,
+    kept: S,
     limit: Option<usize>,
     output: &mut Noted<W>,
 ) -> io::Result<Option<Vec<u8>>>
-    requires folded { IsFolded trie.now.kind choice }
+    requires kept { (key : List ℕ) → S.accepts kept key ≡ is_kept trie.now.kind choice key }
     requires matched { (key : List ℕ) → T.accepts automaton key ≡ is_matched trie.now.kind choice.sought key }
     ensures all { IfOk result (λ key. IfNone key (AreListed form (chosen trie.now.kind choice.entry)
         limit trie.now.kind trie.now.bytes.now (W.contents output.old.inner)
@@ -157,8 +177,7 @@ fn write_with_all<T: Automaton + Copy + Drop, W: Write>(
         (W.contents output.new.inner)) }
     ensures noted { IsNoted result output.old.failed output.new.failed }
 {
-    let all = Both(conditions(trie.kind, choice), automaton);
-    write_accepted(alloc, trie, form, all, limit, output)
+    write_accepted(alloc, trie, form, Both(kept, automaton), limit, output)
 }
 
 /// Writes the first pairs whose keys are chosen, in the order of the trie. The automaton accepts what
@@ -186,10 +205,14 @@ fn write_matched<T: Automaton + Copy + Drop, W: Write>(
     ensures noted { IsNoted result output.old.failed output.new.failed }
 {
     if is_free(choice) {
-        write_accepted(alloc, trie, form, automaton, limit, output)
-    } else {
-        write_with_all(alloc, trie, form, choice, automaton, limit, output)
+        return write_accepted(alloc, trie, form, automaton, limit, output);
     }
+    if choice.without.is_some() {
+        let kept = conditions(trie.kind, choice);
+        return write_with_all(alloc, trie, form, choice, automaton, kept, limit, output);
+    }
+    let kept = part_of(trie.kind, choice);
+    write_with_all(alloc, trie, form, choice, automaton, kept, limit, output)
 }
 
 /// Writes the first pairs whose keys are chosen, in the order of the trie. The choice has no
@@ -224,7 +247,7 @@ fn write_unmatched<W: Write>(
 }
 
 /// Writes the first pairs whose keys are chosen, in the order of the trie.
-#[tactic(auto, using(crate::proofs::FoldLemmas::found_folded, crate::proofs::FoldLemmas::none_found))]
+#[tactic(auto, using(crate::proofs::EditsLemmas::found_begins, crate::proofs::EditsLemmas::found_whole, crate::proofs::FoldLemmas::none_found))]
 fn write_stored<W: Write>(
     alloc: Global,
     trie: &TrieRef<'_>,
@@ -252,9 +275,8 @@ fn write_stored<W: Write>(
         let no_key = Not(StartsWith(b""));
         return write_matched(alloc, trie, form, choice, no_key, limit, output);
     };
-    let (kind, begins) = (trie.kind, sought.begins);
-    by_automaton!(any, automaton => {
-        let automaton = ByKind(kind, Found { begins, automaton });
+    let kind = trie.kind;
+    by_found!(any, kind, sought.begins, automaton => {
         write_matched(alloc, trie, form, choice, automaton, limit, output)
     })
 }
@@ -328,13 +350,17 @@ fn write_matched_between<T: Automaton + Copy + Drop, W: Write>(
             alloc, trie, form, choice, automaton, limit, from, to, output,
         );
     }
-    let chosen = Both(conditions(trie.kind, choice), automaton);
+    if choice.without.is_some() {
+        let chosen = Both(conditions(trie.kind, choice), automaton);
+        return write_accepted_between(alloc, trie, form, choice, chosen, limit, from, to, output);
+    }
+    let chosen = Both(part_of(trie.kind, choice), automaton);
     write_accepted_between(alloc, trie, form, choice, chosen, limit, from, to, output)
 }
 
 /// Writes the first pairs whose keys are chosen, in the order of their bytes. All of these keys are
 /// between the bounds.
-#[tactic(auto, using(crate::proofs::FoldLemmas::found_folded, crate::proofs::FoldLemmas::none_found))]
+#[tactic(auto, using(crate::proofs::EditsLemmas::found_begins, crate::proofs::EditsLemmas::found_whole, crate::proofs::FoldLemmas::none_found))]
 fn write_between<W: Write>(
     alloc: Global,
     trie: &TrieRef<'_>,
@@ -367,9 +393,8 @@ fn write_between<W: Write>(
         let no_key = Not(StartsWith(b""));
         return write_matched_between(alloc, trie, form, choice, no_key, limit, from, to, output);
     };
-    let (kind, begins) = (trie.kind, sought.begins);
-    by_automaton!(any, automaton => {
-        let automaton = ByKind(kind, Found { begins, automaton });
+    let kind = trie.kind;
+    by_found!(any, kind, sought.begins, automaton => {
         write_matched_between(alloc, trie, form, choice, automaton, limit, from, to, output)
     })
 }
@@ -464,6 +489,25 @@ fn has_accepted<T: Automaton + Drop>(
 }
 
 /// Returns whether a trie has a pair whose key is chosen. The automaton accepts what the word of the choice
+/// finds, and the other one the keys of which the other conditions hold.
+fn has_with_all<T: Automaton + Drop, S: Automaton + Drop>(
+    alloc: Global,
+    trie: &TrieRef<'_>,
+    choice: Choice<'_>,
+    automaton: T,
+    kept: S,
+) -> Result<bool, AllocError>
+    requires valid { IsWellFormed (kind_of trie.now.kind) trie.now.bytes.now }
+    requires kept { (key : List ℕ) → S.accepts kept key ≡ is_kept trie.now.kind choice key }
+    requires matched { (key : List ℕ)
+        → T.accepts automaton key ≡ is_matched trie.now.kind choice.sought key }
+    ensures { IfOk result (λ found. (m : Map) → Means (kind_of trie.now.kind) trie.now.bytes.now m
+        → (length (chosen trie.now.kind choice (entries m)) == 0) ≡ not found) }
+{
+    has_accepted(alloc, trie, Both(kept, automaton))
+}
+
+/// Returns whether a trie has a pair whose key is chosen. The automaton accepts what the word of the choice
 /// finds.
 fn has_matched<T: Automaton + Drop>(
     alloc: Global,
@@ -478,11 +522,16 @@ fn has_matched<T: Automaton + Drop>(
     ensures { IfOk result (λ found. (m : Map) → Means (kind_of trie.now.kind) trie.now.bytes.now m
         → (length (chosen trie.now.kind choice.entry (entries m)) == 0) ≡ not found) }
 {
-    has_accepted(alloc, trie, Both(conditions(trie.kind, choice), automaton))
+    if choice.without.is_some() {
+        let kept = conditions(trie.kind, choice);
+        return has_with_all(alloc, trie, choice, automaton, kept);
+    }
+    let kept = part_of(trie.kind, choice);
+    has_with_all(alloc, trie, choice, automaton, kept)
 }
 
 /// Returns whether a trie has a pair whose key is chosen.
-#[tactic(auto, using(crate::proofs::FoldLemmas::found_folded, crate::proofs::FoldLemmas::none_found))]
+#[tactic(auto, using(crate::proofs::EditsLemmas::found_begins, crate::proofs::EditsLemmas::found_whole, crate::proofs::FoldLemmas::none_found))]
 fn has_chosen(alloc: Global, trie: &TrieRef<'_>, choice: Choice<'_>) -> Result<bool, AllocError>
     requires valid { IsWellFormed (kind_of trie.now.kind) trie.now.bytes.now }
     requires folded { IsFolded trie.now.kind choice }
@@ -495,10 +544,8 @@ fn has_chosen(alloc: Global, trie: &TrieRef<'_>, choice: Choice<'_>) -> Result<b
     let Some(any) = sought.automaton(trie.kind) else {
         return has_matched(alloc, trie, choice, Not(StartsWith(b"")));
     };
-    let (kind, begins) = (trie.kind, sought.begins);
-    by_automaton!(any, automaton => {
-        has_matched(alloc, trie, choice, ByKind(kind, Found { begins, automaton }))
-    })
+    let kind = trie.kind;
+    by_found!(any, kind, sought.begins, automaton => has_matched(alloc, trie, choice, automaton))
 }
 
 /// Returns the fewest edits of the word of a choice with which a pair is chosen, or as many as it allows if
