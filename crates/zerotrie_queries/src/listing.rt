@@ -502,7 +502,7 @@ fn has_with_all<T: Automaton + Drop, S: Automaton + Drop>(
     requires matched { (key : List ℕ)
         → T.accepts automaton key ≡ is_matched trie.now.kind choice.sought key }
     ensures { IfOk result (λ found. (m : Map) → Means (kind_of trie.now.kind) trie.now.bytes.now m
-        → (length (chosen trie.now.kind choice (entries m)) == 0) ≡ not found) }
+        → (length (chosen trie.now.kind choice.entry (entries m)) == 0) ≡ not found) }
 {
     has_accepted(alloc, trie, Both(kept, automaton))
 }
