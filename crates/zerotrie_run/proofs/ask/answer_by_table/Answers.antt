@@ -2,7 +2,6 @@ use Rattle.std.proofs.lemmas.Result.{IfOk-weaker}
 use Rattle.std.specs.Io.Buffered.{writer_contents}
 use Rattle.zerotrie_queries.specs.Finders.{TrieFinds}
 use Rattle.zerotrie_queries.proofs.ChoiceLemmas.{on_err_so}
-use Rattle.zerotrie_queries.proofs.PartLemmas.{on_err}
 use Rattle.zerotrie_run.specs.declared.command.Keys.TheVariants.{Lines}
 use Rattle.zerotrie_run.proofs.AskLemmas.{keys_of_more, part_of_more, by_table}
 use Rattle.zerotrie_run.proofs.LineLemmas.{lines_first, lines_stops}

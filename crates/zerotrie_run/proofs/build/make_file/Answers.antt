@@ -1,5 +1,7 @@
-use Rattle.std.proofs.Common.{◌≡◌, length, subst, arith}
+use Rattle.std.proofs.Common.{◌≡◌, ◌∙◌, ap, length, subst, arith}
 use Rattle.std.specs.Io.KnownBytes.{Appends}
+use Rattle.zerotrie_run.specs.Messages.{target_name}
+use Rattle.zerotrie_run.specs.Told.{told_made}
 use Rattle.zerotrie_run.proofs.MessageLemmas.{made_is}
 use Rattle.zerotrie_run.proofs.build.make_file.Goals as goal
 
@@ -15,6 +17,7 @@ returns-in-Ok-write_place-clause-done g c = λ ok.
       made,
       c.in-Ok-make.ensures.ok,
       subst (Appends (g.M.Write.contents old.inner) (g.M.Write.contents new.inner))
-          (made_is c.args.build.progress c.as_slice-in-Ok-write_place.result.now c.in_ok-done.done.items c.target_name-place.result.now _ made.keys c.len.result (length made.file.items) c.as_slice-in-Ok-write_place.ensures.value c.in_ok-done.ensures c.target_name-place.ensures len)
+          (made_is c.is_told-is_told.result c.as_slice-in-Ok-write_place.result.now c.in_ok-done.done.items c.target_name-place.result.now _ made.keys c.len.result (length made.file.items) c.as_slice-in-Ok-write_place.ensures.value c.in_ok-done.ensures c.target_name-place.ensures len
+          ∙ ap (λ told. told_made told (target_name c.args.build.to) made.keys (length made.file.items)) c.is_told-is_told.ensures)
           told.1,
     )
