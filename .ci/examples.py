@@ -21,7 +21,7 @@ ROOT = pathlib.Path(__file__).resolve().parent.parent
 PAGES = [ROOT / "README.md", ROOT / "docs" / "CALLING.md", *(ROOT / "crates" / it / "README.md" for it in ("zerotrie_index", "zerotrie_reverse", "zerotrie_search", "zerotrie_sets"))]
 CRATES = (ROOT / "crates.txt").read_text()
 BELOW = dict(re.findall(r"^(\w+):(.*)", CRATES, re.M))  # what each crate stands on, static libraries aside
-OTHERS = "use serde_json::Value; use std::borrow::CowSlice; use std::collections::{BTreeMap, VecDeque}; use std::test::Fail; "
+OTHERS = "use serde_json::Value; use std::borrow::CowSlice; use std::collections::{BTreeMap, VecDeque}; use std::ops::Bound; use std::test::Fail; "
 PRINTS = re.compile(r"(println!\(rt; (.*)\)\?;) +// (.*)")
 BYTES = re.compile(r'^(\s*assert_eq!\(rt; .*, b"(?:[^"\\]|\\.)*")\);$', re.M)
 
