@@ -57,8 +57,8 @@ pub use Rattle.zerotrie_base.proofs.NodeLemmas.Tables.{increasing_rises}
 pub use Rattle.zerotrie_base.proofs.MapLemmas.Collected.{put_all, meant_entries, listed_texts}
 pub use Rattle.zerotrie_base.proofs.MapLemmas.Cases.{every_all}
 -- the stack need of pairs
-pub use Rattle.zerotrie_base.proofs.CanonicalLemmas.Stacks.{branch_agree, stack_none, stack_value, stack_literal, stack_branch, above, stack_behind, stack_edges, above_edge, above_edges}
+pub use Rattle.zerotrie_base.proofs.CanonicalLemmas.Stacks.{branch_agree, same-stack_of, stack_none, stack_value, stack_literal, stack_branch, above, stack_behind, stack_edges, above_edge, above_edges}
 pub use Rattle.zerotrie_base.proofs.CanonicalLemmas.Canonical.{residual_first, edges_listed}
 -- how many bytes and waiting targets a build needs, and pairs without a cause of an error
 pub use Rattle.zerotrie_base.proofs.CanonicalLemmas.Bounds.{size_of_bound, size_bound, fits_bound, meant_bound, stack_of_bound, stack_bound, targets_size_bound, residual_bound, behind_bound, edges_bound, build_bound-cons, key_bound-cons}
-pub use Rattle.zerotrie_base.proofs.CanonicalLemmas.Suited.{only_search, NeedsNoSearch, no_cause, no_array_cause, only_memory, built_within, copied_within, clean_told, ascends_taken}
+pub use Rattle.zerotrie_base.proofs.CanonicalLemmas.Suited.{only_search, NeedsNoSearch, no_cause, ascends_in_apart, SuitsArray, suits_array, no_array_cause, only_memory, built_within, copied_within, clean_told, ascends_taken}

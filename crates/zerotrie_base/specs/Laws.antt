@@ -1,8 +1,8 @@
 -- Laws of the definitions alone.
-use Rattle.std.specs.Prelude.{◌≡◌, ◌↔◌, ℕ, ◌+◌, ◌*◌, ◌^◌, ◌<◌, ◌≤◌, ◌⊎◌, List, [], ◌∷◌, ◌++◌, length, map, true}
-use Rattle.zerotrie_base.specs.Kind.{Kind, fold_byte}
+use Rattle.std.specs.Prelude.{◌≡◌, ◌↔◌, ℕ, ◌+◌, ◌*◌, ◌^◌, ◌<◌, ◌≤◌, ◌⊎◌, List, [], ◌∷◌, ◌++◌, length, true}
+use Rattle.zerotrie_base.specs.Kind.{Kind}
 use Rattle.zerotrie_base.specs.Numbers.{Spells, spelled}
-use Rattle.zerotrie_base.specs.Maps.{Pairs, Map, map_of, RepeatsKey, Ascends, same_key, look}
+use Rattle.zerotrie_base.specs.Maps.{Pairs, Map, map_of, RepeatsKey, Ascends, folded, same_key, look}
 use Rattle.zerotrie_base.specs.Texts.{Lists, Means, nodes}
 use Rattle.zerotrie_base.specs.Canonical.{enc, size}
 use Rattle.zerotrie_base.specs.Fits.{Fits}
@@ -57,10 +57,6 @@ LengthIsSize kind = (bytes : List ℕ) (m : Map) → Means kind bytes m → leng
 -- a look-up of a key of n bytes reads at most 2 * n + 1 nodes
 abbrev pub FewNodes : Type 0
 FewNodes = (kind : Kind) (bytes key : List ℕ) (m : Map) (means : Means kind bytes m) → nodes means.lists key ≤ 2 * length key + 1
-
--- the pairs with folded keys
-abbrev pub folded : Kind → Pairs → Pairs
-folded kind pairs = map {B = List ℕ × ℕ} (λ e. (map (fold_byte kind) e.0, e.1)) pairs
 
 -- the pairs that bytes list are the map that they mean, each pair once
 abbrev pub ListsTheMap : Type 0

@@ -6,7 +6,7 @@ use Rattle.std.specs.FinMap.{FinMap, from_entries, entries}
 use Rattle.std.specs.Cmp.Lexicographic.{slice_cmp, pointwise}
 use Rattle.std.specs.Ordering.{nat_cmp}
 use Rattle.std.specs.declared.cmp.Ordering.TheVariants.{Less}
-use Rattle.zerotrie_base.specs.Kind.{Kind, simple_ascii, same_byte}
+use Rattle.zerotrie_base.specs.Kind.{Kind, simple_ascii, ignore_case, perfect_hash, extended_capacity, fold_byte, same_byte}
 
 -- pairs of a key and its value
 abbrev pub Pairs : Type 0
@@ -29,6 +29,18 @@ FirstAbove key (e ∷ pairs) = slice_cmp nat_cmp key e.0 ≡ Less
 abbrev pub Ascends : Pairs → Type 0
 Ascends [] = Unit {0}
 Ascends (e ∷ pairs) = FirstAbove e.0 pairs × Ascends pairs
+
+-- the pairs with folded keys
+abbrev pub folded : Kind → Pairs → Pairs
+folded kind pairs = map {B = List ℕ × ℕ} (λ e. (map (fold_byte kind) e.0, e.1)) pairs
+
+-- the keys strictly ascend in the order of the kind: by their bytes, or in lower case if it ignores
+-- case
+abbrev pub AscendsIn : Kind → Pairs → Type 0
+AscendsIn simple_ascii pairs = Ascends pairs
+AscendsIn ignore_case pairs = Ascends (folded ignore_case pairs)
+AscendsIn perfect_hash pairs = Ascends pairs
+AscendsIn extended_capacity pairs = Ascends pairs
 
 -- some key is there twice
 abbrev pub RepeatsKey : Pairs → Type 0

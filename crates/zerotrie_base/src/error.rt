@@ -44,7 +44,8 @@ pub enum ZeroTrieBuildError {
     /// An iterator returned a key twice.
     #[error("The same key was given twice")]
     DuplicateKey,
-    /// The keys of a slice or map do not strictly ascend by their bytes.
+    /// The keys of a slice or map do not strictly ascend by their bytes, or those of an array of the
+    /// kind that ignores case by their bytes in lower case.
     #[error("Keys are not in strictly ascending order")]
     Unsorted,
     /// The encoding is longer than the array.

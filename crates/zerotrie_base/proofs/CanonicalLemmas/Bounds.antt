@@ -11,7 +11,7 @@ use Rattle.std.specs.FinMap.{entries, entries-insert, put}
 use Rattle.std.specs.FinMap.Entries.{by_order}
 use Rattle.std.specs.Ordering.{nat_cmp}
 use Rattle.std.specs.Cmp.Lexicographic.{slice_cmp, nat_list_cmp_total}
-use Rattle.zerotrie_base.specs.Kind.{Kind, simple_ascii, ignore_case, perfect_hash, extended_capacity, has_spans, is_hashed}
+use Rattle.zerotrie_base.specs.Kind.{Kind, simple_ascii, ignore_case, perfect_hash, extended_capacity, has_spans, is_hashed, ordered}
 use Rattle.zerotrie_base.specs.Numbers.{span_form, branch_form, spelled, spelled_as, trails_from, trail_bytes, latent}
 use Rattle.zerotrie_base.specs.Maps.{Pairs, map_of, value_at, begins_some, edges, residual, behind_all, high_edge, run_to, run_of, longest}
 use Rattle.zerotrie_base.specs.Branches.{total, width, branch_front}
@@ -21,7 +21,7 @@ use Rattle.zerotrie_base.specs.Bounds.{key_bound, build_bound}
 use Rattle.zerotrie_base.specs.Texts.{Means}
 use Rattle.zerotrie_base.specs.Fits.{Fits, targets_size}
 use Rattle.zerotrie_base.proofs.MapLemmas.Edges.{Rise, member, member_head, member_later}
-use Rattle.zerotrie_base.proofs.MapLemmas.Ordered.{edges_rise, member-edges, member-edges_past}
+use Rattle.zerotrie_base.proofs.MapLemmas.Ordered.{edges_rise, member-edges, member-edges_past, member-ordered, total-ordered}
 use Rattle.zerotrie_base.proofs.MapLemmas.Alike.{begins_behind, some_pair, same-entries, same-size_of}
 use Rattle.zerotrie_base.proofs.CanonicalLemmas.Order.{entries-map_of, means_size}
 use Rattle.zerotrie_base.proofs.CanonicalLemmas.Sizes.{size_none}
@@ -403,29 +403,29 @@ waiting f within pairs (b ∷ es) some =
     let here = within (residual b pairs) in
     (omega (arith, rest.0, rest.1), omega (arith, rest.1))
 
-need_most : (f : Pairs → ℕ) → ((pairs : Pairs) → f pairs ≤ length pairs) → (pairs : Pairs) (es : List ℕ) → Rise 0 256 es → ((b : ℕ) → member b es ≡ true → residual b pairs ≡ [] → ⊥) → need_by f pairs es ≤ length pairs
-need_most f within pairs [] rise some = omega arith
-need_most f within pairs (b ∷ []) rise some =
-    let share = shared_out (λ e. 1) 0 256 (b ∷ []) pairs rise in
+need_most : (f : Pairs → ℕ) → ((pairs : Pairs) → f pairs ≤ length pairs) → (pairs : Pairs) (es : List ℕ) → ((b : ℕ) → member b es ≡ true → residual b pairs ≡ [] → ⊥)
+    → need_by f pairs es ≤ total (map (cost_behind (λ e. 1) pairs) es)
+need_most f within pairs [] some = omega arith
+need_most f within pairs (b ∷ []) some =
     let one = total-cons (cost_behind (λ e. 1) pairs b) [] in
     let count = counted (residual b pairs) in
-    let all = counted pairs in
     let here = within (residual b pairs) in
     omega arith
-need_most f within pairs (b ∷ c ∷ more) rise some =
-    let share = shared_out (λ e. 1) 0 256 (b ∷ c ∷ more) pairs rise in
+need_most f within pairs (b ∷ c ∷ more) some = (waiting f within pairs (b ∷ c ∷ more) some).0
+
+stack_most : (d : ℕ) (kind : Kind) (pairs : Pairs) → stack_to d kind pairs ≤ length pairs
+stack_most zero kind pairs = omega arith
+stack_most (suc d) kind pairs =
+    let need = need_most (stack_to d kind) (stack_most d kind) pairs (ordered kind (edges pairs)) (λ b m. edge_pairs pairs b (sym (member-ordered kind b (edges pairs)) ∙ m)) in
+    let same = total-ordered kind (cost_behind (λ e. 1) pairs) (edges pairs) in
+    let share = shared_out (λ e. 1) 0 256 (edges pairs) pairs (edges_rise pairs) in
     let all = counted pairs in
-    let need = (waiting f within pairs (b ∷ c ∷ more) some).0 in
     omega arith
 
-stack_most : (d : ℕ) (pairs : Pairs) → stack_to d pairs ≤ length pairs
-stack_most zero pairs = omega arith
-stack_most (suc d) pairs = need_most (stack_to d) (stack_most d) pairs (edges pairs) (edges_rise pairs) (edge_pairs pairs)
-
 -- Each target that waits while an encoding is written has a pair of its own.
-pub stack_of_bound : (pairs : Pairs) → stack_of pairs ≤ length pairs
+pub stack_of_bound : (kind : Kind) (pairs : Pairs) → stack_of kind pairs ≤ length pairs
 unfolding stack_of
-stack_of_bound pairs = stack_most (suc (longest pairs)) pairs
+stack_of_bound kind pairs = stack_most (suc (longest pairs)) kind pairs
 
 length-put : (key : List ℕ) (v : ℕ) (pairs : Pairs) → length (put (slice_cmp nat_cmp) key v pairs) ≤ suc (length pairs)
 length-put key v [] = omega arith
@@ -445,9 +445,9 @@ entries_count (e ∷ pairs) =
     let rest = entries_count pairs in
     omega arith
 
-pub stack_bound : (pairs : Pairs) → stack (map_of pairs) ≤ length pairs
+pub stack_bound : (kind : Kind) (pairs : Pairs) → stack kind (map_of pairs) ≤ length pairs
 unfolding stack
-stack_bound pairs = let most = stack_of_bound (entries (map_of pairs)) in let count = entries_count pairs in omega arith
+stack_bound kind pairs = let most = stack_of_bound kind (entries (map_of pairs)) in let count = entries_count pairs in omega arith
 
 targets_bound : (kind : Kind) (pairs : Pairs) → build_bound pairs < 2 ^ 64 → (es : List ℕ) → total (map (λ b. size_of kind (residual b pairs)) es) ≤ total (map (cost_behind pair_bound pairs) es)
 targets_bound kind pairs short [] = omega arith

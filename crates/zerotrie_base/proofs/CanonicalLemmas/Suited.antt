@@ -1,13 +1,13 @@
 -- Pairs that suit a kind have no cause of an error.
-use Rattle.std.proofs.Common.{◌≡◌, ℕ, zero, suc, ◌+◌, ◌^◌, ◌<◌, ◌≤◌, List, [], ◌∷◌, length, refl, ◌∙◌, ap, subst, arith, inl, inr, ◌⊎◌, true, cond, ltb, Ordering, Less, Equal, Greater, get_or, Result, Ok, Err, lit<}
-use Rattle.std.specs.Prelude.{◌&&◌, ◌==◌, All, Any, IfErr, IsOk}
+use Rattle.std.proofs.Common.{◌≡◌, ℕ, zero, suc, ◌+◌, ◌^◌, ◌<◌, ◌≤◌, List, [], ◌∷◌, length, refl, sym, ◌∙◌, ap, subst, arith, inl, inr, ◌⊎◌, true, cond, ltb, Ordering, Less, Equal, Greater, get_or, Result, Ok, Err, lit<, map}
+use Rattle.std.specs.Prelude.{◌&&◌, ◌==◌, All, Any, Contains, IfErr, IsOk}
 use Rattle.std.specs.List.{list_all}
 use Rattle.std.proofs.lemmas.Bool.{ltb-true, eqb-true, and_parts}
 use Rattle.std.specs.FinMap.{entries}
 use Rattle.std.specs.Ordering.{nat_cmp, is_lt}
 use Rattle.std.specs.Cmp.Lexicographic.{slice_cmp}
 use Rattle.zerotrie_base.specs.Kind.{Kind, simple_ascii, ignore_case, perfect_hash, extended_capacity, IsAscii, same_byte, fold_byte, edge_limit, greatest_width}
-use Rattle.zerotrie_base.specs.Maps.{Pairs, map_of, edges, behind_all, common_front, IsCaseConsistent, Ascends}
+use Rattle.zerotrie_base.specs.Maps.{Pairs, map_of, edges, behind_all, common_front, IsCaseConsistent, Ascends, AscendsIn, RepeatsKey, folded}
 use Rattle.zerotrie_base.specs.Bounds.{build_bound, Suits, are_ascending, are_own_bytes, is_clean}
 use Rattle.zerotrie_base.specs.Fits.{ExceedsCapacity}
 use Rattle.zerotrie_base.specs.Causes.{Cause}
@@ -26,9 +26,9 @@ suits_short ignore_case n h = let a : 256 ^ (3 + 1) < 2 ^ 64 = lit< tt in omega 
 suits_short perfect_hash n h = let a : 256 ^ (3 + 1) < 2 ^ 64 = lit< tt in omega arith
 suits_short extended_capacity n h = let a : 256 ^ (7 + 1) ≡ 2 ^ 64 = refl in omega arith
 
-within_capacity : (kind : Kind) (pairs : Pairs) → Suits kind pairs → ExceedsCapacity kind (map_of pairs) → ⊥
-within_capacity kind pairs suits too_long =
-    let short = suits_short kind (build_bound pairs) suits.small in
+within_capacity : (kind : Kind) (pairs : Pairs) → build_bound pairs < 256 ^ (greatest_width kind + 1) → ExceedsCapacity kind (map_of pairs) → ⊥
+within_capacity kind pairs small too_long =
+    let short = suits_short kind (build_bound pairs) small in
     elim too_long [
       | inl long ↦ (let most = size_bound kind pairs short in absurd (omega arith))
       | inr wide ↦ (
@@ -37,7 +37,6 @@ within_capacity kind pairs suits too_long =
           let less = behind_bound front pairs in
           let most = targets_size_bound kind (behind_all front pairs) (omega arith) in
           let reach = wide.1.1 in
-          let small = suits.small in
           absurd (omega arith))
     ]
 
@@ -69,7 +68,7 @@ pub only_search : (route : Route) (kind : Kind) (pairs : Pairs) (e : ZeroTrieBui
 only_search route kind pairs NonAsciiError takes suits cause =
     absurd (all_any (λ e. All (Own kind) e.0) (λ e. Any (λ b. edge_limit kind ≤ b) e.0) pairs suits.key_bytes cause.1
     (λ e own high. all_any (Own kind) (λ b. edge_limit kind ≤ b) e.0 own high (λ b is h. omega (arith, is.0))))
-only_search route kind pairs CapacityExceeded takes suits cause = absurd (within_capacity kind pairs suits cause.1.1)
+only_search route kind pairs CapacityExceeded takes suits cause = absurd (within_capacity kind pairs suits.small cause.1.1)
 only_search route kind pairs MixedCase takes suits cause = absurd (cause.1 (suits_consistent kind pairs suits))
 only_search ascending kind pairs DuplicateKey takes suits cause = absurd (cause.0 refl)
 only_search in_order kind pairs DuplicateKey takes suits cause = absurd (cause.0 (inl refl))
@@ -108,38 +107,96 @@ no_cause route kind pairs e takes suits none cause =
     let is = only_search route kind pairs e takes suits cause in
     no_search kind pairs none (subst (Cause kind pairs) is cause.1)
 
--- So the only error of a build of them is out of memory,
+-- So the only error of a build of them is out of memory.
 pub only_memory : {B : Type 0} (route : Route) (kind : Kind) (bytes : B → List ℕ) (pairs : Pairs) (r : Result B ZeroTrieBuildError) → Takes route pairs → Suits kind pairs → NeedsNoSearch kind pairs
     → IsBuild route kind bytes pairs r → IfErr r (λ e. e ≡ OutOfMemory)
 only_memory route kind bytes pairs (Ok b) takes suits none build = tt
 only_memory route kind bytes pairs (Err e) takes suits none build = elim build [ inl memory ↦ memory | inr cause ↦ absurd (no_cause route kind pairs e takes suits none cause) ]
 
--- and a build of them into an array with room for the bound has none.
-pub no_array_cause : (n k : ℕ) (pairs : Pairs) (e : ZeroTrieBuildError) → Ascends pairs → Suits simple_ascii pairs → build_bound pairs ≤ n → length pairs ≤ k → IsRefusalWithin n k pairs e → ⊥
-no_array_cause n k pairs NonAsciiError up suits room waits refusal = no_cause ascending simple_ascii pairs NonAsciiError up suits (inl tt) ((λ h. absurd (cc)), refusal.1)
-no_array_cause n k pairs CapacityExceeded up suits room waits refusal = no_cause ascending simple_ascii pairs CapacityExceeded up suits (inl tt) ((λ h. absurd (cc)), refusal.1)
-no_array_cause n k pairs Unsorted up suits room waits refusal = refusal.1 up
-no_array_cause n k pairs BufferTooSmall up suits room waits refusal =
-    let most = size_bound simple_ascii pairs (suits_short simple_ascii (build_bound pairs) suits.small) in
+-- keys that are one are one in lower case
+contained_folded : (kind : Kind) (key : List ℕ) (pairs : Pairs) → Contains (map {B = List ℕ} (λ f. f.0) pairs) key → Contains (map {B = List ℕ} (λ f. f.0) (folded kind pairs)) (map (fold_byte kind) key)
+contained_folded kind key pairs c = (c.0, at c.0 pairs c.1 c.2)
+  where
+    at : (i : ℕ) (es : Pairs) → i < length (map {B = List ℕ} (λ f. f.0) es) → get_or (map {B = List ℕ} (λ f. f.0) es) i key ≡ key
+        → (i < length (map {B = List ℕ} (λ f. f.0) (folded kind es))) × (get_or (map {B = List ℕ} (λ f. f.0) (folded kind es)) i (map (fold_byte kind) key) ≡ map (fold_byte kind) key)
+    at i [] l same = absurd (omega arith)
+    at zero (e ∷ es) l same = (omega arith, ap (map (fold_byte kind)) same)
+    at (suc i) (e ∷ es) l same = let rest = at i es (omega arith) same in (omega (arith, rest.0), rest.1)
+
+repeats_folded : (kind : Kind) (pairs : Pairs) → RepeatsKey pairs → RepeatsKey (folded kind pairs)
+repeats_folded kind [] again = again
+repeats_folded kind (e ∷ pairs) again = elim again [
+  | inl here ↦ inl (contained_folded kind e.0 pairs here)
+  | inr later ↦ inr (repeats_folded kind pairs later)
+]
+
+-- Keys that ascend in the order of a kind are apart.
+pub ascends_in_apart : (kind : Kind) (pairs : Pairs) → AscendsIn kind pairs → RepeatsKey pairs → ⊥
+ascends_in_apart simple_ascii pairs up again = ascends_apart pairs up again
+ascends_in_apart ignore_case pairs up again = ascends_apart (folded ignore_case pairs) up (repeats_folded ignore_case pairs again)
+ascends_in_apart perfect_hash pairs up again = ascends_apart pairs up again
+ascends_in_apart extended_capacity pairs up again = ascends_apart pairs up again
+
+-- Pairs that no build into an array refuses if it has room for the bound: the keys ascend in the order of the kind, have its bytes and agree in case.
+pub record SuitsArray (kind : Kind) (pairs : Pairs) : Type 0 where
+  pub ascends : AscendsIn kind pairs
+  pub key_bytes : All (λ e. All (λ b. b < edge_limit kind) e.0) pairs
+  pub case : IsCaseConsistent kind pairs
+  pub small : build_bound pairs < 256 ^ (greatest_width kind + 1)
+
+-- Such a build has no error.
+pub no_array_cause : (kind : Kind) (n k : ℕ) (pairs : Pairs) (e : ZeroTrieBuildError) → SuitsArray kind pairs → build_bound pairs ≤ n → length pairs ≤ k → IsRefusalWithin kind n k pairs e → ⊥
+no_array_cause kind n k pairs NonAsciiError suits room waits refusal =
+    all_any (λ e. All (λ b. b < edge_limit kind) e.0) (λ e. Any (λ b. edge_limit kind ≤ b) e.0) pairs suits.key_bytes refusal.1
+    (λ e low high. all_any (λ b. b < edge_limit kind) (λ b. edge_limit kind ≤ b) e.0 low high (λ b l h. omega arith))
+no_array_cause kind n k pairs CapacityExceeded suits room waits refusal = within_capacity kind pairs suits.small refusal.1.1
+no_array_cause kind n k pairs MixedCase suits room waits refusal = refusal.1 suits.case
+no_array_cause kind n k pairs Unsorted suits room waits refusal = refusal.1 suits.ascends
+no_array_cause kind n k pairs BufferTooSmall suits room waits refusal =
+    let most = size_bound kind pairs (suits_short kind (build_bound pairs) suits.small) in
     let less = refusal.1.1 in
     absurd (omega arith)
-no_array_cause n k pairs (BufferTooLarge needed) up suits room waits refusal = refusal.0 needed refl
-no_array_cause n k pairs StackExceeded up suits room waits refusal = let most = stack_bound pairs in let less = refusal.1.1 in absurd (omega arith)
-no_array_cause n k pairs MixedCase up suits room waits refusal = refusal.1
-no_array_cause n k pairs DuplicateKey up suits room waits refusal = refusal.1
-no_array_cause n k pairs CouldNotSolvePerfectHash up suits room waits refusal = refusal.1
-no_array_cause n k pairs IllegalDelimiter up suits room waits refusal = refusal.1
-no_array_cause n k pairs OutOfMemory up suits room waits refusal = refusal.1
+no_array_cause kind n k pairs (BufferTooLarge needed) suits room waits refusal = refusal.0 needed refl
+no_array_cause kind n k pairs StackExceeded suits room waits refusal = let most = stack_bound kind pairs in let less = refusal.1.1 in absurd (omega arith)
+no_array_cause kind n k pairs DuplicateKey suits room waits refusal = refusal.1
+no_array_cause kind n k pairs CouldNotSolvePerfectHash suits room waits refusal = refusal.1
+no_array_cause kind n k pairs IllegalDelimiter suits room waits refusal = refusal.1
+no_array_cause kind n k pairs OutOfMemory suits room waits refusal = refusal.1
 
-pub built_within : {B : Type 0} (n k : ℕ) (bytes : B → List ℕ) (pairs : Pairs) (r : Result B ZeroTrieBuildError) → Ascends pairs → Suits simple_ascii pairs → build_bound pairs ≤ n → length pairs ≤ k
-    → IsBuildWithin n k bytes pairs r → IsOk r
-built_within n k bytes pairs (Ok b) up suits room waits build = refl
-built_within n k bytes pairs (Err e) up suits room waits build = absurd (no_array_cause n k pairs e up suits room waits build)
+pub built_within : {B : Type 0} (kind : Kind) (n k : ℕ) (bytes : B → List ℕ) (pairs : Pairs) (r : Result B ZeroTrieBuildError) → SuitsArray kind pairs → build_bound pairs ≤ n → length pairs ≤ k
+    → IsBuildWithin kind n k bytes pairs r → IsOk r
+built_within kind n k bytes pairs (Ok b) suits room waits build = refl
+built_within kind n k bytes pairs (Err e) suits room waits build = absurd (no_array_cause kind n k pairs e suits room waits build)
 
-pub copied_within : {B : Type 0} (n k : ℕ) (bytes : B → List ℕ) (pairs : Pairs) (r : Result B ZeroTrieBuildError) → Ascends pairs → Suits simple_ascii pairs → build_bound pairs ≤ n → length pairs ≤ k
-    → IsBuildCopied n k bytes pairs r → IfErr r (λ e. e ≡ OutOfMemory)
-copied_within n k bytes pairs (Ok b) up suits room waits build = tt
-copied_within n k bytes pairs (Err e) up suits room waits build = elim build [ inl memory ↦ memory | inr refusal ↦ absurd (no_array_cause n k pairs e up suits room waits refusal) ]
+pub copied_within : {B : Type 0} (kind : Kind) (n k : ℕ) (bytes : B → List ℕ) (pairs : Pairs) (r : Result B ZeroTrieBuildError) → SuitsArray kind pairs → build_bound pairs ≤ n → length pairs ≤ k
+    → IsBuildCopied kind n k bytes pairs r → IfErr r (λ e. e ≡ OutOfMemory)
+copied_within kind n k bytes pairs (Ok b) suits room waits build = tt
+copied_within kind n k bytes pairs (Err e) suits room waits build = elim build [ inl memory ↦ memory | inr refusal ↦ absurd (no_array_cause kind n k pairs e suits room waits refusal) ]
+
+-- So do pairs whose keys ascend by their bytes and that suit the kind.
+pub suits_array : (kind : Kind) (pairs : Pairs) → Ascends pairs → Suits kind pairs → SuitsArray kind pairs
+suits_array kind pairs up suits = record {
+  ascends = ascends_own kind pairs up suits;
+  key_bytes = λ i d h j c g. (suits.key_bytes i d h j c g).0;
+  case = suits_consistent kind pairs suits;
+  small = suits.small;
+}
+  where
+    own_key : (kind : Kind) (key : List ℕ) → All (Own kind) key → map (fold_byte kind) key ≡ key
+    own_key kind [] own = refl
+    own_key kind (b ∷ key) own =
+        ap (λ c. c ∷ map (fold_byte kind) key) (own 0 b (omega arith)).1 ∙ ap (λ k. b ∷ k) (own_key kind key (λ i d h. own (suc i) d (omega arith)))
+
+    own_pairs : (kind : Kind) (pairs : Pairs) → All (λ e. All (Own kind) e.0) pairs → folded kind pairs ≡ pairs
+    own_pairs kind [] own = refl
+    own_pairs kind (e ∷ pairs) own =
+        ap (λ k. (k, e.1) ∷ folded kind pairs) (own_key kind e.0 (own 0 e (omega arith))) ∙ ap (λ ps. e ∷ ps) (own_pairs kind pairs (λ i d h. own (suc i) d (omega arith)))
+
+    ascends_own : (kind : Kind) (pairs : Pairs) → Ascends pairs → Suits kind pairs → AscendsIn kind pairs
+    ascends_own simple_ascii pairs up suits = up
+    ascends_own ignore_case pairs up suits = subst Ascends (sym (own_pairs ignore_case pairs suits.key_bytes)) up
+    ascends_own perfect_hash pairs up suits = up
+    ascends_own extended_capacity pairs up suits = up
 
 -- What the test of a table tells.
 

@@ -5,11 +5,10 @@ use Rattle.std.specs.Cmp.Lexicographic.{slice_cmp}
 use Rattle.std.specs.Ordering.{nat_cmp, ordering_then}
 use Rattle.std.specs.List.{AllByRecursion}
 use Rattle.zerotrie_base.specs.Kind.{Kind, simple_ascii, IsAscii, fold_byte}
-use Rattle.zerotrie_base.specs.Maps.{Pairs, Map, map_of, with_front, Ascends, FirstAbove, RepeatsKey}
+use Rattle.zerotrie_base.specs.Maps.{Pairs, Map, map_of, with_front, Ascends, folded, FirstAbove, RepeatsKey}
 use Rattle.zerotrie_base.specs.Texts.{Lists, ListEach, Means, NoValueFirst}
 use Rattle.zerotrie_base.specs.Texts.Lists.{nothing, value, literal, span, branch}
 use Rattle.zerotrie_base.specs.Texts.ListEach.{no_edge, edge}
-use Rattle.zerotrie_base.specs.Laws.{folded}
 use Rattle.zerotrie_base.proofs.MapLemmas.Kinds.{ascii_spanless, ascii_sorted}
 use Rattle.zerotrie_base.proofs.MapLemmas.Cases.{OtherKey, keys_some, lists_apart, apart_distinct}
 use Rattle.zerotrie_base.proofs.CanonicalLemmas.Texts.{lists_once}
