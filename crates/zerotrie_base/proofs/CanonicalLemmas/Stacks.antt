@@ -1,6 +1,6 @@
 -- The stack need of pairs, by their edges in the order of the kind.
-use Rattle.std.proofs.Common.{◌≡◌, ℕ, zero, suc, ◌+◌, ◌<◌, ◌≤◌, List, [], ◌∷◌, length, refl, sym, ◌∙◌, ap, arith, inl, inr, Bool, true, false, cond, ltb, eqb}
-use Rattle.std.specs.Prelude.{max, ◌||◌}
+use Rattle.std.proofs.Common.{◌≡◌, ℕ, zero, suc, ◌+◌, ◌<◌, ◌≤◌, List, [], ◌∷◌, length, refl, sym, ◌∙◌, ap, subst, arith, inl, inr, Bool, true, false, cond, ltb, eqb}
+use Rattle.std.specs.Prelude.{max}
 use Rattle.std.proofs.lemmas.Bool.{lt-ltb, le-ltb, eqb-true, or_cases, cond_both, cases_lt}
 use Rattle.std.proofs.lemmas.Bool.Decides.{eqb_tells}
 use Rattle.zerotrie_base.specs.Kind.{Kind, simple_ascii, ignore_case, perfect_hash, extended_capacity, fold_byte, ordered, sorted_by, put_by}
@@ -8,7 +8,7 @@ use Rattle.zerotrie_base.specs.Maps.{Pairs, with_front, edges, residual, longest
 use Rattle.zerotrie_base.specs.Stack.{branch_need, need_by, stack_to, stack_of}
 use Rattle.zerotrie_base.proofs.NodeLemmas.Tables.{Each, Each-more, Rises}
 use Rattle.zerotrie_base.proofs.MapLemmas.Alike.{Same, same-edges, same-longest, same-residual}
-use Rattle.zerotrie_base.proofs.MapLemmas.Edges.{Rise, member, member_head, member_later, member_other, edges_value, residual-front}
+use Rattle.zerotrie_base.proofs.MapLemmas.Edges.{member, member_head, member_later, member_other, edges_value, residual-front}
 use Rattle.zerotrie_base.proofs.MapLemmas.Ordered.{edges_rise, Each-put_by, length-ordered, member-ordered, rise_rises}
 use Rattle.zerotrie_base.proofs.CanonicalLemmas.Canonical.{Shorter, shorter_none, no_edge_ordered, ordered_front}
 use Rattle.zerotrie_base.proofs.CanonicalLemmas.Sizes.{longest_shorter, Shorter-residual}

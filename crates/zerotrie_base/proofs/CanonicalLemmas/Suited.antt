@@ -115,7 +115,7 @@ only_memory route kind bytes pairs (Err e) takes suits none build = elim build [
 
 -- keys that are one are one in lower case
 contained_folded : (kind : Kind) (key : List ℕ) (pairs : Pairs) → Contains (map {B = List ℕ} (λ f. f.0) pairs) key → Contains (map {B = List ℕ} (λ f. f.0) (folded kind pairs)) (map (fold_byte kind) key)
-contained_folded kind key pairs c = (c.0, at c.0 pairs c.1 c.2)
+contained_folded kind key pairs c = let found = at c.0 pairs c.1 c.2 in (c.0, found.0, found.1)
   where
     at : (i : ℕ) (es : Pairs) → i < length (map {B = List ℕ} (λ f. f.0) es) → get_or (map {B = List ℕ} (λ f. f.0) es) i key ≡ key
         → (i < length (map {B = List ℕ} (λ f. f.0) (folded kind es))) × (get_or (map {B = List ℕ} (λ f. f.0) (folded kind es)) i (map (fold_byte kind) key) ≡ map (fold_byte kind) key)

@@ -26,7 +26,7 @@ at-Each P [] each i h = absurd (omega arith)
 at-Each P (e ∷ es) each zero h = each.0
 at-Each P (e ∷ es) each (suc i) h = at-Each P es each.1 i (omega arith)
 
-Each-more : (P Q : ℕ → Type 0) (es : List ℕ) → ((e : ℕ) → P e → Q e) → Each P es → Each Q es
+pub Each-more : (P Q : ℕ → Type 0) (es : List ℕ) → ((e : ℕ) → P e → Q e) → Each P es → Each Q es
 Each-more P Q [] f each = tt
 Each-more P Q (e ∷ es) f each = (f e each.0, Each-more P Q es f each.1)
 
