@@ -3,6 +3,7 @@ pub mod Adding
 pub mod Asides
 pub mod Building
 pub mod Closing
+pub mod Ordering
 pub mod Parting
 pub mod Runs
 pub mod Steps

@@ -1,5 +1,6 @@
 mod ArrayLemmas
 mod BlockLemmas
+pub mod CleanLemmas
 mod Building
 mod Filling
 mod ItemLemmas

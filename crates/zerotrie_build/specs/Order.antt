@@ -1,5 +1,5 @@
 -- The order that the keys of a text have.
-use Rattle.std.specs.Prelude.{◌≡◌, ℕ, ◌+◌, ◌*◌, ◌^◌, ◌<◌, ◌⊎◌, List, [], ◌∷◌, map, All, Option, Some, None}
+use Rattle.std.specs.Prelude.{◌≡◌, ◌≢◌, ℕ, ◌+◌, ◌*◌, ◌^◌, ◌<◌, ◌⊎◌, List, [], ◌∷◌, map, All, Option, Some, None}
 use Rattle.std.proofs.Common.{suc, zero}
 use Rattle.std.specs.Cmp.Lexicographic.{slice_cmp}
 use Rattle.std.specs.Ordering.{nat_cmp, ordering_then}
@@ -22,6 +22,12 @@ BeforeFirst kind key (e ∷ pairs) = Before kind key e.0
 abbrev pub Ordered : Kind → Pairs → Type 0
 Ordered kind [] = Unit {0}
 Ordered kind (e ∷ pairs) = BeforeFirst kind e.0 pairs × Ordered kind pairs
+
+-- after what they have in common the keys have other bytes, but of one fold
+abbrev pub PartInCase : Kind → List ℕ → List ℕ → Type 0
+PartInCase kind [] next = ⊥
+PartInCase kind (a ∷ key) [] = ⊥
+PartInCase kind (a ∷ key) (b ∷ next) = ((a ≢ b) × (fold_byte kind a ≡ fold_byte kind b)) ⊎ ((a ≡ b) × PartInCase kind key next)
 
 -- how keys compare by the folds of their bytes
 abbrev pub fold_cmp : Kind → List ℕ → List ℕ → Ordering

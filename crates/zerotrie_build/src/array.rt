@@ -1,6 +1,7 @@
 //! The array builder, which writes a text from its end.
 
 ghost use Rattle.std.specs.Prelude.{◌≡◌, ℕ, ◌<◌, ◌≤◌, ◌^◌, ◌↔◌, List, length, drop, IsOk, IfOk, IfErr};
+ghost use Rattle.zerotrie_base.specs.Kind.{simple_ascii, IsAscii};
 ghost use Rattle.zerotrie_base.specs.declared.error.ZeroTrieBuildError.TheVariants.{BufferTooLarge};
 ghost use Rattle.zerotrie_base.specs.ArrayRoutes.{IsBuildWithin};
 ghost use Rattle.zerotrie_build.specs.Items.{pairs};
@@ -10,9 +11,9 @@ mod text;
 mod walk;
 
 use crate::items::ByteSliceWithIndices;
-pub use fill::{bytes_within, fill_from_end};
+pub use fill::{bytes_within, bytes_within_as, fill_from_end, fill_from_end_as};
 use std::marker::Model;
-use zerotrie_base::ZeroTrieBuildError;
+use zerotrie_base::{Simple, ZeroTrieBuildError, ZeroTrieWithOptions};
 
 /// A builder of a trie over ASCII keys in an array of `N` bytes, which it fills from the end. It
 /// does not allocate.
@@ -44,7 +45,7 @@ impl<const N: usize> ZeroTrieBuilderConst<N> {
     /// It is `from_tuple_slice_with_stack` with room for 100 targets that wait for their branch,
     /// and has the same errors.
     pub fn from_tuple_slice(items: ByteSliceWithIndices<'_>) -> Result<Self, ZeroTrieBuildError>
-        ensures { IsBuildWithin N 100 (λ bytes. bytes) (pairs items.entry) result }
+        ensures { IsBuildWithin simple_ascii N 100 (λ bytes. bytes) (pairs items.entry) result }
     {
         Self::from_tuple_slice_with_stack::<100>(items)
     }
@@ -59,10 +60,24 @@ impl<const N: usize> ZeroTrieBuilderConst<N> {
         items: ByteSliceWithIndices<'_>,
     ) -> Result<Self, ZeroTrieBuildError>
         requires { K < 2 ^ 58 }
-        ensures { IsBuildWithin N K (λ bytes. bytes) (pairs items.entry) result }
+        ensures { IsBuildWithin simple_ascii N K (λ bytes. bytes) (pairs items.entry) result }
+    {
+        Self::from_tuple_slice_as::<Simple, K>(items)
+    }
+
+    /// Builds the trie of the items in a kind over ASCII keys: `Simple`, or `Ignore`, whose items
+    /// ascend strictly by the bytes of their keys in lower case.
+    ///
+    /// It is `fill_from_end_as` over an array, with the same errors.
+    pub fn from_tuple_slice_as<K: ZeroTrieWithOptions, const STACK: usize>(
+        items: ByteSliceWithIndices<'_>,
+    ) -> Result<Self, ZeroTrieBuildError>
+        requires kind { IsAscii K.kind }
+        requires capacity { STACK < 2 ^ 58 }
+        ensures { IsBuildWithin K.kind N STACK (λ bytes. bytes) (pairs items.entry) result }
     {
         let mut data = [0; N];
-        let start = fill_from_end::<K>(&mut data, items)?;
+        let start = fill_from_end_as::<K, STACK>(&mut data, items)?;
         Ok(ZeroTrieBuilderConst { data, start })
     }
 

@@ -2,6 +2,7 @@
 use Rattle.std.proofs.Common.{◌≡◌, ℕ, zero, suc, ◌+◌, ◌<◌, ◌≤◌, List, [], ◌∷◌, ◌++◌, length, refl, sym, ◌∙◌, ap, subst, arith, take, get_or, Bool, true, false, eqb}
 use Rattle.std.specs.Prelude.{◌||◌}
 use Rattle.std.proofs.lemmas.Bool.{eq-eqb}
+use Rattle.zerotrie_base.specs.Kind.{Kind}
 use Rattle.zerotrie_base.specs.Maps.{Pairs, with_front, with_run, begins_some, edges, residual, behind_all}
 use Rattle.zerotrie_base.specs.Stack.{stack_of}
 use Rattle.zerotrie_base.proofs.CallerLemmas.{residual-append, behind_all-nil, begins_some-append, begins_some-front, begins_behind, some_pair, member, member-edges, above, stack_behind}
@@ -61,25 +62,25 @@ leads_key key d v pairs within = among_left ((key, v) ∷ []) pairs (take d key)
 pub leads_edge : (pairs : Pairs) (front : List ℕ) (b : ℕ) → b < 256 → SomeBegins pairs front b → member b (edges (behind_all front pairs)) ≡ true
 leads_edge pairs front b low h = member-edges (behind_all front pairs) b low ∙ h
 
--- how many edges lie beside the path, above it
-abbrev pub beside : List ℕ → Pairs → ℕ
-beside [] pairs = 0
-beside (b ∷ front) pairs = above b (edges pairs) + beside front (residual b pairs)
+-- how many edges lie beside the path, above it to the kind
+abbrev pub beside : Kind → List ℕ → Pairs → ℕ
+beside kind [] pairs = 0
+beside kind (b ∷ front) pairs = above kind b (edges pairs) + beside kind front (residual b pairs)
 
-pub beside_more : (key : List ℕ) (d : ℕ) (pairs : Pairs) → d < length key → beside (take (suc d) key) pairs ≡ beside (take d key) pairs + above (get_or key d 0) (edges (behind_all (take d key) pairs))
-beside_more [] d pairs h = absurd (let g : d < 0 = h in omega arith)
-beside_more (b ∷ key) zero pairs h = omega arith
-beside_more (b ∷ key) (suc d) pairs h = let r = beside_more key d (residual b pairs) (let g : suc d < suc (length key) = h in omega arith) in omega arith
+pub beside_more : (kind : Kind) (key : List ℕ) (d : ℕ) (pairs : Pairs) → d < length key → beside kind (take (suc d) key) pairs ≡ beside kind (take d key) pairs + above kind (get_or key d 0) (edges (behind_all (take d key) pairs))
+beside_more kind [] d pairs h = absurd (let g : d < 0 = h in omega arith)
+beside_more kind (b ∷ key) zero pairs h = omega arith
+beside_more kind (b ∷ key) (suc d) pairs h = let r = beside_more kind key d (residual b pairs) (let g : suc d < suc (length key) = h in omega arith) in omega arith
 
-pub beside_within : (key : List ℕ) (d e : ℕ) (pairs : Pairs) → d ≤ e → beside (take d key) pairs ≤ beside (take e key) pairs
-beside_within [] zero zero pairs h = omega arith
-beside_within [] zero (suc e) pairs h = omega arith
-beside_within [] (suc d) zero pairs h = absurd (omega arith)
-beside_within [] (suc d) (suc e) pairs h = omega arith
-beside_within (b ∷ key) zero zero pairs h = omega arith
-beside_within (b ∷ key) zero (suc e) pairs h = omega arith
-beside_within (b ∷ key) (suc d) zero pairs h = absurd (omega arith)
-beside_within (b ∷ key) (suc d) (suc e) pairs h = let r = beside_within key d e (residual b pairs) (omega arith) in omega arith
+pub beside_within : (kind : Kind) (key : List ℕ) (d e : ℕ) (pairs : Pairs) → d ≤ e → beside kind (take d key) pairs ≤ beside kind (take e key) pairs
+beside_within kind [] zero zero pairs h = omega arith
+beside_within kind [] zero (suc e) pairs h = omega arith
+beside_within kind [] (suc d) zero pairs h = absurd (omega arith)
+beside_within kind [] (suc d) (suc e) pairs h = omega arith
+beside_within kind (b ∷ key) zero zero pairs h = omega arith
+beside_within kind (b ∷ key) zero (suc e) pairs h = omega arith
+beside_within kind (b ∷ key) (suc d) zero pairs h = absurd (omega arith)
+beside_within kind (b ∷ key) (suc d) (suc e) pairs h = let r = beside_within kind key d e (residual b pairs) (omega arith) in omega arith
 
 none_leads : (front : List ℕ) (b : ℕ) → SomeBegins [] front b → ⊥
 none_leads front b h = let e = ap (λ p. begins_some p b) (behind_all-nil front) in let z : false ≡ true = sym e ∙ h in cc
@@ -92,11 +93,11 @@ begins_at pairs b front c h = begins_behind pairs b ∙ some (residual b pairs) 
     some (e ∷ p) h = refl
 
 -- what is needed after a front while the edges beside it wait
-pub need_behind : (front : List ℕ) (c : ℕ) (pairs : Pairs) → ((i d : ℕ) → i < length front → get_or front i d < 128) → SomeBegins pairs front c
-    → beside front pairs + stack_of (behind_all front pairs) ≤ stack_of pairs
-need_behind [] c pairs low h = omega arith
-need_behind (b ∷ front) c pairs low h =
+pub need_behind : (kind : Kind) (front : List ℕ) (c : ℕ) (pairs : Pairs) → ((i d : ℕ) → i < length front → get_or front i d < 128) → SomeBegins pairs front c
+    → beside kind front pairs + stack_of kind (behind_all front pairs) ≤ stack_of kind pairs
+need_behind kind [] c pairs low h = omega arith
+need_behind kind (b ∷ front) c pairs low h =
     let first : b < 128 = low 0 0 (omega arith) in
-    let here = stack_behind pairs b (member-edges pairs b (omega arith) ∙ begins_at pairs b front c h) in
-    let rest = need_behind front c (residual b pairs) (λ i d l. low (suc i) d (let g : suc i < suc (length front) = omega arith in g)) h in
+    let here = stack_behind kind pairs b (member-edges pairs b (omega arith) ∙ begins_at pairs b front c h) in
+    let rest = need_behind kind front c (residual b pairs) (λ i d l. low (suc i) d (let g : suc i < suc (length front) = omega arith in g)) h in
     omega arith

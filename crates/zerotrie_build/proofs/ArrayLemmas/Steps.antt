@@ -4,7 +4,7 @@ use Rattle.std.proofs.lemmas.Bool.{cases_lt}
 use Rattle.std.specs.Prelude.{OnOk}
 use Rattle.std.proofs.lemmas.List.{drop_more, take-append-drop, reverse-append, length-reverse, length-drop}
 use Rattle.std.proofs.Math.Seq.{take-length}
-use Rattle.zerotrie_base.specs.Kind.{simple_ascii}
+use Rattle.zerotrie_base.specs.Kind.{Kind, IsAscii}
 use Rattle.zerotrie_base.specs.Maps.{Pairs}
 use Rattle.zerotrie_base.specs.Branches.{total, branch_front}
 use Rattle.zerotrie_base.specs.declared.error.ZeroTrieBuildError.{ZeroTrieBuildError}
@@ -77,87 +77,87 @@ wide_at d ss branch start is level none wide = record {
 }
 
 -- The text is set aside and a branch is made of it and the siblings at its depth.
-pub closes_branch : (k : ℕ) (key : List ℕ) (d : ℕ) (old mid new : Text) (before aside after : List Sibling) (listed : Pairs) → d < length key → All (λ b. b < 128) key
+pub closes_branch : (kind : Kind) (k : ℕ) (key : List ℕ) (d : ℕ) (old mid new : Text) (before aside after : List Sibling) (listed : Pairs) → IsAscii kind → d < length key → All (λ b. b < 128) key
     → (NoneAt d (newest_first before) → ⊥) → length before < k → newest_first aside ≡ record { depth = d; byte = get_or key d 0; len = old.front } ∷ newest_first before
     → mid.buffer.now ≡ old.buffer.now → mid.len ≡ old.len → Joins d mid new (newest_first aside) (newest_first after)
-    → IsClosedTo k key (suc d) old before listed → IsClosedTo k key d new after listed
-closes_branch k key d old mid new before aside after listed within ascii some room is written len j standing =
+    → IsClosedTo kind k key (suc d) old before listed → IsClosedTo kind k key d new after listed
+closes_branch kind k key d old mid new before aside after listed is_ascii within ascii some room is written len j standing =
     let bytes = standing.0 in
     let h = has_same old mid bytes (sym written) (sym len) standing.1 in
-    let o = opens k key d old.front (newest_first before) j.taken (newest_first after) bytes listed within (ascii d 0 within) some (let l = length-reverse before in omega arith) (sym is ∙ j.split) j.level j.no_more standing.2 in
-    (branch_front (bytes_of j.taken) (lens_of j.taken) ++ bytes, j.has bytes h, closed k key d new.front j.taken (newest_first after) bytes listed o j.narrow j.counts)
+    let o = opens kind k key d old.front (newest_first before) j.taken (newest_first after) bytes listed within (ascii d 0 within) some (let l = length-reverse before in omega arith) (sym is ∙ j.split) j.level j.no_more standing.2 in
+    (branch_front (bytes_of j.taken) (lens_of j.taken) ++ bytes, j.has bytes h, closed kind k key d new.front j.taken (newest_first after) bytes listed is_ascii o j.narrow j.counts)
 
 -- their texts are too long together
-pub stuck_wide : (k : ℕ) (key : List ℕ) (d : ℕ) (old : Text) (before aside : List Sibling) (listed : Pairs) (e : ZeroTrieBuildError) → d < length key → All (λ b. b < 128) key
+pub stuck_wide : (kind : Kind) (k : ℕ) (key : List ℕ) (d : ℕ) (old : Text) (before aside : List Sibling) (listed : Pairs) (e : ZeroTrieBuildError) → IsAscii kind → d < length key → All (λ b. b < 128) key
     → (NoneAt d (newest_first before) → ⊥) → length before < k → newest_first aside ≡ record { depth = d; byte = get_or key d 0; len = old.front } ∷ newest_first before
-    → e ≡ CapacityExceeded → LevelTooWide d (newest_first aside) → IsClosedTo k key (suc d) old before listed → RefusedAt k key d listed e
-stuck_wide k key d old before aside listed e within ascii some room is error t standing =
-    let o = opens k key d old.front (newest_first before) t.taken t.after standing.0 listed within (ascii d 0 within) some (let l = length-reverse before in omega arith) (sym is ∙ t.split) t.level t.no_more standing.2 in
-    inl (error, too_wide k key d t.taken t.after standing.0 listed o (omega arith) t.wide)
+    → e ≡ CapacityExceeded → LevelTooWide d (newest_first aside) → IsClosedTo kind k key (suc d) old before listed → RefusedAt kind k key d listed e
+stuck_wide kind k key d old before aside listed e is_ascii within ascii some room is error t standing =
+    let o = opens kind k key d old.front (newest_first before) t.taken t.after standing.0 listed within (ascii d 0 within) some (let l = length-reverse before in omega arith) (sym is ∙ t.split) t.level t.no_more standing.2 in
+    inl (error, too_wide kind k key d t.taken t.after standing.0 listed is_ascii o (omega arith) t.wide)
 
 -- too many siblings wait
-pub stuck_many : (k : ℕ) (key : List ℕ) (d : ℕ) (old : Text) (before : List Sibling) (listed : Pairs) (e : ZeroTrieBuildError) → d < length key → All (λ b. b < 128) key
-    → (NoneAt d (newest_first before) → ⊥) → k ≤ length before → e ≡ StackExceeded → IsClosedTo k key (suc d) old before listed → RefusedAt k key d listed e
-stuck_many k key d old before listed e within ascii some full error standing =
+pub stuck_many : (kind : Kind) (k : ℕ) (key : List ℕ) (d : ℕ) (old : Text) (before : List Sibling) (listed : Pairs) (e : ZeroTrieBuildError) → d < length key → All (λ b. b < 128) key
+    → (NoneAt d (newest_first before) → ⊥) → k ≤ length before → e ≡ StackExceeded → IsClosedTo kind k key (suc d) old before listed → RefusedAt kind k key d listed e
+stuck_many kind k key d old before listed e within ascii some full error standing =
     inr (
       error,
       λ all among.
-          too_many k key d (newest_first before) old.front standing.0 listed all within ascii standing.2 (let l = length-reverse before in omega arith) among
-          (two_aside k key d (newest_first before) old.front standing.0 listed all within ascii standing.2 some among),
+          too_many kind k key d (newest_first before) old.front standing.0 listed all within ascii standing.2 (let l = length-reverse before in omega arith) among
+          (two_aside kind k key d (newest_first before) old.front standing.0 listed all within ascii standing.2 some among),
     )
 
 -- a literal is put in front
-pub closes_literal : (k : ℕ) (key : List ℕ) (d : ℕ) (old new : Text) (siblings : List Sibling) (listed : Pairs) → d < length key → All (λ b. b < 128) key → NoneAt d (newest_first siblings)
-    → Prepends old new (get_or key d 0 ∷ []) → IsClosedTo k key (suc d) old siblings listed → IsClosedTo k key d new siblings listed
-closes_literal k key d old new siblings listed within ascii none p standing = (
+pub closes_literal : (kind : Kind) (k : ℕ) (key : List ℕ) (d : ℕ) (old new : Text) (siblings : List Sibling) (listed : Pairs) → d < length key → All (λ b. b < 128) key → NoneAt d (newest_first siblings)
+    → Prepends old new (get_or key d 0 ∷ []) → IsClosedTo kind k key (suc d) old siblings listed → IsClosedTo kind k key d new siblings listed
+closes_literal kind k key d old new siblings listed within ascii none p standing = (
   get_or key d 0 ∷ standing.0,
   p.has standing.0 standing.1,
-  with_literal k key d (get_or key d 0) (newest_first siblings) old.front new.front standing.0 listed within refl (ascii d 0 within) none
+  with_literal kind k key d (get_or key d 0) (newest_first siblings) old.front new.front standing.0 listed within refl (ascii d 0 within) none
       (λ m c. p.counts m c) standing.2,
 )
 
 -- the key before is a front of the key
-pub goes_before : (k : ℕ) (before key : List ℕ) (text : Text) (siblings : List Sibling) (listed : Pairs) → Before simple_ascii before key → common before key ≡ length before
-    → IsClosedTo k key (common before key) text siblings listed → IsReady k before text siblings listed
-goes_before k before key text siblings listed sorted ends standing = (
+pub goes_before : (kind : Kind) (k : ℕ) (before key : List ℕ) (text : Text) (siblings : List Sibling) (listed : Pairs) → Before kind before key → common before key ≡ length before
+    → IsClosedTo kind k key (common before key) text siblings listed → IsReady kind k before text siblings listed
+goes_before kind k before key text siblings listed sorted ends standing = (
   standing.0,
   standing.1,
-  goes_on k before key (common before key) (newest_first siblings) text.front standing.0 listed (parted before key sorted) ends standing.2,
+  goes_on kind k before key (common before key) (newest_first siblings) text.front standing.0 listed (parted kind before key sorted) ends standing.2,
 )
 
 -- the text is set aside for the key before
-pub parts_before : (k : ℕ) (before key : List ℕ) (old new : Text) (siblings aside : List Sibling) (listed : Pairs) → Before simple_ascii before key → All (λ b. b < 128) key → common before key < length before
+pub parts_before : (kind : Kind) (k : ℕ) (before key : List ℕ) (old new : Text) (siblings aside : List Sibling) (listed : Pairs) → Before kind before key → All (λ b. b < 128) key → common before key < length before
     → length siblings < k → newest_first aside ≡ record { depth = common before key; byte = get_or key (common before key) 0; len = old.front } ∷ newest_first siblings → new.front ≡ 0
     → new.buffer.now ≡ old.buffer.now → new.len ≡ old.len
-    → IsClosedTo k key (suc (common before key)) old siblings listed → IsReady k before new aside listed
-parts_before k before key old new siblings aside listed sorted ascii longer room is front written len standing =
-    let p = parted before key sorted in
+    → IsClosedTo kind k key (suc (common before key)) old siblings listed → IsReady kind k before new aside listed
+parts_before kind k before key old new siblings aside listed sorted ascii longer room is front written len standing =
+    let p = parted kind before key sorted in
     let c = common before key in
-    let w = set_aside k before key c (get_or key c 0) old.front (newest_first siblings) standing.0 listed p longer refl (ascii c 0 p.room) (let l = length-reverse siblings in omega arith) standing.2 in (
+    let w = set_aside kind k before key c (get_or key c 0) old.front (newest_first siblings) standing.0 listed p longer refl (ascii c 0 p.room) (let l = length-reverse siblings in omega arith) standing.2 in (
       standing.0,
       has_same old new standing.0 (sym written) (sym len) standing.1,
-      subst (λ ss. ReadyFor k before ss new.front standing.0 listed) (sym is)
-          (subst (λ f. ReadyFor k before (record { depth = c; byte = get_or key c 0; len = old.front } ∷ newest_first siblings) f standing.0 listed) (sym front) w),
+      subst (λ ss. ReadyFor kind k before ss new.front standing.0 listed) (sym is)
+          (subst (λ f. ReadyFor kind k before (record { depth = c; byte = get_or key c 0; len = old.front } ∷ newest_first siblings) f standing.0 listed) (sym front) w),
     )
 
 -- too many siblings wait for the key before
-pub stuck_before : (k : ℕ) (before key : List ℕ) (text : Text) (siblings : List Sibling) (listed : Pairs) (e : ZeroTrieBuildError) → Before simple_ascii before key → All (λ b. b < 128) key
-    → common before key < length before → k ≤ length siblings → e ≡ StackExceeded → IsClosedTo k key (suc (common before key)) text siblings listed → RefusedBefore k before listed e
-stuck_before k before key text siblings listed e sorted ascii longer full error standing =
-    let p = parted before key sorted in
+pub stuck_before : (kind : Kind) (k : ℕ) (before key : List ℕ) (text : Text) (siblings : List Sibling) (listed : Pairs) (e : ZeroTrieBuildError) → Before kind before key → All (λ b. b < 128) key
+    → common before key < length before → k ≤ length siblings → e ≡ StackExceeded → IsClosedTo kind k key (suc (common before key)) text siblings listed → RefusedBefore kind k before listed e
+stuck_before kind k before key text siblings listed e sorted ascii longer full error standing =
+    let p = parted kind before key sorted in
     let c = common before key in
     inr (
       error,
       λ v all among.
-          too_many k key c (newest_first siblings) text.front standing.0 listed all p.room ascii standing.2 (let l = length-reverse siblings in omega arith) (λ f b h. among f b (among_right ((before, v) ∷ []) listed f b h))
-          (two_before k before key v c (newest_first siblings) text.front standing.0 listed all p.room ascii p longer standing.2 among),
+          too_many kind k key c (newest_first siblings) text.front standing.0 listed all p.room ascii standing.2 (let l = length-reverse siblings in omega arith) (λ f b h. among f b (among_right ((before, v) ∷ []) listed f b h))
+          (two_before kind k before key v c (newest_first siblings) text.front standing.0 listed all p.room ascii p longer standing.2 among),
     )
 
 -- what stops the walk below the key stops it before the key before
-pub stuck_from : (k : ℕ) (before key : List ℕ) (stop : ℕ) (listed : Pairs) (e : ZeroTrieBuildError) → Before simple_ascii before key
-    → ((length before ≡ common before key) × (common before key ≤ stop)) ⊎ (common before key < stop) → RefusedFrom k key stop listed e → RefusedBefore k before listed e
-stuck_from k before key stop listed e sorted where_stopped stuck = elim stuck.3 [
-  | inl wide ↦ inl (wide.0, (take stuck.0 key, at_most_front before key stuck.0 sorted (further where_stopped), wide.1))
+pub stuck_from : (kind : Kind) (k : ℕ) (before key : List ℕ) (stop : ℕ) (listed : Pairs) (e : ZeroTrieBuildError) → Before kind before key
+    → ((length before ≡ common before key) × (common before key ≤ stop)) ⊎ (common before key < stop) → RefusedFrom kind k key stop listed e → RefusedBefore kind k before listed e
+stuck_from kind k before key stop listed e sorted where_stopped stuck = elim stuck.3 [
+  | inl wide ↦ inl (wide.0, (take stuck.0 key, at_most_front kind before key stuck.0 sorted (further where_stopped), wide.1))
   | inr many ↦ inr (many.0, λ v all among. many.1 all (λ f b h. among f b (among_right ((before, v) ∷ []) listed f b h)))
 ]
   where

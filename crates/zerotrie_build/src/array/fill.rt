@@ -1,14 +1,17 @@
 //! Texts that are written from their end into a buffer, or into memory of their own.
 
-ghost use Rattle.std.specs.Prelude.{◌≡◌, ℕ, ◌+◌, ◌<◌, ◌≤◌, ◌^◌, length, take, drop, IfOk, IfErr};
+ghost use Rattle.std.specs.Prelude.{◌≡◌, ℕ, ◌+◌, ◌<◌, ◌≤◌, ◌^◌, length, take, drop, ◌↔◌, IsTrue, IfOk, IfErr, OnOk};
+ghost use Rattle.zerotrie_base.specs.Kind.{simple_ascii, IsAscii};
 ghost use Rattle.zerotrie_base.specs.ArrayRoutes.{IsBuildWithin, IsBuildCopied, IsRefusalWithin};
 ghost use Rattle.zerotrie_build.specs.Items.{pairs};
-ghost use Rattle.zerotrie_build.specs.array.Growing.{IsWritten};
+ghost use Rattle.zerotrie_build.specs.Order.{Ordered, PartInCase};
+ghost use Rattle.zerotrie_build.specs.array.Growing.{IsWritten, IsDisorder};
 
 use crate::array::walk::build_text;
 use crate::items::ByteSliceWithIndices;
+use crate::order::{common_front_len, first_unordered};
 use std::alloc::Global;
-use zerotrie_base::{ZeroTrieBuildError, laws};
+use zerotrie_base::{Simple, ZeroTrieBuildError, ZeroTrieWithOptions, folded, laws};
 
 /// Writes the text of the trie of the items, whose keys ascend strictly by their bytes, at the end
 /// of a buffer, with a stack of `K`, and returns where it begins. The bytes from there on are the
@@ -34,14 +37,46 @@ pub fn fill_from_end<const K: usize>(
     items: ByteSliceWithIndices<'_>,
 ) -> Result<usize, ZeroTrieBuildError>
     requires { K < 2 ^ 58 }
-    ensures build { IsBuildWithin (length buffer.old) K (λ start. drop start buffer.new)
+    ensures build { IsBuildWithin simple_ascii (length buffer.old) K (λ start. drop start buffer.new)
+        (pairs items.entry) result }
+    ensures within { IfOk result (λ start. start ≤ length buffer.old) }
+    ensures before { IfOk result (λ start. take start buffer.new ≡ take start buffer.old) }
+{
+    fill_from_end_as::<Simple, K>(buffer, items)
+}
+
+/// Writes the text of the trie of the items at the end of a buffer, as `fill_from_end`, in a kind
+/// over ASCII keys: `Simple`, or `Ignore`, whose items ascend strictly by the bytes of their keys in
+/// lower case.
+///
+/// ```
+/// let items = [("Accept", 1), ("DNT", 2), ("accept-ch", 3)];
+/// let mut buffer = [0; 40];
+/// let unsorted = ByteSliceWithIndices::from_str_slice(&items);
+/// let error = fill_from_end_as::<Ignore, 2>(&mut buffer, unsorted).err();
+/// assert!(rt; error == Some(ZeroTrieBuildError::Unsorted));
+///
+/// let items = [("Accept", 1), ("Accept-CH", 3), ("dnt", 2)];
+/// let sorted = ByteSliceWithIndices::from_str_slice(&items);
+/// let start = fill_from_end_as::<Ignore, 2>(&mut buffer, sorted)?;
+/// assert_eq!(rt; &buffer[start..], b"\xC2Ad\x0Accept\x81-CH\x83nt\x82".as_slice());
+/// ```
+///
+/// In `Ignore` a build may also return the error `MixedCase`.
+pub fn fill_from_end_as<K: ZeroTrieWithOptions, const STACK: usize>(
+    buffer: &mut [u8],
+    items: ByteSliceWithIndices<'_>,
+) -> Result<usize, ZeroTrieBuildError>
+    requires kind { IsAscii K.kind }
+    requires capacity { STACK < 2 ^ 58 }
+    ensures build { IsBuildWithin K.kind (length buffer.old) STACK (λ start. drop start buffer.new)
         (pairs items.entry) result }
     ensures within { IfOk result (λ start. start ≤ length buffer.old) }
     ensures before { IfOk result (λ start. take start buffer.new ≡ take start buffer.old) }
 {
     laws::canonical_exactly();
     laws::meant_fits();
-    let len = write::<K>(buffer, items)?;
+    let len = write::<K, STACK>(buffer, items)?;
     if len > buffer.len() {
         return Err(ZeroTrieBuildError::BufferTooSmall);
     }
@@ -59,36 +94,81 @@ pub fn bytes_within<const K: usize>(
     items: ByteSliceWithIndices<'_>,
 ) -> Result<Vec<u8>, ZeroTrieBuildError>
     requires { K < 2 ^ 58 }
-    ensures { IsBuildCopied most K (λ bytes. bytes.items) (pairs items.entry) result }
+    ensures { IsBuildCopied simple_ascii most K (λ bytes. bytes.items) (pairs items.entry) result }
+{
+    bytes_within_as::<Simple, K>(alloc, most, items)
+}
+
+/// Builds the trie of the items as `bytes_within`, in a kind over ASCII keys, as
+/// `fill_from_end_as`.
+pub fn bytes_within_as<K: ZeroTrieWithOptions, const STACK: usize>(
+    alloc: Global,
+    most: usize,
+    items: ByteSliceWithIndices<'_>,
+) -> Result<Vec<u8>, ZeroTrieBuildError>
+    requires kind { IsAscii K.kind }
+    requires capacity { STACK < 2 ^ 58 }
+    ensures { IsBuildCopied K.kind most STACK (λ bytes. bytes.items) (pairs items.entry) result }
 {
     laws::canonical_exactly();
     laws::meant_fits();
-    let len = write::<K>(&mut [], items)?;
+    let len = write::<K, STACK>(&mut [], items)?;
     if len > most {
         return Err(ZeroTrieBuildError::BufferTooSmall);
     }
     let mut bytes = vec![in alloc; 0; len]?;
-    write::<K>(bytes.as_mut_slice(), items)?;
+    write::<K, STACK>(bytes.as_mut_slice(), items)?;
     Ok(bytes)
 }
 
 /// Writes the text of the trie of the items at the end of the buffer, if it has room for it, and
 /// returns how many bytes the text has, or the greatest number if it has more.
-fn write<const K: usize>(
+fn write<K: ZeroTrieWithOptions, const STACK: usize>(
     buffer: &mut [u8],
     items: ByteSliceWithIndices<'_>,
 ) -> Result<usize, ZeroTrieBuildError>
-    requires { K < 2 ^ 58 }
-    ensures written { IfOk result (λ len. IsWritten K (pairs items.entry) buffer.new len) }
+    requires kind { IsAscii K.kind }
+    requires capacity { STACK < 2 ^ 58 }
+    ensures written { IfOk result (λ len.
+        IsWritten K.kind STACK (pairs items.entry) buffer.new len) }
     ensures before { IfOk result (λ len. (n : ℕ) → n + len ≤ length buffer.old
         → take n buffer.new ≡ take n buffer.old) }
-    ensures refused { IfErr result (λ e. (n : ℕ) → IsRefusalWithin n K (pairs items.entry) e) }
+    ensures refused { IfErr result (λ e. (n : ℕ)
+        → IsRefusalWithin K.kind n STACK (pairs items.entry) e) }
 {
-    if !items.is_sorted() {
-        return Err(ZeroTrieBuildError::Unsorted);
-    }
+    in_order::<K>(items)?;
     if !items.is_all_ascii() {
         return Err(ZeroTrieBuildError::NonAsciiError);
     }
-    build_text::<K>(buffer, items)
+    build_text::<K, STACK>(buffer, items)
+}
+
+/// Returns an error if items are not in the order of the kind, by the first two neighbours that are
+/// not: `MixedCase` if they part in case, and else `Unsorted`.
+fn in_order<K: ZeroTrieWithOptions>(
+    items: ByteSliceWithIndices<'_>,
+) -> Result<(), ZeroTrieBuildError>
+    ensures ordered { OnOk result (Ordered K.kind (pairs items.entry)) }
+    ensures refused { IfErr result (IsDisorder K.kind (pairs items.entry)) }
+{
+    let Some(index) = first_unordered::<K, _>(items) else {
+        return Ok(());
+    };
+    let (key, _) = items.get(index);
+    let (next, _) = items.get(index + 1);
+    if part_in_case::<K>(key, next) {
+        return Err(ZeroTrieBuildError::MixedCase);
+    }
+    Err(ZeroTrieBuildError::Unsorted)
+}
+
+/// Returns whether two keys part in case: at bytes that differ, but have one fold.
+fn part_in_case<K: ZeroTrieWithOptions>(key: &[u8], next: &[u8]) -> bool
+    ensures { IsTrue result ↔ PartInCase K.kind key.now next.now }
+{
+    let common = common_front_len(key, next);
+    if common == key.len().min(next.len()) {
+        return false;
+    }
+    folded::<K>(key[common]) == folded::<K>(next[common])
 }

@@ -6,7 +6,7 @@ use Rattle.zerotrie_build.proofs.array.walk.build_text.Given as goal
 
 abbrev pub invariant-loop-index : goal.invariant-loop-index
 invariant-loop-index g l = record {
-  built : BuiltFrom g.row.K l.index (pairs l.items) l.text l.siblings.items;
+  built : BuiltFrom g.K.ZeroTrieWithOptions.kind g.row.STACK l.index (pairs l.items) l.text l.siblings.items;
   keeps : Keeps l.initial.text l.text;
   within : l.index ≤ length (pairs l.items);
 }
