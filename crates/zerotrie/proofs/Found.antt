@@ -11,7 +11,7 @@ use Rattle.zerotrie_core.specs.Routes.{Route, Takes}
 use Rattle.zerotrie_core.specs.ArrayRoutes.{IsArrayBuilt}
 use Rattle.zerotrie.specs.Keywords.{IsNumberOf}
 use Rattle.zerotrie.proofs.Lookups.{look_is, present, absent, found, same_itself, same_ignoring_case, takes_distinct}
-use Rattle.zerotrie_core.proofs.CallerLemmas.{ascends_apart}
+use Rattle.zerotrie_core.proofs.CallerLemmas.{ascends_in_apart}
 pub use Rattle.zerotrie_core.proofs.CallerLemmas.{exact_same}
 
 -- What a look-up answers by the pairs, if the kind may take keys as one that differ in case.
@@ -74,9 +74,9 @@ pub answered : {kind : Kind} {pairs : Pairs} {bytes key : List ℕ} {answer : Op
 answered {pairs = pairs} route build get = answered_by_map route build (get (map_of pairs) build.1.means)
 
 -- by what a route into an array answers, and that clause
-pub array_answered : {k : ℕ} {pairs : Pairs} {bytes key : List ℕ} {answer : Option ℕ} → IsArrayBuilt k pairs bytes
-    → ((m : Map) → Means simple_ascii bytes m → answer ≡ look simple_ascii m key) → Answer simple_ascii pairs key answer
-array_answered {pairs = pairs} build get = by_map (ascends_apart pairs build.ascends) build.built (get (map_of pairs) build.built.means)
+pub array_answered : {kind : Kind} {k : ℕ} {pairs : Pairs} {bytes key : List ℕ} {answer : Option ℕ} → IsArrayBuilt kind k pairs bytes
+    → ((m : Map) → Means kind bytes m → answer ≡ look kind m key) → Answer kind pairs key answer
+array_answered {kind = kind} {pairs = pairs} build get = by_map (ascends_in_apart kind pairs build.ascends) build.built (get (map_of pairs) build.built.means)
 
 -- the clause of `get` if the trie's kind is another word for this one, as of a `ZeroTrie`
 pub get_by_kind : {own kind : Kind} (bytes key : List ℕ) (answer : Option ℕ) → own ≡ kind → ((m : Map) → Means own bytes m → answer ≡ look own m key)

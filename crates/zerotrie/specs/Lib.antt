@@ -33,6 +33,7 @@ pub use Rattle.zerotrie_core.specs.Nodes
 pub use Rattle.zerotrie_core.specs.Faults
 pub use Rattle.zerotrie_core.specs.walk
 pub use Rattle.zerotrie_build.specs.Refused
+pub use Rattle.zerotrie_build.specs.Clean
 pub use Rattle.zerotrie_any.specs.Order
 pub use Rattle.zerotrie_any.specs.Auto
 pub use Rattle.zerotrie_any.specs.Flavors

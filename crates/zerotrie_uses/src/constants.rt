@@ -1,17 +1,19 @@
-//! A table of constants. No build refuses it: the only error is out of memory, and a build in an
+//! Tables of constants. No build refuses them: the only error is out of memory, and a build in an
 //! array returns none.
 
-ghost use Rattle.std.specs.Prelude.{IfOk};
+ghost use Rattle.std.specs.Prelude.{◌≡◌, ℕ, List, Some, None, true, false, IfOk, All, Contains};
+ghost use Rattle.std.specs.Str.{str_eq_ignore_ascii_case};
 ghost use Rattle.zerotrie.specs.Kind.{simple_ascii};
 ghost use Rattle.zerotrie.specs.Items.{keyed};
 ghost use Rattle.zerotrie.specs.Built.{IsBuilt};
 ghost use Rattle.zerotrie.specs.Keywords.{IsNumberOf};
+ghost use Rattle.zerotrie_uses.specs.Fields.{fields};
 ghost use Rattle.zerotrie_uses.specs.Methods.{methods};
 ghost use Rattle.zerotrie_uses.specs.declared.constants.TheConstants.{HEADERS};
 
 use std::alloc::{AllocError, Global};
 use zerotrie::bytes::{ByteSliceWithIndices, ZeroTrieBuilderConst, get};
-use zerotrie::{Simple, ZeroTrieBuildError, ZeroTrieSimpleAscii};
+use zerotrie::{Ignore, Simple, ZeroTrieBuildError, ZeroTrieSimpleAscii};
 
 /// Names of headers in ascending order, each with its number.
 pub const HEADERS: &[(&[u8], usize)] = &[
@@ -153,6 +155,31 @@ pub fn header_number(name: &[u8]) -> Option<usize>
 {
     let bytes = header_bytes();
     ZeroTrieSimpleAscii::from_bytes(bytes.as_bytes()).get(name)
+}
+
+/// Returns the number of a header field in any case, or `None` exactly if there is no such field.
+/// There is no error, and nothing is allocated. The names ascend in lower case.
+pub fn field_number(name: &[u8]) -> Option<usize>
+    ensures present { (key : List ℕ) (number : ℕ) → Contains fields (key, number)
+        → str_eq_ignore_ascii_case key name.now ≡ true → result ≡ Some number }
+    ensures absent { All (λ e. str_eq_ignore_ascii_case e.0 name.now ≡ false) fields
+        → result ≡ None }
+{
+    let fields: [(&[u8], usize); 8] = [
+        (b"Accept", 0),
+        (b"Content-Length", 1),
+        (b"Content-Type", 2),
+        (b"DNT", 3),
+        (b"ETag", 4),
+        (b"Host", 5),
+        (b"TE", 6),
+        (b"WWW-Authenticate", 7),
+    ];
+    let items = ByteSliceWithIndices::from_byte_slice(&fields);
+    match ZeroTrieBuilderConst::<221>::from_tuple_slice_as::<Ignore, 8>(items) {
+        Ok(bytes) => get::<Ignore>(bytes.as_bytes(), name),
+        Err(_) => unreachable!(),
+    }
 }
 
 /// Returns the number of a request method, or `None` exactly if there is no such method. There is
