@@ -24,7 +24,7 @@ mod tries;
 pub use any::{AnyAutomaton, SearchBy, WordError};
 pub use automaton::{Automaton, accepts};
 pub use beginning::BeginsWith;
-pub use combination::{AnyCase, Both, Either, Not};
+pub use combination::{Both, Either, Not};
 pub use cursors::SearchBelow;
 pub use folding::{ByKind, fold_by, fold_word};
 pub use fuzzy::Fuzzy;
