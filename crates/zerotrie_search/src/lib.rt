@@ -13,6 +13,7 @@ mod keys_of;
 pub mod laws;
 mod levenshtein;
 mod nearest;
+mod pending;
 mod prefix;
 mod range;
 mod search;
