@@ -7,7 +7,6 @@ mod TrailLemmas
 mod SearchLemmas
 mod GlobLemmas
 mod MarkLemmas
-mod GlobTextLemmas
 mod WordLemmas
 mod WantedLemmas
 mod CaseLemmas

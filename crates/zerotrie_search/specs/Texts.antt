@@ -1,4 +1,4 @@
--- Numbers of text by its characters.
+-- Text by its characters.
 use Rattle.std.specs.Prelude.{◌≡◌, ◌<◌, ◌≤◌, ℕ, List, ◌++◌, length, take, Option, Some, None, false, if◌then◌else◌}
 use Rattle.std.specs.Str.{chars, is_utf8}
 
@@ -10,7 +10,7 @@ text_measure measure key = if is_utf8 key then Some (measure (chars key)) else N
 abbrev pub NoText : List ℕ → Type 0
 NoText bytes = (n : ℕ) → 0 < n → n ≤ length bytes → is_utf8 (take n bytes) ≡ false
 
--- a number of the characters of text that begins with some bytes and continues with this, and a bound if it
+-- what the characters of text reach that begins with some bytes and continues with this, or another value if it
 -- is not text
-abbrev pub text_reach : ℕ → (List ℕ → ℕ) → List ℕ → List ℕ → ℕ
+abbrev pub text_reach : {A : Type 0} → A → (List ℕ → A) → List ℕ → List ℕ → A
 text_reach most reach pending key = if is_utf8 (pending ++ key) then reach (chars (pending ++ key)) else most

@@ -1,7 +1,6 @@
 //! Automata that are made of others.
 
-ghost use Rattle.std.specs.Prelude.{◌&&◌, ◌||◌, not, map};
-ghost use Rattle.std.specs.Char.{to_ascii_lowercase};
+ghost use Rattle.std.specs.Prelude.{◌&&◌, ◌||◌, not};
 
 use crate::automaton::Automaton;
 use zerotrie_core::ByteSet;
@@ -130,40 +129,5 @@ impl<S: Automaton> Automaton for Not<S> {
 
     fn can_match(&self, _state: S::State) -> bool {
         true
-    }
-}
-
-/// Accepts the keys that the automaton accepts once their ASCII letters are in lower case.
-///
-/// ```
-/// let automaton = AnyCase(StartsWith(b"a"));
-/// assert!(rt; automaton.is_match(automaton.step(automaton.start(), b'A')));
-/// ```
-#[derive(Clone, Copy, Debug)]
-pub struct AnyCase<S>(pub S);
-
-impl<S: Automaton> Automaton for AnyCase<S> {
-    type State = S::State;
-
-    ghost accepts = { λ s key. S.accepts s.0 (map to_ascii_lowercase key) };
-
-    ghost accepts_from = { λ s state key. S.accepts_from s.0 state (map to_ascii_lowercase key) };
-
-    ghost IsAfter = { λ s front state. S.IsAfter s.0 (map to_ascii_lowercase front) state };
-
-    fn start(&self) -> S::State {
-        self.0.start()
-    }
-
-    fn step(&self, state: S::State, byte: u8) -> S::State {
-        self.0.step(state, byte.to_ascii_lowercase())
-    }
-
-    fn is_match(&self, state: S::State) -> bool {
-        self.0.is_match(state)
-    }
-
-    fn can_match(&self, state: S::State) -> bool {
-        self.0.can_match(state)
     }
 }

@@ -87,9 +87,9 @@
 pub use crate::by_automaton;
 pub use crate::zerotrie_core::ByteSet;
 pub use crate::zerotrie_search::{
-    AnyAutomaton, AnyCase, Automaton, BeginsWith, Both, ByKind, CharsState, Either, Fuzzy, Glob,
-    GlobChars, GlobError, GlobState, KeyRange, Levenshtein, LevenshteinChars, LevenshteinState, Not,
-    Osa, OsaChars, OsaCharsState, OsaState, SearchBy, StartsWith, Subsequence, WORD_LIMIT, WordError,
+    AnyAutomaton, Automaton, BeginsWith, Both, ByKind, CharsState, Either, Fuzzy, Glob, GlobChars,
+    GlobError, GlobState, KeyRange, Levenshtein, LevenshteinChars, LevenshteinState, Not, Osa,
+    OsaChars, OsaCharsState, OsaState, SearchBy, StartsWith, Subsequence, WORD_LIMIT, WordError,
     accepts, fold_by, fold_word,
 };
 

@@ -1,12 +1,12 @@
 //! Keys that a pattern of characters matches.
 
-ghost use Rattle.std.specs.Prelude.{◌≡◌, ◌≢◌, ◌<◌, ◌∷◌, ℕ, List, [], length, true, false, Some, IfSome, IfOk, IfErr};
+ghost use Rattle.std.specs.Prelude.{◌≡◌, ◌≢◌, ◌<◌, ◌∷◌, ℕ, List, [], length, true, false, Some, IfOk, IfErr};
 ghost use Rattle.std.specs.Str.{chars};
 ghost use Rattle.zerotrie_search.specs.Globs as glob;
 ghost use Rattle.zerotrie_search.specs.Globs.{cased, matches_text};
-ghost use Rattle.zerotrie_search.specs.GlobMasks.{any_match, AreTakers};
+ghost use Rattle.zerotrie_search.specs.GlobMasks.{AreTakers};
 ghost use Rattle.zerotrie_search.specs.GlobTables.{AreMasks};
-ghost use Rattle.zerotrie_search.specs.GlobTexts.{text_match, IsGlobState};
+ghost use Rattle.zerotrie_search.specs.GlobTexts.{text_match};
 ghost use Rattle.zerotrie_search.specs.declared.TheConstants.{WORD_LIMIT};
 ghost use Rattle.zerotrie_search.specs.declared.glob.GlobError.TheVariants.{Malformed, TooLong};
 
@@ -14,7 +14,7 @@ use super::GlobError;
 use super::masks::{Masks, takers_of};
 use super::pattern::Text;
 use crate::automaton::Automaton;
-use crate::levenshtein::first_char;
+use crate::pending::{Pending, Taken};
 use std::fmt;
 use zerotrie_core::ByteSet;
 
@@ -44,8 +44,7 @@ pub struct GlobChars<'p> {
 #[derive(Clone, Copy, Debug)]
 pub struct GlobState {
     marks: u64,
-    pending: [u8; 4],
-    count: usize,
+    pending: Pending,
 }
 
 impl<'p> fmt::Debug for GlobChars<'p> {
@@ -117,67 +116,6 @@ impl<'p> GlobChars<'p> {
             takers_of(Text::Chars(self.pattern), self.any_case, letter)
         }
     }
-
-    /// Returns the marks after one more character.
-    #[inline]
-    fn after_char(&self, marks: u64, letter: u32) -> u64
-        ensures { (key : List ℕ) → any_match result 0 (cased self.now.any_case (glob.items (chars self.now.pattern.now))) key
-            ≡ any_match marks 0 (cased self.now.any_case (glob.items (chars self.now.pattern.now))) (letter ∷ key) }
-    {
-        self.masks.step(marks, self.takers(letter))
-    }
-
-    /// Returns the state after a byte that is a character.
-    #[inline]
-    fn after_ascii(&self, state: GlobState, byte: u8) -> GlobState
-        requires state { IsGlobState state }
-        requires empty { state.count ≡ 0 }
-        requires ascii { byte < 128 }
-        ensures state { IsGlobState result }
-        ensures is { (key : List ℕ)
-            → text_match (cased self.now.any_case (glob.items (chars self.now.pattern.now))) (Some result) key
-            ≡ text_match (cased self.now.any_case (glob.items (chars self.now.pattern.now))) (Some state) (byte ∷ key) }
-    {
-        let pending = state.pending;
-        let marks = self.after_char(state.marks, u32::from(byte));
-        GlobState {
-            marks,
-            pending,
-            count: 0,
-        }
-    }
-
-    /// Returns the state after one more byte, or `None` if no text continues so.
-    fn after_byte(&self, state: GlobState, byte: u8) -> Option<GlobState>
-        requires { IsGlobState state }
-        ensures state { IfSome result IsGlobState }
-        ensures is { (key : List ℕ)
-            → text_match (cased self.now.any_case (glob.items (chars self.now.pattern.now))) result key
-            ≡ text_match (cased self.now.any_case (glob.items (chars self.now.pattern.now))) (Some state) (byte ∷ key) }
-    {
-        let marks = state.marks;
-        let mut pending = state.pending;
-        pending[state.count] = byte;
-        let count = state.count + 1;
-        let all = &pending[..];
-        let Some(letter) = first_char(&all[..count]) else {
-            if count == 4 {
-                return None;
-            }
-            return Some(GlobState {
-                marks,
-                pending,
-                count,
-            });
-        };
-        let marks = self.after_char(marks, u32::from(letter));
-        let pending = [0; 4];
-        Some(GlobState {
-            marks,
-            pending,
-            count: 0,
-        })
-    }
 }
 
 impl<'p> Automaton for GlobChars<'p> {
@@ -189,31 +127,34 @@ impl<'p> Automaton for GlobChars<'p> {
     ghost accepts_from = { λ s state key.
         text_match (cased s.any_case (glob.items (chars s.pattern.now))) state key };
 
-    ghost IsAfter = { λ _ _ state. IfSome state IsGlobState };
+    ghost IsAfter = { λ _ _ _. Unit {0} };
 
     fn start(&self) -> Option<GlobState> {
         Some(GlobState {
             marks: self.masks.first(),
-            pending: [0; 4],
-            count: 0,
+            pending: Pending::none(),
         })
     }
 
     fn step(&self, state: Option<GlobState>, byte: u8) -> Option<GlobState> {
         let state = state?;
-        if state.count > 0 {
-            return self.after_byte(state, byte);
+        match state.pending.and(byte) {
+            Taken::More(pending) => Some(GlobState {
+                marks: state.marks,
+                pending,
+            }),
+            Taken::Letter(letter) => Some(GlobState {
+                marks: self.masks.step(state.marks, self.takers(letter)),
+                pending: Pending::none(),
+            }),
+            Taken::Malformed => None,
         }
-        if byte < 128 {
-            return Some(self.after_ascii(state, byte));
-        }
-        self.after_byte(state, byte)
     }
 
     fn is_match(&self, state: Option<GlobState>) -> bool {
         match state {
             None => false,
-            Some(state) => state.count == 0 && self.masks.is_match(state.marks),
+            Some(state) => state.pending.is_none() && self.masks.is_match(state.marks),
         }
     }
 
@@ -226,7 +167,7 @@ impl<'p> Automaton for GlobChars<'p> {
 
     fn wanted(&self, state: Option<GlobState>) -> Option<ByteSet> {
         let state = state?;
-        if state.count > 0 {
+        if !state.pending.is_none() {
             return None;
         }
         if self.masks.is_over(state.marks) {

@@ -117,34 +117,3 @@ impl<S: Automaton> Automaton for Not<S> {
         true
     }
 }
-
-/// Accepts the keys that the automaton accepts once their ASCII letters are in lower case.
-///
-/// ```
-/// # use zerotrie::{rstd::examples::*, zerotrie_search::*, zerotrie_base::*, zerotrie_core::*, zerotrie_any::*, zerotrie_ascii::*, zerotrie_hashed::*};
-/// let automaton = AnyCase(StartsWith(b"a"));
-/// assert!(automaton.is_match(automaton.step(automaton.start(), b'A')));
-/// # Ok::<(), Fail>(())
-/// ```
-#[derive(Clone, Copy, Debug)]
-pub struct AnyCase<S>(pub S);
-
-impl<S: Automaton> Automaton for AnyCase<S> {
-    type State = S::State;
-
-    fn start(&self) -> S::State {
-        self.0.start()
-    }
-
-    fn step(&self, state: S::State, byte: u8) -> S::State {
-        self.0.step(state, byte.to_ascii_lowercase())
-    }
-
-    fn is_match(&self, state: S::State) -> bool {
-        self.0.is_match(state)
-    }
-
-    fn can_match(&self, state: S::State) -> bool {
-        self.0.can_match(state)
-    }
-}

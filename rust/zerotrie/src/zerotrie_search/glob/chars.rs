@@ -6,7 +6,7 @@ use super::GlobError;
 use super::masks::{Masks, takers_of};
 use super::pattern::Text;
 use crate::zerotrie_search::automaton::Automaton;
-use crate::zerotrie_search::levenshtein::first_char;
+use crate::zerotrie_search::pending::{Pending, Taken};
 use crate::rstd::fmt;
 use crate::zerotrie_core::ByteSet;
 
@@ -37,8 +37,7 @@ pub struct GlobChars<'p> {
 #[derive(Clone, Copy, Debug)]
 pub struct GlobState {
     marks: u64,
-    pending: [u8; 4],
-    count: usize,
+    pending: Pending,
 }
 
 impl<'p> fmt::Debug for GlobChars<'p> {
@@ -94,50 +93,6 @@ impl<'p> GlobChars<'p> {
             takers_of(Text::Chars(self.pattern), self.any_case, letter)
         }
     }
-
-    /// Returns the marks after one more character.
-    #[inline]
-    fn after_char(&self, marks: u64, letter: u32) -> u64 {
-        self.masks.step(marks, self.takers(letter))
-    }
-
-    /// Returns the state after a byte that is a character.
-    #[inline]
-    fn after_ascii(&self, state: GlobState, byte: u8) -> GlobState {
-        let pending = state.pending;
-        let marks = self.after_char(state.marks, u32::from(byte));
-        GlobState {
-            marks,
-            pending,
-            count: 0,
-        }
-    }
-
-    /// Returns the state after one more byte, or `None` if no text continues so.
-    fn after_byte(&self, state: GlobState, byte: u8) -> Option<GlobState> {
-        let marks = state.marks;
-        let mut pending = state.pending;
-        pending[state.count] = byte;
-        let count = state.count + 1;
-        let all = &pending[..];
-        let Some(letter) = first_char(&all[..count]) else {
-            if count == 4 {
-                return None;
-            }
-            return Some(GlobState {
-                marks,
-                pending,
-                count,
-            });
-        };
-        let marks = self.after_char(marks, u32::from(letter));
-        let pending = [0; 4];
-        Some(GlobState {
-            marks,
-            pending,
-            count: 0,
-        })
-    }
 }
 
 impl<'p> Automaton for GlobChars<'p> {
@@ -146,26 +101,29 @@ impl<'p> Automaton for GlobChars<'p> {
     fn start(&self) -> Option<GlobState> {
         Some(GlobState {
             marks: self.masks.first(),
-            pending: [0; 4],
-            count: 0,
+            pending: Pending::none(),
         })
     }
 
     fn step(&self, state: Option<GlobState>, byte: u8) -> Option<GlobState> {
         let state = state?;
-        if state.count > 0 {
-            return self.after_byte(state, byte);
+        match state.pending.and(byte) {
+            Taken::More(pending) => Some(GlobState {
+                marks: state.marks,
+                pending,
+            }),
+            Taken::Letter(letter) => Some(GlobState {
+                marks: self.masks.step(state.marks, self.takers(letter)),
+                pending: Pending::none(),
+            }),
+            Taken::Malformed => None,
         }
-        if byte < 128 {
-            return Some(self.after_ascii(state, byte));
-        }
-        self.after_byte(state, byte)
     }
 
     fn is_match(&self, state: Option<GlobState>) -> bool {
         match state {
             None => false,
-            Some(state) => state.count == 0 && self.masks.is_match(state.marks),
+            Some(state) => state.pending.is_none() && self.masks.is_match(state.marks),
         }
     }
 
@@ -178,7 +136,7 @@ impl<'p> Automaton for GlobChars<'p> {
 
     fn wanted(&self, state: Option<GlobState>) -> Option<ByteSet> {
         let state = state?;
-        if state.count > 0 {
+        if !state.pending.is_none() {
             return None;
         }
         if self.masks.is_over(state.marks) {
