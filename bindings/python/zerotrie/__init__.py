@@ -86,8 +86,8 @@ from ._readers import (
 from ._reverse import Reverse as Reverse, reverse as reverse
 from ._search import BY_SUBSEQUENCE, Search
 from ._sets import (
-    DIFFERENCE, INTERSECTION, SYMMETRIC_DIFFERENCE, UNION, Keyed, chosen, difference, intersection,
-    kind_of, made_of, symmetric_difference, union,
+    DIFFERENCE, INTERSECTION, SYMMETRIC_DIFFERENCE, UNION, Keyed, difference, in_any_case,
+    intersection, kind_of, made_of, symmetric_difference, union,
 )
 from ._tables import dense_parts, index_entries
 from ._version import __version__ as __version__
@@ -498,7 +498,8 @@ class _Trie(Reader[Word], _InBytes, Mapping[Any, int]):
 
         This and the next three build a trie, of the kind of auto_kind(), but IGNORE_CASE or
         EXTENDED_CAPACITY if this trie or the other one is. Keys are compared as bytes, and letters
-        in either case if one of both tries is IGNORE_CASE. union() takes any number of tries.
+        in either case if one of both tries is IGNORE_CASE: this trie says how they are spelled.
+        union() takes any number of tries.
         """
         return self._chosen(other, True)
 
@@ -512,10 +513,7 @@ class _Trie(Reader[Word], _InBytes, Mapping[Any, int]):
         """
         if not isinstance(other, Mapping):
             return NotImplemented
-        if kind_of(self, other) != IGNORE_CASE:
-            return made_of(UNION, "last", (self, self._trie_of(other)), None, type(self))
-        left = chosen(self, other, isinstance(other, _Trie), False)
-        return type(self).build([*left.items(), *other.items()], IGNORE_CASE)
+        return made_of(UNION, "last", (self, self._trie_of(other)), None, type(self))
 
     def __ror__(self: Trie, other: Mapping[Any, int]) -> Trie:
         """A trie of the pairs of a mapping and of this one, whose values count."""
@@ -527,10 +525,8 @@ class _Trie(Reader[Word], _InBytes, Mapping[Any, int]):
         """A trie of the pairs whose keys this trie or the other mapping has, and not both."""
         if not isinstance(other, Mapping):
             return NotImplemented
-        right = self._trie_of(other)
-        if kind_of(self, other) != IGNORE_CASE:
-            return made_of(SYMMETRIC_DIFFERENCE, "last", (self, right), None, type(self))
-        return (self - right) | (right - self)
+        tries = self, self._trie_of(other)
+        return made_of(SYMMETRIC_DIFFERENCE, "last", tries, None, type(self))
 
     def __rxor__(self: Trie, other: Mapping[Any, int]) -> Trie:
         """The same, of a mapping and of this trie."""
@@ -546,8 +542,7 @@ class _Trie(Reader[Word], _InBytes, Mapping[Any, int]):
         if not isinstance(other, (Mapping, Set)):
             return NotImplemented
         if kind_of(self, other) == IGNORE_CASE:
-            pairs = chosen(self, other, isinstance(other, _Trie), wanted)
-            return type(self).build(pairs, IGNORE_CASE)
+            return type(self).build(in_any_case(self, other, wanted), IGNORE_CASE)
         if not isinstance(other, _Trie):
             other = ZeroTrie.build(dict.fromkeys(map(key_bytes, other), 0))
         selection = INTERSECTION if wanted else DIFFERENCE
