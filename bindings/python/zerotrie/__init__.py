@@ -68,7 +68,7 @@ from typing import Any, NoReturn, Optional, TypeVar, Union, cast, overload
 
 from ._diff import Change as Change, diff as diff
 from ._errors import (
-    NO_ENTRY, TOO_SMALL, Kind, Other, ZeroTrieError, check_status, in_file, remade,
+    NO_ENTRY, NO_INDEX, TOO_SMALL, Kind, Other, ZeroTrieError, check_status, in_file, remade,
     with_attributes,
 )
 from ._library import EXCLUDED, INCLUDED, UNBOUNDED, lib
@@ -777,7 +777,7 @@ class Index(Table, _InBytes, Mapping[Any, int]):
         view, at, is_sealed = index_in(view, at)
         validates = check or check is None and not is_sealed
         if validates and not lib.zerotrie_index_is_valid(at, len(view)):
-            raise ZeroTrieError("the bytes are no index")
+            raise ZeroTrieError(NO_INDEX)
         self._hold(view, INDEX, at, len(view))
 
     @classmethod
@@ -793,15 +793,14 @@ class Index(Table, _InBytes, Mapping[Any, int]):
     @classmethod
     def open(cls: type[AnyIndex], path: Path, check: Optional[bool] = None) -> AnyIndex:
         """The index of a file, mapped into memory: one that is sealed, as save() and `zerotrie
-        index` write it, or has the bytes of an index alone. Don't cut or overwrite it.
+        build --index` write it, or has the bytes of an index alone. Don't cut or overwrite it.
         """
         with open(path, "rb") as file:
             data = mapped(file)
         try:
             return cls(data, check)
         except ZeroTrieError as error:
-            error.path = path
-            raise
+            raise in_file(error, path) from None
 
     def seal(self) -> bytes:
         """The bytes of a sealed file: the length and a checksum, and then the index."""
