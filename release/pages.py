@@ -1,5 +1,6 @@
-"""Puts the pages and the programs of a release into a folder where bindings/install put the library: pages.py PREFIX. A link to what is
-in the folder leads there, and another one is its text alone. Ends with an error if a page has a link that leads nowhere.
+"""Puts the pages and the programs of a release into a folder where bindings/install put the library: pages.py PREFIX. The pages are
+release/README.md and those that it links. A link to what is in the folder leads there, and another one is its text alone. Ends with an
+error if a page has a link that leads nowhere.
 """
 
 import os
@@ -10,17 +11,34 @@ import sys
 
 TOP = pathlib.Path(__file__).resolve().parent.parent
 DOC = "share/doc/zerotrie"
-PAGES = ["CHANGELOG.md", *(f"docs/{name}.md" for name in ("C", "CPP", "FORMAT", "JAVASCRIPT", "PYTHON", "RUST"))]
-#: Where what the sources have is in a release.
+FIRST = "release/README.md"
+LINK = re.compile(r"\[((?:[^][]|\[[^]]*\])*)\]\(([^)\s]+)\)")
+
+
+def source_of(target, page):
+    """The file or folder of the sources that a link of a page leads to. None: it leads elsewhere."""
+    if re.match(r"[a-z]+:|#", target):
+        return None
+    return os.path.normpath(os.path.join(os.path.dirname(page), target.partition("#")[0]))
+
+
+def pages():
+    """Each page that the first one links, with its place: a README is named as its folder."""
+    linked = (source_of(target, FIRST) for _, target in LINK.findall((TOP / FIRST).read_text()))
+    for page in map(pathlib.PurePath, sorted({source for source in linked if source and source.endswith(".md")})):
+        name = page.parent.name if page.stem == "README" else page.stem
+        yield str(page), f"{DOC}/{name}.md"
+
+
+#: Where what the sources have is in a release. The programs in JavaScript lie beside what they import.
 PLACES = {
-    "release/README.md": f"{DOC}/README.md",
-    **{page: f"{DOC}/{pathlib.Path(page).name}" for page in PAGES},
-    **{f"bindings/examples/{name}": f"{DOC}/examples/{name}" for name in ("c", "cpp", "python")},
+    FIRST: f"{DOC}/README.md",
+    **dict(pages()),
+    **{f"bindings/examples/{folder.name}": f"{DOC}/examples/{folder.name}" for folder in (TOP / "bindings/examples").iterdir() if folder.is_dir()},
     "bindings/examples/js": "share/zerotrie/examples/js",
     "bindings/js": "share/zerotrie/js",
     "bindings/c": "include",
 }
-LINK = re.compile(r"\[((?:[^][]|\[[^]]*\])*)\]\(([^)\s]+)\)")
 
 
 def place_of(source):
@@ -36,10 +54,11 @@ def moved(text, source, to, prefix):
 
     def link(found):
         words, target = found.groups()
-        if re.match(r"[a-z]+:|#", target):
+        wanted = source_of(target, source)
+        if wanted is None:
             return found[0]
-        path, _, heading = target.partition("#")
-        place = place_of(os.path.normpath(os.path.join(os.path.dirname(source), path)))
+        heading = target.partition("#")[2]
+        place = place_of(wanted)
         if place is None or not (prefix / place).exists():
             return words
         return f"[{words}]({os.path.relpath(place, os.path.dirname(to))}{'#' if heading else ''}{heading})"
@@ -48,13 +67,13 @@ def moved(text, source, to, prefix):
 
 
 def put(prefix):
-    for name in ("c", "cpp", "python"):
-        shutil.copytree(TOP / "bindings/examples" / name, prefix / PLACES[f"bindings/examples/{name}"], dirs_exist_ok=True,
-                        ignore=shutil.ignore_patterns("__pycache__"))
-    pages = {place: source for source, place in PLACES.items() if source.endswith(".md")}
-    for place in pages:
+    for source, place in PLACES.items():
+        if place.startswith(f"{DOC}/examples/"):
+            shutil.copytree(TOP / source, prefix / place, dirs_exist_ok=True, ignore=shutil.ignore_patterns("__pycache__"))
+    texts = {place: source for source, place in PLACES.items() if source.endswith(".md")}
+    for place in texts:
         (prefix / place).touch()
-    for place, source in [*pages.items(), ("README.md", "release/README.md")]:
+    for place, source in [*texts.items(), ("README.md", FIRST)]:
         (prefix / place).write_text(moved((TOP / source).read_text(), source, place, prefix))
 
 

@@ -381,6 +381,10 @@ ZEROTRIE_INLINE zerotrie_bytes zerotrie_bytes_of_string(const char *string) {
 #define ZEROTRIE_TEXT(literal)                                                                     \
     { ZEROTRIE_POINTER(const uint8_t *, "" literal), sizeof("" literal) - 1 }
 
+/** A string literal as two arguments of a call, its bytes and how many they are, without its end:
+ * zerotrie_trie_get(trie, ZEROTRIE_LITERAL("bar"), &value). */
+#define ZEROTRIE_LITERAL(literal) ("" literal), (sizeof("" literal) - 1)
+
 /** Returns a search of one text, without edits and bounds; see zerotrie_search_by. */
 ZEROTRIE_INLINE zerotrie_search zerotrie_search_for(zerotrie_search_by by, const void *text,
                                                     size_t text_len) {

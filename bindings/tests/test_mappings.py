@@ -222,6 +222,10 @@ with tempfile.TemporaryDirectory() as room:
     path.write_bytes(b"#include <stdio.h>")
     error = refused(ZeroTrieError, lambda: StrTrie.open(path), "this is no file of a trie: it is neither sealed nor tagged bytes")
     assert (error.status, error.path) == (14, path)
+    error = refused(ZeroTrieError, lambda: Index.open(path), "a file: this is no file of an index: it has neither")
+    assert error.path == path
+    refused(TypeError, lambda: DenseTable.build({"a": 1}), "the row of 'a' has to be a mapping, not int")
+    refused(TypeError, lambda: DenseTable.build(["a"]), "a table of rows has to be a mapping, not list")
     for made in (trie, index, table):
         error = refused(FileNotFoundError, lambda: made.save(room + "/no/such"))
         assert error.filename == room + "/no/such"

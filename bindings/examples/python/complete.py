@@ -4,6 +4,9 @@ too many, or another one.
     python3 complete.py
 """
 
+import heapq
+from operator import itemgetter
+
 from zerotrie import StrTrie
 
 WORDS = ["car", "cargo", "carp", "carpet", "carton", "dog", "zürich"]
@@ -17,7 +20,13 @@ def completions(typed: str, most: int = 5) -> list[str]:
     return [*exact, *(word for word in near if word not in exact)][:most]
 
 
+def best(typed: str, most: int = 2) -> list[tuple[str, int]]:
+    """The words that begin with what was typed, those with the greatest values first."""
+    return heapq.nlargest(most, TABLE.items(typed), key=itemgetter(1))
+
+
 print(completions("carp"))  # ['carp', 'carpet', 'car', 'cargo', 'carton']
 print(completions("crpe"), completions("zuri"))  # ['carpet'] ['zürich']
+print(best("car"))  # [('carton', 4), ('carpet', 3)]
 print(dict(TABLE.glob("c*o?")), dict(TABLE.range("d")))  # {'carton': 4} {'dog': 5, 'zürich': 6}
 print(dict(TABLE - TABLE.keys("c")))  # {'dog': 5, 'zürich': 6}

@@ -68,7 +68,7 @@ from typing import Any, NoReturn, Optional, TypeVar, Union, cast, overload
 
 from ._diff import Change as Change, diff as diff
 from ._errors import (
-    NO_ENTRY, TOO_SMALL, Kind, Other, ZeroTrieError, check_status, in_file, remade,
+    NO_ENTRY, NO_INDEX, TOO_SMALL, Kind, Other, ZeroTrieError, check_status, in_file, remade,
     with_attributes,
 )
 from ._library import EXCLUDED, INCLUDED, UNBOUNDED, lib
@@ -86,8 +86,8 @@ from ._readers import (
 from ._reverse import Reverse as Reverse, reverse as reverse
 from ._search import BY_SUBSEQUENCE, Search
 from ._sets import (
-    DIFFERENCE, INTERSECTION, SYMMETRIC_DIFFERENCE, UNION, Keyed, chosen, difference, intersection,
-    kind_of, made_of, symmetric_difference, union,
+    DIFFERENCE, INTERSECTION, SYMMETRIC_DIFFERENCE, UNION, Keyed, difference, in_any_case,
+    intersection, kind_of, made_of, symmetric_difference, union,
 )
 from ._tables import dense_parts, index_entries
 from ._version import __version__ as __version__
@@ -498,7 +498,8 @@ class _Trie(Reader[Word], _InBytes, Mapping[Any, int]):
 
         This and the next three build a trie, of the kind of auto_kind(), but IGNORE_CASE or
         EXTENDED_CAPACITY if this trie or the other one is. Keys are compared as bytes, and letters
-        in either case if one of both tries is IGNORE_CASE. union() takes any number of tries.
+        in either case if one of both tries is IGNORE_CASE: this trie says how they are spelled.
+        union() takes any number of tries.
         """
         return self._chosen(other, True)
 
@@ -512,10 +513,7 @@ class _Trie(Reader[Word], _InBytes, Mapping[Any, int]):
         """
         if not isinstance(other, Mapping):
             return NotImplemented
-        if kind_of(self, other) != IGNORE_CASE:
-            return made_of(UNION, "last", (self, self._trie_of(other)), None, type(self))
-        left = chosen(self, other, isinstance(other, _Trie), False)
-        return type(self).build([*left.items(), *other.items()], IGNORE_CASE)
+        return made_of(UNION, "last", (self, self._trie_of(other)), None, type(self))
 
     def __ror__(self: Trie, other: Mapping[Any, int]) -> Trie:
         """A trie of the pairs of a mapping and of this one, whose values count."""
@@ -527,10 +525,8 @@ class _Trie(Reader[Word], _InBytes, Mapping[Any, int]):
         """A trie of the pairs whose keys this trie or the other mapping has, and not both."""
         if not isinstance(other, Mapping):
             return NotImplemented
-        right = self._trie_of(other)
-        if kind_of(self, other) != IGNORE_CASE:
-            return made_of(SYMMETRIC_DIFFERENCE, "last", (self, right), None, type(self))
-        return (self - right) | (right - self)
+        tries = self, self._trie_of(other)
+        return made_of(SYMMETRIC_DIFFERENCE, "last", tries, None, type(self))
 
     def __rxor__(self: Trie, other: Mapping[Any, int]) -> Trie:
         """The same, of a mapping and of this trie."""
@@ -546,8 +542,7 @@ class _Trie(Reader[Word], _InBytes, Mapping[Any, int]):
         if not isinstance(other, (Mapping, Set)):
             return NotImplemented
         if kind_of(self, other) == IGNORE_CASE:
-            pairs = chosen(self, other, isinstance(other, _Trie), wanted)
-            return type(self).build(pairs, IGNORE_CASE)
+            return type(self).build(in_any_case(self, other, wanted), IGNORE_CASE)
         if not isinstance(other, _Trie):
             other = ZeroTrie.build(dict.fromkeys(map(key_bytes, other), 0))
         selection = INTERSECTION if wanted else DIFFERENCE
@@ -782,7 +777,7 @@ class Index(Table, _InBytes, Mapping[Any, int]):
         view, at, is_sealed = index_in(view, at)
         validates = check or check is None and not is_sealed
         if validates and not lib.zerotrie_index_is_valid(at, len(view)):
-            raise ZeroTrieError("the bytes are no index")
+            raise ZeroTrieError(NO_INDEX)
         self._hold(view, INDEX, at, len(view))
 
     @classmethod
@@ -798,15 +793,14 @@ class Index(Table, _InBytes, Mapping[Any, int]):
     @classmethod
     def open(cls: type[AnyIndex], path: Path, check: Optional[bool] = None) -> AnyIndex:
         """The index of a file, mapped into memory: one that is sealed, as save() and `zerotrie
-        index` write it, or has the bytes of an index alone. Don't cut or overwrite it.
+        build --index` write it, or has the bytes of an index alone. Don't cut or overwrite it.
         """
         with open(path, "rb") as file:
             data = mapped(file)
         try:
             return cls(data, check)
         except ZeroTrieError as error:
-            error.path = path
-            raise
+            raise in_file(error, path) from None
 
     def seal(self) -> bytes:
         """The bytes of a sealed file: the length and a checksum, and then the index."""

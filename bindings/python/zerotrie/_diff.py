@@ -3,14 +3,14 @@
 from __future__ import annotations
 
 import ctypes
-from collections.abc import Iterator
+from collections.abc import Callable, Iterator
 from ctypes import c_size_t, c_uint8
 from typing import TYPE_CHECKING, Any, NamedTuple, Optional
 
-from ._errors import MALFORMED_TRIE, TOO_SMALL, check_status
+from ._errors import MALFORMED_TRIE, TOO_SMALL, Kind, check_status
 from ._library import EXCLUDED, INCLUDED, UNBOUNDED, RawChange, lib
 from ._pairs import Key, key_bytes
-from ._sets import check_bytes, raw_tries
+from ._sets import alike, check_bytes, kind_of, raw_tries
 
 if TYPE_CHECKING:
     from . import _Trie
@@ -56,24 +56,27 @@ def diff(
     ['changed', 'removed', 'added']
 
     It lists a part at a time, for each of which the bytes of both are validated: ZeroTrieError if
-    they are malformed. Keys are compared as they are stored.
+    they are malformed. If one of both is IGNORE_CASE, letters are compared in either case, and the
+    first trie says how keys and their order are spelled.
     """
     for one in (old, new):
         if not hasattr(one, "_lent"):
             raise TypeError(f"a trie, and not {type(one).__name__}")
     first = None if start is None else key_bytes(start)
-    return changes(old, new, first, None if stop is None else key_bytes(stop))
+    both = alike([old, new]) if kind_of(old, new) == Kind.IGNORE_CASE else [old, new]
+    return changes(both, old._word, first, None if stop is None else key_bytes(stop))
 
 
 def changes(
-    old: _Trie[Any], new: _Trie[Any], start: Optional[bytes], stop: Optional[bytes]
+    tries: list[_Trie[Any]], word: Callable[[bytes], Any], start: Optional[bytes],
+    stop: Optional[bytes],
 ) -> Iterator[Change]:
     bound, last = UNBOUNDED if start is None else INCLUDED, start or b""
     below = UNBOUNDED if stop is None else EXCLUDED
     room, status = 1 << 13, TOO_SMALL
     while status == TOO_SMALL:
         # the views keep the bytes in place during the call
-        lent = [old._lent(), new._lent()]
+        lent = [trie._lent() for trie in tries]
         raw, keys, places = raw_tries(lent), (c_uint8 * room)(), (RawChange * (room // 16))()
         count, next_len = c_size_t(), c_size_t()
         status = lib.zerotrie_diff_some(
@@ -89,5 +92,5 @@ def changes(
             at = one.key_end
             before = None if one.how == ADDED else one.before
             after = None if one.how == REMOVED else one.after
-            yield Change(old._word(last), before, after)
+            yield Change(word(last), before, after)
         room = max(min(8 * room, 1 << 20), next_len.value)

@@ -136,11 +136,17 @@ def error_of(status: int) -> ZeroTrieError:
     return ZeroTrieError(text, status)
 
 
+#: What is said of bytes that are no index.
+NO_INDEX = "the bytes are no index"
+
+
 def in_file(error: ZeroTrieError, path: Any) -> ZeroTrieError:
-    """The error of a file that was opened as that of a trie."""
+    """The error of a file that was opened as that of a trie or of an index."""
     causes = {NO_TAG: "it is empty", INVALID_TAG: "it is neither sealed nor tagged bytes"}
     if error.status in causes:
         error = ZeroTrieError(f"this is no file of a trie: {causes[error.status]}", error.status)
+    elif str(error) == NO_INDEX:
+        error = ZeroTrieError("this is no file of an index: it has neither a seal nor the bytes of one")
     error.path = path
     return error
 

@@ -312,6 +312,13 @@ def tagged(data: Any, kind: int) -> bytes:
     return b"".join((tag, view if view.c_contiguous else bytes(view)))
 
 
+def mapping(given: Any, what: str) -> Any:
+    """What is given, which has to be a mapping."""
+    if not hasattr(given, "items"):
+        raise TypeError(f"{what} has to be a mapping, not {type(given).__name__}")
+    return given
+
+
 def build_dense(rows: Mapping[Any, Mapping[Any, int]], delimiter: Key = b"/") -> bytes:
     """The record of the dense table of a mapping of mappings, in any order, of texts that are ASCII
     without the delimiter.
@@ -322,7 +329,8 @@ def build_dense(rows: Mapping[Any, Mapping[Any, int]], delimiter: Key = b"/") ->
     """
     entries = sorted(
         ((key_bytes(prefix), key_bytes(suffix)), value)
-        for prefix, row in rows.items() for suffix, value in row.items())
+        for prefix, row in mapping(rows, "a table of rows").items()
+        for suffix, value in mapping(row, f"the row of {reprlib.repr(prefix)}").items())
     byte = key_bytes(delimiter)
     if len(byte) != 1:
         raise ValueError("the delimiter is one byte")

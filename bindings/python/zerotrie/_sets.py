@@ -5,11 +5,11 @@ from __future__ import annotations
 import ctypes
 import heapq
 import reprlib
-from collections.abc import Callable, Iterable, Iterator, Mapping, Set
+from collections.abc import Iterable, Iterator, Mapping, Set
 from ctypes import addressof, c_size_t, c_uint8
 from itertools import groupby, islice
 from operator import itemgetter
-from typing import TYPE_CHECKING, Any, Optional, TypeVar, Union
+from typing import TYPE_CHECKING, Any, Optional, TypeVar, Union, cast
 
 from ._errors import (
     DUPLICATE_KEY, MALFORMED_TRIE, MIXED_CASE, NON_ASCII, SUM_TOO_LARGE, TEXTS, TOO_SMALL, Kind,
@@ -17,7 +17,8 @@ from ._errors import (
 )
 from ._library import NOTHING, Bytes, RawTrie, lib
 from ._memory import validate
-from ._pairs import MANY_PAIRS, FlatPairs, key_bytes, known_kind
+from ._pairs import MANY_PAIRS, FlatPairs, build, key_bytes, known_kind
+from ._readers import KEYS
 
 if TYPE_CHECKING:
     from . import _Trie
@@ -35,21 +36,13 @@ def kind_of(*given: Any) -> Optional[Kind]:
     return next((kind for kind in special if kind in kinds), None)
 
 
-def finder(kind: Optional[Kind], other: Keyed, is_trie: bool) -> Callable[[Any], bool]:
-    """Whether a key is among those of the other."""
-    if is_trie and kind != Kind.IGNORE_CASE:
-        return other.__contains__
-    if kind == Kind.IGNORE_CASE:
-        folded = {key_bytes(key).lower() for key in other}
-        return lambda key: key_bytes(key).lower() in folded
-    keys = set(map(key_bytes, other))
-    return lambda key: key_bytes(key) in keys
-
-
-def chosen(trie: _Trie[Any], other: Keyed, is_trie: bool, wanted: bool) -> dict[Any, int]:
-    """The pairs of the trie whose keys the other has, or does not have."""
-    has = finder(kind_of(trie, other), other, is_trie)
-    return {key: value for key, value in trie.items() if has(key) is wanted}
+def in_any_case(trie: _Trie[Any], other: Keyed, wanted: bool) -> dict[Any, int]:
+    """The pairs of the trie whose keys the other has in any case, or does not have."""
+    folded = {key_bytes(key).lower() for key in other}
+    return {
+        key: value for key, value in trie.items()
+        if (key_bytes(key).lower() in folded) is wanted
+    }
 
 
 UNION, INTERSECTION, DIFFERENCE, SYMMETRIC_DIFFERENCE = range(4)
@@ -98,6 +91,49 @@ def as_bytes(data: Any) -> _Trie[bytes]:
     return ZeroTrie(data, check=False)
 
 
+def has_capitals(trie: _Trie[Any]) -> bool:
+    """Whether a key has a letter in upper case."""
+    parts = map(b"".join, as_bytes(trie)._parts(KEYS, b""))
+    return any(text != text.lower() for text in parts)
+
+
+def spelled(key: bytes, known: Optional[_Trie[bytes]]) -> bytes:
+    """The key with its beginning as a trie that ignores case has it."""
+    front, cursor = bytearray(), None if known is None or not key.isascii() else known.cursor()
+    for byte in key if cursor else b"":
+        stored = cast(Any, cursor).step(byte)
+        if stored is None:
+            break
+        front.append(stored)
+    return bytes(front) + key[len(front):]
+
+
+def alike(tries: list[_Trie[Any]]) -> list[_Trie[Any]]:
+    """The tries with ASCII keys that are equal if a look-up in any case takes them as one: each
+    beginning is spelled as the first trie has it that has it at all.
+
+    ZeroTrieError, with the place of a trie, if its bytes are malformed, or if two of its keys begin
+    alike up to case.
+    """
+    if not any(map(has_capitals, tries)):
+        return tries
+    check_bytes([trie._lent() for trie in tries])
+    made: list[_Trie[Any]] = []
+    known: Optional[_Trie[bytes]] = None
+    for place, trie in enumerate(map(as_bytes, tries)):
+        pairs = [(spelled(key, known), value) for key, value in trie.items()]
+        words = [pair for pair in pairs if pair[0].isascii()]
+        try:
+            ascii_keys = as_bytes(build(words, Kind.IGNORE_CASE))
+        except ZeroTrieError as error:
+            text = f"{error}: trie {place}"
+            raise ZeroTrieError(text, error.status, key=error.key, index=place) from None
+        made.append(ascii_keys if len(words) == len(pairs) else as_bytes(build(pairs)))
+        both = [ascii_keys] if known is None else [known, ascii_keys]
+        known = as_bytes(combined(UNION, "first", both, Kind.IGNORE_CASE))
+    return made
+
+
 def check_bytes(lent: list[tuple[memoryview, int, int, int]]) -> None:
     """ZeroTrieError, with the place of the first trie whose bytes are malformed."""
     for place, (_, *one) in enumerate(lent):
@@ -135,6 +171,8 @@ def made_of(
     """
     given = list(tries)
     special = kind_of(*given) if kind is None else known_kind(kind)
+    if kind_of(*given) == Kind.IGNORE_CASE:
+        given = alike(given)
     if special is not None:
         return cls(combined(selection, how, given, special), check=False)
     made = cls(combined(selection, how, given, Kind.PERFECT_HASH), check=False)
@@ -164,13 +202,17 @@ def union(tries: Iterable[Trie], how: str = "last", kind: Optional[int] = None) 
     """A trie of the keys of any of the tries, of the class of the first one.
 
     `how` says which value a key gets that more than one trie has: "first", "last", "sum", "min" or
-    "max"; "refuse" makes it an error. Keys are compared as they are stored. All tries are read in
-    one pass. With no kind it is that of auto_kind(), but IGNORE_CASE or EXTENDED_CAPACITY if one of
-    the tries is.
+    "max"; "refuse" makes it an error. All tries are read in one pass. With no kind it is that of
+    auto_kind(), but IGNORE_CASE or EXTENDED_CAPACITY if one of the tries is. Keys are compared as
+    bytes, and letters in either case if one of the tries is IGNORE_CASE: then the first trie that
+    has the beginning of a key says how it is spelled.
 
     >>> a, b = StrTrie.build({"in": 1, "on": 2}), StrTrie.build({"in": 5})
     >>> dict(union([a, b], how="sum"))
     {'in': 6, 'on': 2}
+
+    >>> dict(union([StrTrie.build({"Host": 1}, Kind.IGNORE_CASE), StrTrie.build({"HOST": 2, "on": 3})]))
+    {'Host': 2, 'on': 3}
 
     ZeroTrieError, too, if a sum is 2**64 or more, if bytes are malformed, and for keys that the
     kind refuses.
