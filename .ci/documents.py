@@ -23,7 +23,7 @@ import sources
 
 QUOTING = ["README.md", "docs/CALLING.md"]
 SIGNATURES = "docs/SIGNATURES.md"
-TOGETHER = 27800  # words of all pages
+TOGETHER = 27790  # words of all pages
 # How many words a page may have: words have a letter or a digit, so the bars of a table are none. CHANGELOG.md grows.
 LIMITS = {
     "README.md": 810,
@@ -32,9 +32,9 @@ LIMITS = {
     "bindings/python/README.md": 120,
     "crates/zerotrie_cli/NOTES.md": 670,
     "crates/zerotrie_cli/README.md": 1200,
-    "crates/zerotrie_index/README.md": 480,
+    "crates/zerotrie_index/README.md": 475,
     "crates/zerotrie_reverse/README.md": 320,
-    "crates/zerotrie_search/README.md": 520,
+    "crates/zerotrie_search/README.md": 490,
     "crates/zerotrie_sets/README.md": 260,
     "crates/zerotrie_tool/README.md": 390,
     "docs/ARCHITECTURE.md": 1290,
