@@ -23,7 +23,7 @@ import sources
 
 QUOTING = ["README.md", "docs/CALLING.md"]
 SIGNATURES = "docs/SIGNATURES.md"
-TOGETHER = 27790  # words of all pages
+TOGETHER = 27800  # words of all pages
 # How many words a page may have: words have a letter or a digit, so the bars of a table are none. CHANGELOG.md grows.
 LIMITS = {
     "README.md": 810,
@@ -39,7 +39,7 @@ LIMITS = {
     "crates/zerotrie_tool/README.md": 390,
     "docs/ARCHITECTURE.md": 1290,
     "docs/C.md": 790,
-    "docs/CALLING.md": 2150,
+    "docs/CALLING.md": 2145,
     "docs/CPP.md": 800,
     "docs/DECISIONS.md": 1510,
     "docs/DIFFERENCES.md": 1300,
@@ -48,7 +48,7 @@ LIMITS = {
     "docs/MODEL.md": 1580,
     "docs/PYTHON.md": 845,
     "docs/README.md": 190,
-    "docs/RUST.md": 840,
+    "docs/RUST.md": 820,
     "docs/SPEED.md": 1090,
     "docs/speed/fast.md": 540,
     "docs/speed/tables.md": 1340,
