@@ -301,12 +301,13 @@ class Reference:
         done += self.shared_calls(traits)
         rows = ""
         for block in traits:
-            inner = "".join(f'<pre class="signature">{self.linked(it.text)}</pre>{self.contract(it)}' for it in block.methods if it.kind == "fn")
+            inner = f'<pre class="signature">type Item = {self.linked(block.item)};</pre>' if block.item else ""
+            inner += "".join(f'<pre class="signature">{self.linked(it.text)}</pre>{self.contract(it)}' for it in block.methods if it.kind == "fn")
             rows += f"<details><summary><code>{html.escape(block.header)}</code></summary>{inner}</details>" if inner else \
                 f'<p class="soft"><code>{self.linked(block.header, [name])}</code></p>'
         derived = ", ".join(it for note in item.notes for it in re.findall(r"derive\((.*)\)", note))
         rows += f'<p class="soft">derived: <code>{derived}</code></p>' if derived else ""
-        return done + (f"<h2>Traits</h2>{rows}" if rows else "")
+        return done + (f'<h2 id="traits">Traits</h2>{rows}' if rows else "")
 
     def alias(self, name, of, calls, traits):
         """Returns the calls of a name for a type at one kind: its own, and links to those of the type."""
@@ -319,7 +320,7 @@ class Reference:
         for it, block in calls:
             if block.type != name:
                 rows += f'<tr><td><a href="{self.pages[of]}#{it.name}"><code>{breaking(it.name)}</code></a><td>{self.inline(self.sentence(it.doc))}'
-        done += f"<h2>Calls of {self.linked(of)}</h2><table>{rows}</table>\n"
+        done += f'<h2 id="of-{of}">Calls of {self.linked(of)}</h2><table>{rows}</table>\n'
         return done + self.shared_calls(traits)
 
     def item_page(self, module, name, item):

@@ -29,11 +29,12 @@ def row(reference, item):
     return f"| `{shown(item)}` | {said} |\n"
 
 
-def section(title, items, reference, traits=()):
-    """Returns the table of some calls, each once, and the traits that give more."""
+def section(title, items, reference, traits=(), yields=""):
+    """Returns the table of some calls, each once, and before it what an iterator yields and the traits that give more."""
     rows = "".join(dict.fromkeys(row(reference, it) for it in items))
     table = f"\n| Call | |\n|---|---|\n{rows}" if rows else ""
-    more = f"\nHas the calls of {', '.join(f'`{it}`' for it in traits)}.\n" if traits else ""
+    more = f"\nAn iterator over `{yields}`.\n" if yields else ""
+    more += f"\nHas the calls of {', '.join(f'`{it}`' for it in traits)}.\n" if traits else ""
     return f"\n## {title}\n{more}{table}" if table or more else ""
 
 
@@ -44,7 +45,20 @@ def calls_of(reference, name, item):
     own = reference.public_methods(reference.methods(name, item)[0])
     fields = re.fullmatch(r"pub struct (\w+)(?:<.*>)?(\(pub .*\))", item.text)
     made = [dataclasses.replace(item, text=fields[1] + fields[2])] if fields else []
-    return made + [it for it in item.parts if it.kind == "part"] + [it for it, block in own if block.type == name]
+    calls = [(it, block) for it, block in own if block.type == name]
+    twice = {it.name for it, block in calls if len({other.arguments for it2, other in calls if it2.name == it.name}) > 1}
+    return made + [it for it in item.parts if it.kind == "part"] + [of_kind(it, block) if it.name in twice else it for it, block in calls]
+
+
+def of_kind(item, block):
+    """Returns a call that a type has twice, with the type that it is of in front of its text."""
+    return dataclasses.replace(item, doc=[f"Of `{block.type}<{block.arguments}>`: {' '.join(item.doc)[:1].lower()}{' '.join(item.doc)[1:]}"])
+
+
+def yields(reference, name, item):
+    """Returns the type of what an iterator yields, or nothing."""
+    blocks = reference.methods(name, item)[1] if item.kind == "struct" else []
+    return next((block.item for block in blocks if block.item), "")
 
 
 def traits_of(reference, name, item):
@@ -60,7 +74,7 @@ def text(reference):
         if item.kind == "fn" and not owner.endswith("laws"):
             alone.setdefault(owner, []).append(item)
         if item.kind in ("struct", "enum", "type", "trait"):
-            done += section(f"`{name}` of `{owner}`", calls_of(reference, name, item), reference, traits_of(reference, name, item))
+            done += section(f"`{name}` of `{owner}`", calls_of(reference, name, item), reference, traits_of(reference, name, item), yields(reference, name, item))
     for owner, items in alone.items():
         done += section(f"Functions of `{owner}`", items, reference)
     return done

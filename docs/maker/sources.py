@@ -9,7 +9,7 @@ LINES = dict(re.findall(r"^(\w+)(?: staticlib)?:(.*)", (ROOT / "crates.txt").rea
 BESIDE = ["zerotrie_search", "zerotrie_sets", "zerotrie_index", "zerotrie_sealed", "zerotrie_reverse"]  # crates that users add
 ITEM = re.compile(r"pub (?:const |unsafe )*(fn|struct|enum|trait|type|const|mod) (\w+)")
 MEMBER = re.compile(r"    (?:pub )?(?:const |unsafe )*(fn|const|ghost) (\w+)")
-CLAUSE = re.compile(r"(ensures|requires)\b ?(\w*) ?\{")
+CLAUSE = re.compile(r"(ensures|requires)\b\*? ?(\w*) ?\{")
 
 
 @dataclass
@@ -38,6 +38,7 @@ class Impl:
     trait: str
     methods: list
     file: pathlib.Path
+    item: str = ""  # the type of what an iterator yields
 
 
 @functools.cache
@@ -132,6 +133,13 @@ def members_of(file, lines, start):
     return members
 
 
+def yielded(lines, start):
+    """Returns the type of what an impl block of an iterator yields, or nothing if it is of none."""
+    block = "\n".join(lines[start:]).split("\n}")[0]
+    found = re.search(r"^    type Item = (.*);", block, re.M)
+    return found[1] if found else ""
+
+
 @functools.cache
 def parsed(file):
     """Returns the items and the impl blocks of a file."""
@@ -168,7 +176,8 @@ def parsed(file):
             trait, _, of = bare.partition(" for ") if " for " in bare else ("", "", bare)
             named = re.match(r"(?:&(?:'\w+ )?)?(\w+)(?:<(.*)>)?$", of)
             name, arguments = (named[1], named[2] or "") if named else ("", "")
-            impls.append(Impl(header, name, arguments, trait, members_of(file, lines, number), file))
+            item = yielded(lines, number) if trait == "Iterator" else ""
+            impls.append(Impl(header, name, arguments, trait, members_of(file, lines, number), file, item))
         doc, notes = [], []
     return items, impls
 

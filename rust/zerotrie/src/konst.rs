@@ -4,6 +4,7 @@
 //! `const fn` may. A test compares the two.
 
 use crate::ZeroTrieSimpleAscii;
+use alloc::vec::Vec;
 
 /// The pairs of a build.
 #[derive(Clone, Copy)]
@@ -61,18 +62,45 @@ struct Targets {
     count: usize,
 }
 
-/// An array that is filled from its end.
+/// An array that is filled from its end. It counts all bytes of the trie, also those that have no
+/// room.
 struct Filled<'a, const N: usize> {
     pairs: Pairs<'a>,
     bytes: [u8; N],
-    start: usize,
+    len: usize,
 }
 
-impl<const N: usize> Filled<'_, N> {
+impl<'a, const N: usize> Filled<'a, N> {
+    /// Returns the array with the trie of the pairs at its end.
+    const fn of(pairs: Pairs<'a>) -> Self {
+        let mut i = 1;
+        while i < pairs.len() {
+            assert!(
+                is_below(pairs.key(i - 1), pairs.key(i)),
+                "the keys do not ascend"
+            );
+            i += 1;
+        }
+        let mut filled = Filled {
+            pairs,
+            bytes: [0; N],
+            len: 0,
+        };
+        if pairs.len() > 0 {
+            filled.put_trie(Window {
+                from: 0,
+                to: pairs.len(),
+                depth: 0,
+            });
+        }
+        filled
+    }
+
     const fn put(&mut self, byte: u8) {
-        assert!(self.start > 0, "the array is too small for the trie");
-        self.start -= 1;
-        self.bytes[self.start] = byte;
+        self.len += 1;
+        if self.len <= N {
+            self.bytes[N - self.len] = byte;
+        }
     }
 
     const fn put_ascii(&mut self, byte: u8) {
@@ -132,9 +160,9 @@ impl<const N: usize> Filled<'_, N> {
     }
 
     const fn put_branch(&mut self, window: Window) {
-        let end = self.start;
+        let end = self.len;
         let targets = self.put_targets(window);
-        let width = ((end - self.start).ilog2() / 8) as usize;
+        let width = ((self.len - end).ilog2() / 8) as usize;
         assert!(width < 4, "Reached maximum capacity of trie");
         let mut plane = 0;
         while plane <= width {
@@ -162,14 +190,14 @@ impl<const N: usize> Filled<'_, N> {
             while from > window.from && self.pairs.key(from - 1)[window.depth] == edge {
                 from -= 1;
             }
-            let end = self.start;
+            let end = self.len;
             self.put_trie(Window {
                 from,
                 to,
                 depth: window.depth + 1,
             });
             targets.edges[targets.count] = edge;
-            targets.lens[targets.count] = end - self.start;
+            targets.lens[targets.count] = self.len - end;
             targets.count += 1;
             to = from;
         }
@@ -194,33 +222,45 @@ impl<const N: usize> Filled<'_, N> {
 }
 
 const fn built<const N: usize>(pairs: Pairs<'_>) -> [u8; N] {
-    let mut i = 1;
-    while i < pairs.len() {
-        assert!(
-            is_below(pairs.key(i - 1), pairs.key(i)),
-            "the keys do not ascend"
-        );
-        i += 1;
+    let filled = Filled::<N>::of(pairs);
+    if filled.len != N {
+        wrong_length(filled.len);
     }
-    let mut filled = Filled {
-        pairs,
-        bytes: [0; N],
-        start: N,
-    };
-    if pairs.len() > 0 {
-        filled.put_trie(Window {
-            from: 0,
-            to: pairs.len(),
-            depth: 0,
-        });
-    }
-    assert!(filled.start == 0, "the array is too large for the trie");
     filled.bytes
+}
+
+const fn len_of(pairs: Pairs<'_>) -> usize {
+    Filled::<0>::of(pairs).len
+}
+
+/// Panics with the length that the array should have, which no `const fn` can format.
+const fn wrong_length(len: usize) -> ! {
+    const SAID: &[u8] = b"the array must have the trie's length: ";
+    let mut text = [0; SAID.len() + 20];
+    let mut end = 0;
+    while end < SAID.len() {
+        text[end] = SAID[end];
+        end += 1;
+    }
+    let mut unit = 1;
+    while len / unit >= 10 {
+        unit *= 10;
+    }
+    while unit > 0 {
+        text[end] = b'0' + (len / unit % 10) as u8;
+        unit /= 10;
+        end += 1;
+    }
+    match core::str::from_utf8(text.split_at(end).0) {
+        Ok(text) => panic!("{}", text),
+        Err(_) => panic!("the array must have the trie's length"),
+    }
 }
 
 impl<const N: usize> ZeroTrieSimpleAscii<[u8; N]> {
     /// Builds a trie in a constant, from pairs whose keys ascend by their bytes. `N` is the length
-    /// of the trie, as [`encoded_len`](ZeroTrieSimpleAscii::encoded_len) returns it.
+    /// of the trie, as [`len_of_sorted_u8_tuples`](ZeroTrieSimpleAscii::len_of_sorted_u8_tuples)
+    /// returns it, or the message of this function.
     ///
     /// ```
     /// use zerotrie::ZeroTrieSimpleAscii;
@@ -230,13 +270,13 @@ impl<const N: usize> ZeroTrieSimpleAscii<[u8; N]> {
     /// assert_eq!(TRIE.get("abcxy"), Some(1));
     /// ```
     ///
-    /// This function and the next one are not made from the proved sources: they are written by
+    /// This function and the next ones are not made from the proved sources: they are written by
     /// hand, and tests compare their bytes with those of the other builders.
     ///
     /// # Panics
     ///
     /// If the keys do not strictly ascend, a key is not ASCII, or the trie has another length than
-    /// `N`. In a constant that is an error of the compiler.
+    /// `N`: the message says which. In a constant that is an error of the compiler.
     pub const fn from_sorted_u8_tuples(tuples: &[(&[u8], usize)]) -> Self {
         Self::from_store(built(Pairs::Bytes(tuples)))
     }
@@ -247,9 +287,20 @@ impl<const N: usize> ZeroTrieSimpleAscii<[u8; N]> {
     /// ```
     /// use zerotrie::ZeroTrieSimpleAscii;
     ///
-    /// const TRIE: ZeroTrieSimpleAscii<[u8; 7]> =
-    ///     ZeroTrieSimpleAscii::from_sorted_str_tuples(&[("abc", 2), ("abcxy", 1)]);
+    /// const WORDS: &[(&str, usize)] = &[("abc", 2), ("abcxy", 1)];
+    /// const LEN: usize = ZeroTrieSimpleAscii::len_of_sorted_str_tuples(WORDS);
+    ///
+    /// static TRIE: ZeroTrieSimpleAscii<[u8; LEN]> =
+    ///     ZeroTrieSimpleAscii::from_sorted_str_tuples(WORDS);
     /// assert_eq!(TRIE.get("abc"), Some(2));
+    /// ```
+    ///
+    /// ```compile_fail
+    /// use zerotrie::ZeroTrieSimpleAscii;
+    ///
+    /// // error: the array must have the trie's length: 7
+    /// static TRIE: ZeroTrieSimpleAscii<[u8; 8]> =
+    ///     ZeroTrieSimpleAscii::from_sorted_str_tuples(&[("abc", 2), ("abcxy", 1)]);
     /// ```
     ///
     /// # Panics
@@ -260,10 +311,33 @@ impl<const N: usize> ZeroTrieSimpleAscii<[u8; N]> {
     }
 }
 
+impl ZeroTrieSimpleAscii<Vec<u8>> {
+    /// Returns the length of the array that
+    /// [`from_sorted_u8_tuples`](ZeroTrieSimpleAscii::from_sorted_u8_tuples) fills, in a constant.
+    ///
+    /// # Panics
+    ///
+    /// As [`from_sorted_u8_tuples`](ZeroTrieSimpleAscii::from_sorted_u8_tuples), but for the length.
+    pub const fn len_of_sorted_u8_tuples(tuples: &[(&[u8], usize)]) -> usize {
+        len_of(Pairs::Bytes(tuples))
+    }
+
+    /// Returns the length of the array that
+    /// [`from_sorted_str_tuples`](ZeroTrieSimpleAscii::from_sorted_str_tuples) fills, in a constant.
+    ///
+    /// # Panics
+    ///
+    /// As [`from_sorted_u8_tuples`](ZeroTrieSimpleAscii::from_sorted_u8_tuples), but for the length.
+    pub const fn len_of_sorted_str_tuples(tuples: &[(&str, usize)]) -> usize {
+        len_of(Pairs::Strings(tuples))
+    }
+}
+
 #[cfg(test)]
 mod tests {
+    extern crate std;
+
     use super::*;
-    use alloc::vec::Vec;
 
     /// Pairs whose keys ascend, of letters that a number gives.
     fn pairs(seed: u64, letters: &[u8], count: usize) -> Vec<(Vec<u8>, usize)> {
@@ -299,20 +373,28 @@ mod tests {
                 .iter()
                 .map(|(key, value)| (key.as_slice(), *value))
                 .collect();
-            let mut filled = Filled {
-                pairs: Pairs::Bytes(&pairs),
-                bytes: [0; 16384],
-                start: 16384,
-            };
-            if !pairs.is_empty() {
-                filled.put_trie(Window {
-                    from: 0,
-                    to: pairs.len(),
-                    depth: 0,
-                });
-            }
+            let filled = Filled::<16384>::of(Pairs::Bytes(&pairs));
             let built = ZeroTrieSimpleAscii::try_from_sorted_slice(&pairs).unwrap();
-            assert_eq!(&filled.bytes[filled.start..], built.as_bytes());
+            assert_eq!(&filled.bytes[16384 - filled.len..], built.as_bytes());
+            assert_eq!(len_of(Pairs::Bytes(&pairs)), built.byte_len());
+        }
+    }
+
+    #[test]
+    fn a_wrong_length_says_the_right_one() {
+        for (len, said) in [
+            (0, "0"),
+            (7, "7"),
+            (10, "10"),
+            (16384, "16384"),
+            (usize::MAX, "18446744073709551615"),
+        ] {
+            let panic = std::panic::catch_unwind(|| wrong_length(len)).unwrap_err();
+            let text = panic.downcast_ref::<alloc::string::String>().unwrap();
+            assert_eq!(
+                text,
+                &alloc::format!("the array must have the trie's length: {said}")
+            );
         }
     }
 }
