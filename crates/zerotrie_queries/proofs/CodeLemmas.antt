@@ -150,7 +150,7 @@ c_end_read : (call name : List ℕ) → ((rest : List ℕ) → numbers_after ins
 c_end_read call name read is =
     let less = codes "_bytes - 1;\n" in
     let size = codes "_len = sizeof " ++ (name ++ less) in
-    let last = codes "_len, key, key_len, value);\n}\n" in
+    let last = codes "_len, (const uint8_t *)key, key_len, value);\n}\n" in
     let len = codes "_bytes, " ++ (name ++ last) in
     let bytes = codes "_kind, " ++ (name ++ len) in
     let get = c_get call name in

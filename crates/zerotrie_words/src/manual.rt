@@ -35,6 +35,7 @@ fn add(page: &mut String, text: &str) -> Result<(), AllocError> {
         match letter {
             '\\' => page.push_str("\\e")?,
             '-' => page.push_str("\\-")?,
+            '\'' => page.push_str("\\(aq")?,
             _ => page.push(letter)?,
         }
     }
@@ -157,12 +158,15 @@ fn add_command(page: &mut String, row: &Subcommand) -> Result<(), AllocError> {
     add_lines(page, row.help)
 }
 
-/// Adds the example of a command.
-fn add_example(page: &mut String, row: &Subcommand) -> Result<(), AllocError> {
-    let first = row.help.lines().next().unwrap_or("");
-    let example = first.strip_prefix("Example: ").unwrap_or(first);
-    add_in(page, ".PP\n", row.about, ":\n.PP\n.RS\n")?;
-    add_in(page, "\\fB", example, "\\fR\n.RE\n")
+/// Adds the examples of a command.
+fn add_examples(page: &mut String, row: &Subcommand) -> Result<(), AllocError> {
+    add_in(page, ".PP\n", row.about, ":\n")?;
+    for line in row.help.lines() {
+        if let Some(example) = line.strip_prefix("Example: ") {
+            add_in(page, ".PP\n.RS\n\\fB", example, "\\fR\n.RE\n")?;
+        }
+    }
+    Ok(())
 }
 
 /// Returns the page.
@@ -185,7 +189,7 @@ pub fn manual(alloc: Global, rows: &[&'static [Subcommand]]) -> Result<String, A
     page.push_str(".SH EXAMPLES\n")?;
     for part in rows {
         for row in *part {
-            add_example(&mut page, row)?;
+            add_examples(&mut page, row)?;
         }
     }
     page.push_str(OPTIONS)?;

@@ -30,7 +30,21 @@ const GREATEST: u64 = u64::MAX;
 const FILES: Argument = Argument {
     name: "FILE",
     form: Form::Words,
-    help: "Tries, one after the other, or - for standard input",
+    help: "Tries, one after the other; - is standard input",
+};
+
+/// The files of tries or indexes, one after the other.
+const ALL_FILES: Argument = Argument {
+    name: "FILE",
+    form: Form::Words,
+    help: "Tries and indexes, one after the other; - is standard input",
+};
+
+/// The file of a trie or an index.
+const ANY_FILE: Argument = Argument {
+    name: "FILE",
+    form: Form::Place,
+    help: "A trie or an index, or - for standard input",
 };
 
 /// The file of a trie.
@@ -61,13 +75,13 @@ const PREFIX: Argument = Argument {
 const FROM: Argument = Argument {
     name: "from",
     form: Form::AnyText("A", None),
-    help: "Only keys from this one on, by their bytes",
+    help: "Only keys from this one on, by their bytes; in kind ignore by those in lower case",
 };
 
 const BELOW: Argument = Argument {
     name: "below",
     form: Form::AnyText("B", None),
-    help: "Only keys below this one, by their bytes",
+    help: "Only keys below this one, by their bytes; in kind ignore by those in lower case",
 };
 
 /// How keys and texts are written.
@@ -93,7 +107,7 @@ const LIMIT: Argument = Argument {
 const COUNT: Argument = Argument {
     name: "count",
     form: Form::Flag(Some('c')),
-    help: "Print how many pairs there are",
+    help: "Print only how many pairs there are",
 };
 
 const RAW: Argument = Argument {
@@ -105,7 +119,7 @@ const RAW: Argument = Argument {
 const SORTED: Argument = Argument {
     name: "sorted",
     form: Form::Flag(Some('S')),
-    help: "Print the pairs in the order of the keys' bytes",
+    help: "Print the pairs in the order of the keys' bytes, as LC_ALL=C sort does",
 };
 
 /// The file that is made.
@@ -248,7 +262,7 @@ const LOOK_UPS: &[Subcommand] = &[
             Argument {
                 name: "sorted",
                 form: Form::Flag(Some('s')),
-                help: "Refuse keys that do not ascend by their bytes",
+                help: "Refuse keys that do not ascend by their bytes, as after LC_ALL=C sort",
             },
             KIND,
             TAGGED,
@@ -272,7 +286,7 @@ const LOOK_UPS: &[Subcommand] = &[
         help: "Example: zerotrie get names.trie amp lt\n\
             Status: 1 if a key is not there, 2 if FILE is no trie or index.",
         arguments: &[
-            FILE,
+            ANY_FILE,
             Argument {
                 name: "KEY",
                 form: Form::Words,
@@ -348,32 +362,35 @@ const LISTINGS: &[Subcommand] = &[
         name: "search",
         about: "Print the pairs whose keys match a pattern or are near a word",
         help: "Example: zerotrie search names.trie --fuzzy ampersend\n\
+            Example: zerotrie search names.trie --fuzzy amp --edits 2 --limit 5 --distance\n\
+            Example: zerotrie search names.trie --glob '{l,g}t*' --not '*;'\n\
+            Example: zerotrie search names.trie --prefix su --subsequence sq --sorted\n\
             All conditions hold: one of --glob, --fuzzy and --subsequence beside --not,\n\
             --prefix, --from and --below, or these alone. With --edits the nearest\n\
             keys come first; without it those of the fewest edits that find any,\n\
-            up to 2, are printed.\n\
+            up to 2, are printed. In kind ignore a letter is found in either case.\n\
             Status: 0 also if no key is found, 2 if FILE is no trie.",
         arguments: &[
             FILE,
             Argument {
                 name: "glob",
                 form: Form::AnyText("P", Some('g')),
-                help: "Keys that match *, ?, [a-z], [!a-z], {a,b} and \\ before any of these",
+                help: "Keys that match as a whole; * is any characters, ? one, [a-z] or [!a-z] one of a class, {a,b} either, and \\ takes the next as it is",
             },
             Argument {
                 name: "fuzzy",
                 form: Form::AnyText("WORD", Some('z')),
-                help: "Keys that few edits make of this word of at most 63 characters",
+                help: "Keys that few edits make of this word, of at most 63 characters",
             },
             Argument {
                 name: "edits",
                 form: Form::Number("E", Some('e'), 254),
-                help: "How many characters --fuzzy may insert, delete, change or swap",
+                help: "How many characters --fuzzy may insert, delete, change or swap with the next; at most 7, with --no-transpose 254",
             },
             Argument {
                 name: "no-transpose",
                 form: Form::Flag(None),
-                help: "Two characters that change places are two edits",
+                help: "Count two characters that change places as two edits",
             },
             Argument {
                 name: "bytes",
@@ -383,7 +400,7 @@ const LISTINGS: &[Subcommand] = &[
             Argument {
                 name: "beginnings",
                 form: Form::Flag(None),
-                help: "Keys that begin with what --fuzzy finds",
+                help: "Find keys that begin with what --fuzzy looks for",
             },
             Argument {
                 name: "distance",
@@ -393,7 +410,7 @@ const LISTINGS: &[Subcommand] = &[
             Argument {
                 name: "subsequence",
                 form: Form::AnyText("S", Some('s')),
-                help: "Keys that have these bytes in this order",
+                help: "Keys that have these bytes in this order, with any others between",
             },
             Argument {
                 name: "not",
@@ -450,12 +467,14 @@ const REPORTS: &[Subcommand] = &[
         name: "verify",
         about: "Test all bytes, and print nothing if they are a trie or an index",
         help: "Example: zerotrie verify *.trie\nStatus: 2 if a FILE is no trie or index.",
-        arguments: &[FILES, BARE],
+        arguments: &[ALL_FILES, BARE],
     },
     Subcommand {
         name: "stats",
         about: "Print what the trie is made of",
-        help: "Example: zerotrie stats names.trie --json\nStatus: 2 if a FILE is no trie.",
+        help: "Example: zerotrie stats names.trie --json\n\
+            Its bytes are those of the trie, without what a file has in front.\n\
+            Status: 2 if a FILE is no trie.",
         arguments: &[
             FILES,
             Argument {
@@ -501,7 +520,7 @@ const REPORTS: &[Subcommand] = &[
             Argument {
                 name: "name",
                 form: Form::Text("NAME", None, Otherwise::Nothing),
-                help: "The name of what is made, else TRIE, get and trie",
+                help: "The name of what is made, else TRIE in rust, get in rattle, and trie",
             },
             Argument {
                 name: "alone",

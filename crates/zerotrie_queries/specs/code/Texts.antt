@@ -77,11 +77,11 @@ c_len name =
 
 -- the parameters of the function of C, and the call in it: of the library
 abbrev pub c_call : List ℕ
-c_call = codes "_get(const uint8_t *key, size_t key_len, size_t *value) {\n    return zerotrie_get("
+c_call = codes "_get(const void *key, size_t key_len, size_t *value) {\n    return zerotrie_get("
 
 -- and of the reader
 abbrev pub alone_call : List ℕ
-alone_call = codes "_get(const uint8_t *key, size_t key_len, uint64_t *value) {\n    return zerotrie_read_get("
+alone_call = codes "_get(const void *key, size_t key_len, uint64_t *value) {\n    return zerotrie_read_get("
 
 -- the function of C, with its parameters and the call in it
 abbrev pub c_get : List ℕ → List ℕ → List ℕ
@@ -90,7 +90,7 @@ c_get call name =
     ++ (call ++ (name
     ++ (codes "_kind, " ++ (name
     ++ (codes "_bytes, " ++ (name
-    ++ codes "_len, key, key_len, value);\n}\n")))))))
+    ++ codes "_len, (const uint8_t *)key, key_len, value);\n}\n")))))))
 
 -- what C has after the bytes
 abbrev pub c_end : List ℕ → List ℕ → List ℕ

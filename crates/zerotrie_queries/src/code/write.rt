@@ -16,13 +16,14 @@ use std::io::Write;
 use zerotrie_core::{TrieKind, TrieRef};
 use zerotrie_files::Noted;
 
-/// The parameters of the function of C, and the call of the library in it.
+/// The parameters of the function of C, whose key may be a string of C, and the call of the library
+/// in it.
 const C_CALL: &str =
-    "_get(const uint8_t *key, size_t key_len, size_t *value) {\n    return zerotrie_get(";
+    "_get(const void *key, size_t key_len, size_t *value) {\n    return zerotrie_get(";
 
 /// The same with the call of the reader.
 const ALONE_CALL: &str =
-    "_get(const uint8_t *key, size_t key_len, uint64_t *value) {\n    return zerotrie_read_get(";
+    "_get(const void *key, size_t key_len, uint64_t *value) {\n    return zerotrie_read_get(";
 
 fn add_rust_front(text: &mut Vec<u8>, kind: TrieKind, name: &str) -> Result<(), AllocError>
     ensures { OnOk result (text.new.items ≡ text.old.items ++ rust_front kind name.now) }
@@ -87,7 +88,7 @@ fn add_c_get(text: &mut Vec<u8>, call: &str, name: &str) -> Result<(), AllocErro
         text,
         "
 /* Whether the trie has the key. If so, writes its value. */
-static inline bool {name}{call}{name}_kind, {name}_bytes, {name}_len, key, key_len, value);
+static inline bool {name}{call}{name}_kind, {name}_bytes, {name}_len, (const uint8_t *)key, key_len, value);
 }}
 "
     )

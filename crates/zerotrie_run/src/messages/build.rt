@@ -25,7 +25,7 @@ fn refused(error: &ZeroTrieBuildError) -> &'static str {
             "the trie would be too long for its kind: take --kind ext, or fewer pairs"
         }
         ZeroTrieBuildError::CouldNotSolvePerfectHash => {
-            "no hashed table was found for the bytes that keys go on with at some place, as happens if these are random: take --kind simple if all keys are ASCII, or other keys, as their hexadecimal digits"
+            "no hashed table was found for the bytes that keys go on with at some place, as happens if these are random: take --index for get and verify alone, --kind simple if all keys are ASCII, or other keys, as their hexadecimal digits"
         }
         _ => "the build of the pairs is refused",
     }
