@@ -54,6 +54,11 @@ first_line [] some = absurd (some refl)
 first_line (b ∷ []) some = by_first b [] refl (is_feed b) refl
 first_line (b ∷ c ∷ more) some = by_first b (c ∷ more) (ap (onto_line b) (first_line (c ∷ more) (λ e. absurd (cc)))) (is_feed b) refl
 
+-- behind the first line are the others
+pub lines_behind : (input : List ℕ) → lines_of (after_first is_feed input) ≡ drop 1 (lines_of input)
+lines_behind [] = refl
+lines_behind (b ∷ input) = sym (ap (drop 1) (first_line (b ∷ input) (λ e. absurd (cc))))
+
 pub first_lines : (rest line after : List ℕ) → rest ≢ [] → line ≡ before_first is_feed rest → after ≡ after_first is_feed rest → lines_of rest ≡ line ∷ lines_of after
 first_lines rest line after some is are = rw (is, are) (first_line rest some)
 

@@ -7,44 +7,44 @@ use Rattle.zerotrie_lines.specs.Reads.{IsPairIn, ReadsLines, tabbed, IsBadLine, 
 use Rattle.zerotrie_lines.specs.declared.reading.Format.{Format}
 use Rattle.zerotrie_lines.specs.declared.fault.BadLine.{BadLine}
 
--- The lines are the pairs so far, and then what the rest is, from line n on.
-pub record ReadTo (format : Format) (all : List (List ℕ)) (pairs : Pairs) (n : ℕ) (rest : List (List ℕ)) : Type 0 where
-  pub join : (more : Pairs) → ReadsLines format n rest more → ReadsLines format 1 all (pairs ++ more)
+-- The lines, the first with this number, are the pairs so far, and then what the rest is, from line n on.
+pub record ReadTo (first : ℕ) (format : Format) (all : List (List ℕ)) (pairs : Pairs) (n : ℕ) (rest : List (List ℕ)) : Type 0 where
+  pub join : (more : Pairs) → ReadsLines format n rest more → ReadsLines format first all (pairs ++ more)
 
 -- A line of the rest that is none is one of all lines.
-pub record GoodTo (raw : Bool) (all : List (List ℕ)) (n : ℕ) (rest : List (List ℕ)) : Type 0 where
-  pub bad : (m : ℕ) (fault : BadLine) → IsBadLine raw n rest m fault → IsBadLine raw 1 all m fault
+pub record GoodTo (first : ℕ) (raw : Bool) (all : List (List ℕ)) (n : ℕ) (rest : List (List ℕ)) : Type 0 where
+  pub bad : (m : ℕ) (fault : BadLine) → IsBadLine raw n rest m fault → IsBadLine raw first all m fault
 
 -- a line with a tab that is a pair is one of its format
 pub tabbed_pair : (raw : Bool) (n : ℕ) (line : List ℕ) (e : Pair) → IsPairLine raw line e → IsPairIn (tabbed raw) n line e
 tabbed_pair true n line e h = h
 tabbed_pair false n line e h = h
 
-pub read_none : (format : Format) (all : List (List ℕ)) → ReadTo format all [] 1 all
-read_none format all = record { join = λ more h. h }
+pub read_none : (first : ℕ) (format : Format) (all : List (List ℕ)) → ReadTo first format all [] first all
+read_none first format all = record { join = λ more h. h }
 
-pub good_none : (raw : Bool) (all : List (List ℕ)) → GoodTo raw all 1 all
-good_none raw all = record { bad = λ m fault h. h }
+pub good_none : (first : ℕ) (raw : Bool) (all : List (List ℕ)) → GoodTo first raw all first all
+good_none first raw all = record { bad = λ m fault h. h }
 
-pub read_more : (format : Format) (all rest after : List (List ℕ)) (pairs : Pairs) (n : ℕ) (line : List ℕ) (e : Pair) → ReadTo format all pairs n rest
-    → rest ≡ line ∷ after → IsPairIn format n line e → ReadTo format all (pairs ++ e ∷ []) (n + 1) after
-read_more format all rest after pairs n line e r is pair = record {
-  join = λ more h. subst (λ p. ReadsLines format 1 all p) (sym (append_assoc pairs (e ∷ []) more))
+pub read_more : (first : ℕ) (format : Format) (all rest after : List (List ℕ)) (pairs : Pairs) (n : ℕ) (line : List ℕ) (e : Pair) → ReadTo first format all pairs n rest
+    → rest ≡ line ∷ after → IsPairIn format n line e → ReadTo first format all (pairs ++ e ∷ []) (n + 1) after
+read_more first format all rest after pairs n line e r is pair = record {
+  join = λ more h. subst (λ p. ReadsLines format first all p) (sym (append_assoc pairs (e ∷ []) more))
       (r.join (e ∷ more) (subst (λ lines. ReadsLines format n lines (e ∷ more)) (sym is) (pair, h)));
 }
 
-pub good_more : (raw : Bool) (all rest after : List (List ℕ)) (n : ℕ) (line : List ℕ) (e : Pair) → GoodTo raw all n rest
-    → rest ≡ line ∷ after → IsPairLine raw line e → GoodTo raw all (n + 1) after
-good_more raw all rest after n line e r is pair = record {
+pub good_more : (first : ℕ) (raw : Bool) (all rest after : List (List ℕ)) (n : ℕ) (line : List ℕ) (e : Pair) → GoodTo first raw all n rest
+    → rest ≡ line ∷ after → IsPairLine raw line e → GoodTo first raw all (n + 1) after
+good_more first raw all rest after n line e r is pair = record {
   bad = λ m fault h. r.bad m fault (subst (λ lines. IsBadLine raw n lines m fault) (sym is) (inr (e, pair, h)));
 }
 
-pub read_all : (format : Format) (all rest : List (List ℕ)) (pairs : Pairs) (n : ℕ) → ReadTo format all pairs n rest → rest ≡ [] → ReadsLines format 1 all pairs
-read_all format all rest pairs n r none = subst (λ p. ReadsLines format 1 all p) (append-nil pairs) (r.join [] (subst (λ lines. ReadsLines format n lines []) (sym none) tt))
+pub read_all : (first : ℕ) (format : Format) (all rest : List (List ℕ)) (pairs : Pairs) (n : ℕ) → ReadTo first format all pairs n rest → rest ≡ [] → ReadsLines format first all pairs
+read_all first format all rest pairs n r none = subst (λ p. ReadsLines format first all p) (append-nil pairs) (r.join [] (subst (λ lines. ReadsLines format n lines []) (sym none) tt))
 
-pub read_bad : (raw : Bool) (all rest after : List (List ℕ)) (n : ℕ) (line : List ℕ) (fault : BadLine) → GoodTo raw all n rest
-    → rest ≡ line ∷ after → IsLineFault raw line fault → IsBadLine raw 1 all n fault
-read_bad raw all rest after n line fault r is h = r.bad n fault (subst (λ lines. IsBadLine raw n lines n fault) (sym is) (inl (refl, h)))
+pub read_bad : (first : ℕ) (raw : Bool) (all rest after : List (List ℕ)) (n : ℕ) (line : List ℕ) (fault : BadLine) → GoodTo first raw all n rest
+    → rest ≡ line ∷ after → IsLineFault raw line fault → IsBadLine raw first all n fault
+read_bad first raw all rest after n line fault r is h = r.bad n fault (subst (λ lines. IsBadLine raw n lines n fault) (sym is) (inl (refl, h)))
 
 -- some line of the first and more
 pub any_first : (Fact : List ℕ → Type 0) (line : List ℕ) (lines : List (List ℕ)) → Fact line → Any Fact (line ∷ lines)

@@ -1,5 +1,5 @@
 -- Records that are read one after another.
-use Rattle.std.proofs.Common.{◌≡◌, ◌∙◌, length-append, ℕ, List, [], ◌∷◌, ◌++◌, length, refl, sym, ap, arith, subst, Option, Some, None}
+use Rattle.std.proofs.Common.{◌≡◌, ◌≤◌, ◌<◌, ◌∙◌, length-append, ℕ, List, [], ◌∷◌, ◌++◌, length, refl, sym, ap, arith, subst, Option, Some, None}
 use Rattle.std.specs.Prelude.{◌≢◌}
 use Rattle.csv.specs.Records.{field_at}
 use Rattle.std.proofs.lemmas.List.{append-nil}
@@ -10,6 +10,9 @@ use Rattle.csv.specs.declared.parser.State.{State}
 use Rattle.zerotrie_lines.specs.Numbers.{IsNumber}
 use Rattle.zerotrie_lines.specs.Tables.{Pair, Pairs}
 use Rattle.zerotrie_lines.specs.Records.{Fields, IsPairRecord, ArePairRecords, config_of}
+use Rattle.zerotrie_lines.specs.Lines.{behind, header_rows}
+use Rattle.zerotrie_lines.specs.declared.reading.Header.{Header}
+use Rattle.zerotrie_lines.specs.declared.reading.Header.TheVariants.{Absent, Present}
 use Rattle.zerotrie_lines.specs.declared.reading.LineEnd.{LineEnd}
 use Rattle.zerotrie_lines.specs.declared.reading.LineEnd.TheVariants.{CrLf, Lf}
 
@@ -51,6 +54,23 @@ two_fields (a ∷ b ∷ f ∷ row) key digits two first second = absurd (omega (
 -- the pair of a record
 pub pair_record : (row : Fields) (key digits : List ℕ) (value : ℕ) → row ≡ key ∷ digits ∷ [] → IsNumber digits value → IsPairRecord row (key, value)
 pair_record row key digits value is number = subst (λ r. IsPairRecord r (key, value)) (sym is) (refl, number)
+
+-- what is behind the header, if there is more than that
+pub behind_more : {A : Type 0} (header : Header) (rows more : List A) → header_rows header ≤ length rows → behind header (rows ++ more) ≡ behind header rows ++ more
+behind_more Absent rows more h = refl
+behind_more Present [] more h = absurd (omega (arith, h))
+behind_more Present (row ∷ rows) more h = refl
+
+-- nothing is behind nothing
+pub behind_nothing : (header : Header) → behind {A = Fields} header [] ≡ []
+behind_nothing Absent = refl
+behind_nothing Present = refl
+
+-- what is before it: the header alone, of which no pair is read
+pub none_behind : (header : Header) (rows : List Fields) (row : Fields) → length rows < header_rows header → behind header (rows ++ row ∷ []) ≡ behind header rows
+none_behind Absent rows row h = absurd (omega (arith, h))
+none_behind Present [] row h = refl
+none_behind Present (first ∷ rows) row h = absurd (omega (arith, h))
 
 read_is : (p q : Read) (r : Option Read) → r ≡ Some p → r ≡ Some q → q ≡ p
 read_is p q r a b = ap (inside p) (sym b ∙ a)

@@ -6,6 +6,8 @@ use Rattle.zerotrie_lines.specs.Lines.{tsv_lines}
 use Rattle.zerotrie_lines.specs.Reads.{Reads, Explains}
 use Rattle.zerotrie_lines.specs.declared.reading.Format.{Format}
 use Rattle.zerotrie_lines.specs.declared.reading.Format.TheVariants.{Tsv}
+use Rattle.zerotrie_lines.specs.declared.reading.Header.{Header}
+use Rattle.zerotrie_lines.specs.declared.reading.Header.TheVariants.{Absent}
 use Rattle.zerotrie_lines.specs.declared.reading.LineEnd.{LineEnd}
 use Rattle.zerotrie_lines.specs.declared.fault.BadLine.{BadLine}
 use Rattle.zerotrie_lines.specs.declared.fault.ReadError.TheVariants.{Line}
@@ -16,13 +18,13 @@ EscapedReadsBack = (key other : List ℕ) → Spells (escaped key) other ↔ (ot
 
 -- the lines of pairs whose values are below 2 ^ 64 are these pairs
 abbrev pub LinesReadBack : Type 0
-LinesReadBack = (end : LineEnd) (pairs : Pairs) → All (λ e. e.1 < 2 ^ 64) pairs → Reads Tsv end (tsv_lines pairs) pairs
+LinesReadBack = (end : LineEnd) (pairs : Pairs) → All (λ e. e.1 < 2 ^ 64) pairs → Reads Tsv end Absent (tsv_lines pairs) pairs
 
 -- an input is one list of pairs at most
 abbrev pub OneReading : Type 0
-OneReading = (format : Format) (end : LineEnd) (input : List ℕ) (pairs others : Pairs) → Reads format end input pairs → Reads format end input others → others ≡ pairs
+OneReading = (format : Format) (end : LineEnd) (header : Header) (input : List ℕ) (pairs others : Pairs) → Reads format end header input pairs → Reads format end header input others → others ≡ pairs
 
 -- an input with a line or record that is no pair is no pairs
 abbrev pub BadIsUnread : Type 0
-BadIsUnread = (format : Format) (end : LineEnd) (input : List ℕ) (number : ℕ) (fault : BadLine) (pairs : Pairs)
-    → Explains format end input (Line number fault) → Reads format end input pairs → ⊥
+BadIsUnread = (format : Format) (end : LineEnd) (header : Header) (input : List ℕ) (number : ℕ) (fault : BadLine) (pairs : Pairs)
+    → Explains format end header input (Line number fault) → Reads format end header input pairs → ⊥

@@ -1,10 +1,12 @@
 -- The lines of an input, and which of them are pairs.
-use Rattle.std.specs.Prelude.{◌≡◌, ℕ, ◌⊎◌, ◌<◌, ◌==◌, Bool, true, false, List, [], ◌∷◌, ◌++◌, length, map, decimal, if◌then◌else◌}
+use Rattle.std.specs.Prelude.{◌≡◌, ℕ, ◌⊎◌, ◌<◌, ◌==◌, Bool, true, false, List, [], ◌∷◌, ◌++◌, length, drop, map, decimal, if◌then◌else◌}
 use Rattle.std.specs.List.{before_first, after_first, position_or_len}
 use Rattle.csv.specs.Reading.{strip_bom}
 use Rattle.zerotrie_lines.specs.Numbers.{IsNumber}
 use Rattle.zerotrie_lines.specs.Escapes.{Spells, escaped}
 use Rattle.zerotrie_lines.specs.Tables.{Pair, Pairs}
+use Rattle.zerotrie_lines.specs.declared.reading.Header.{Header}
+use Rattle.zerotrie_lines.specs.declared.reading.Header.TheVariants.{Absent, Present}
 use Rattle.zerotrie_lines.specs.declared.reading.LineEnd.{LineEnd}
 use Rattle.zerotrie_lines.specs.declared.reading.LineEnd.TheVariants.{CrLf, Lf}
 
@@ -40,9 +42,19 @@ ended Lf line = line
 abbrev pub ended_lines : LineEnd → List ℕ → List (List ℕ)
 ended_lines end text = map (ended end) (lines_of text)
 
--- The lines of an input: a byte order mark in front of it is left out, and so is what ends a line.
-abbrev pub text_lines : LineEnd → List ℕ → List (List ℕ)
-text_lines end input = ended_lines end (strip_bom input)
+-- how many lines or records the header is
+abbrev pub header_rows : Header → ℕ
+header_rows Absent = 0
+header_rows Present = 1
+
+-- the lines or records behind the header
+abbrev pub behind : {A : Type 0} → Header → List A → List A
+behind Absent rows = rows
+behind Present rows = drop 1 rows
+
+-- The lines of an input that are to be pairs: a byte order mark in front of it is left out, and so are the header, and what ends a line.
+abbrev pub text_lines : LineEnd → Header → List ℕ → List (List ℕ)
+text_lines end header input = map (ended end) (behind header (lines_of (strip_bom input)))
 
 -- the text begins with the end of a line, or is empty, and the rest follows
 abbrev pub IsEnd : LineEnd → List ℕ → List ℕ → Type 0

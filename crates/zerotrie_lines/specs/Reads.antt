@@ -1,13 +1,14 @@
 -- Which pairs an input is, and which line of it is none, and why.
-use Rattle.std.specs.Prelude.{◌≡◌, ◌≢◌, ℕ, ◌+◌, ◌⊎◌, Bool, true, false, List, [], ◌∷◌, ◌++◌, length, Any}
+use Rattle.std.specs.Prelude.{◌≡◌, ◌≢◌, ℕ, ◌+◌, ◌≤◌, ◌⊎◌, Bool, true, false, List, [], ◌∷◌, ◌++◌, length, Any}
 use Rattle.std.specs.List.{before_first, after_first, Contains}
 use Rattle.zerotrie_lines.specs.Numbers.{IsNumber}
 use Rattle.zerotrie_lines.specs.Tables.{Pair, Pairs}
-use Rattle.zerotrie_lines.specs.Lines.{is_tab, text_lines, HasTab, IsKeyText, IsPairLine}
+use Rattle.zerotrie_lines.specs.Lines.{is_tab, header_rows, behind, text_lines, HasTab, IsKeyText, IsPairLine}
 use Rattle.zerotrie_lines.specs.Faults.{IsBadValue}
 use Rattle.zerotrie_lines.specs.Records.{Fields, ArePairRecords, AreRowsOf, AreFirstRowsOf}
 use Rattle.zerotrie_lines.specs.declared.reading.Format.{Format}
 use Rattle.zerotrie_lines.specs.declared.reading.Format.TheVariants.{Lines, Tsv, TsvRaw, Csv}
+use Rattle.zerotrie_lines.specs.declared.reading.Header.{Header}
 use Rattle.zerotrie_lines.specs.declared.reading.LineEnd.{LineEnd}
 use Rattle.zerotrie_lines.specs.declared.fault.BadLine.{BadLine}
 use Rattle.zerotrie_lines.specs.declared.fault.BadLine.TheVariants as bad
@@ -28,12 +29,16 @@ ReadsLines format n [] (e ∷ pairs) = ⊥
 ReadsLines format n (line ∷ lines) [] = ⊥
 ReadsLines format n (line ∷ lines) (e ∷ pairs) = IsPairIn format n line e × ReadsLines format (n + 1) lines pairs
 
+-- the number of the first line that is a pair: the header is counted
+abbrev pub first_number : Header → ℕ
+first_number header = header_rows header + 1
+
 -- the input is the pairs, in their order
-abbrev pub Reads : Format → LineEnd → List ℕ → Pairs → Type 0
-Reads Lines end input pairs = ReadsLines Lines 1 (text_lines end input) pairs
-Reads Tsv end input pairs = ReadsLines Tsv 1 (text_lines end input) pairs
-Reads TsvRaw end input pairs = ReadsLines TsvRaw 1 (text_lines end input) pairs
-Reads Csv end input pairs = (rows : List Fields) × AreRowsOf end input rows × ArePairRecords rows pairs
+abbrev pub Reads : Format → LineEnd → Header → List ℕ → Pairs → Type 0
+Reads Lines end header input pairs = ReadsLines Lines (first_number header) (text_lines end header input) pairs
+Reads Tsv end header input pairs = ReadsLines Tsv (first_number header) (text_lines end header input) pairs
+Reads TsvRaw end header input pairs = ReadsLines TsvRaw (first_number header) (text_lines end header input) pairs
+Reads Csv end header input pairs = (rows : List Fields) × AreRowsOf end input rows × ArePairRecords (behind header rows) pairs
 
 -- lines with a tab, whose keys are raw or have escapes
 abbrev pub tabbed : Bool → Format
@@ -50,11 +55,11 @@ IsNotPlain true line = (e : Pair) → IsPairLine true line e → ⊥
 IsNotPlain false line = Contains (before_first is_tab line) 92 ⊎ ((e : Pair) → IsPairLine false line e → ⊥)
 
 -- an input is not pairs whose keys are in it as they are: a line is none, or it is records
-abbrev pub HasNoItems : Format → LineEnd → List ℕ → Type 0
-HasNoItems Lines end input = ⊥
-HasNoItems Tsv end input = Any (IsNotPlain false) (text_lines end input)
-HasNoItems TsvRaw end input = Any (IsNotPlain true) (text_lines end input)
-HasNoItems Csv end input = Unit {0}
+abbrev pub HasNoItems : Format → LineEnd → Header → List ℕ → Type 0
+HasNoItems Lines end header input = ⊥
+HasNoItems Tsv end header input = Any (IsNotPlain false) (text_lines end header input)
+HasNoItems TsvRaw end header input = Any (IsNotPlain true) (text_lines end header input)
+HasNoItems Csv end header input = Unit {0}
 
 -- why a line is no pair: it is empty, it has no tab, what is before the tab is no key, or what is after it is no number
 abbrev pub IsLineFault : Bool → List ℕ → BadLine → Type 0
@@ -77,24 +82,24 @@ abbrev pub IsBadLine : Bool → ℕ → List (List ℕ) → ℕ → BadLine → 
 IsBadLine raw n [] m fault = ⊥
 IsBadLine raw n (line ∷ lines) m fault = ((m ≡ n) × IsLineFault raw line fault) ⊎ ((e : Pair) × IsPairLine raw line e × IsBadLine raw (n + 1) lines m fault)
 
--- record number m of the input is no pair for this fault, and each before it is a pair
-abbrev pub IsBadRecord : LineEnd → List ℕ → ℕ → BadLine → Type 0
-IsBadRecord end input m fault = (rows : List Fields) × (row : Fields) × (pairs : Pairs) × AreFirstRowsOf end input (rows ++ row ∷ []) × ArePairRecords rows pairs
-    × (m ≡ length rows + 1) × IsRecordFault row fault
+-- record number m of the input, which is behind the header, is no pair for this fault, and each between them is a pair
+abbrev pub IsBadRecord : LineEnd → Header → List ℕ → ℕ → BadLine → Type 0
+IsBadRecord end header input m fault = (rows : List Fields) × (row : Fields) × (pairs : Pairs) × AreFirstRowsOf end input (rows ++ row ∷ []) × ArePairRecords (behind header rows) pairs
+    × (header_rows header ≤ length rows) × (m ≡ length rows + 1) × IsRecordFault row fault
 
--- why lines are no pairs: this line is none, or an allocation failed
-abbrev pub ExplainsLines : Bool → List (List ℕ) → ReadError → Type 0
-ExplainsLines raw lines OutOfMemory = Unit {0}
-ExplainsLines raw lines (Line m fault) = IsBadLine raw 1 lines m fault
+-- why lines, the first with number n, are no pairs: this line is none, or an allocation failed
+abbrev pub ExplainsLines : Bool → ℕ → List (List ℕ) → ReadError → Type 0
+ExplainsLines raw n lines OutOfMemory = Unit {0}
+ExplainsLines raw n lines (Line m fault) = IsBadLine raw n lines m fault
 
 -- why records are no pairs
-abbrev pub ExplainsRecords : LineEnd → List ℕ → ReadError → Type 0
-ExplainsRecords end input OutOfMemory = Unit {0}
-ExplainsRecords end input (Line m fault) = IsBadRecord end input m fault
+abbrev pub ExplainsRecords : LineEnd → Header → List ℕ → ReadError → Type 0
+ExplainsRecords end header input OutOfMemory = Unit {0}
+ExplainsRecords end header input (Line m fault) = IsBadRecord end header input m fault
 
 -- why an input is not read
-abbrev pub Explains : Format → LineEnd → List ℕ → ReadError → Type 0
-Explains Lines end input e = e ≡ OutOfMemory
-Explains Tsv end input e = ExplainsLines false (text_lines end input) e
-Explains TsvRaw end input e = ExplainsLines true (text_lines end input) e
-Explains Csv end input e = ExplainsRecords end input e
+abbrev pub Explains : Format → LineEnd → Header → List ℕ → ReadError → Type 0
+Explains Lines end header input e = e ≡ OutOfMemory
+Explains Tsv end header input e = ExplainsLines false (first_number header) (text_lines end header input) e
+Explains TsvRaw end header input e = ExplainsLines true (first_number header) (text_lines end header input) e
+Explains Csv end header input e = ExplainsRecords end header input e

@@ -1,6 +1,6 @@
 //! Pairs whose keys borrow the input.
 
-ghost use Rattle.std.specs.Prelude.{◌≡◌, ◌≤◌, ◌⊎◌, ◌∷◌, ℕ, [], length, take, true, false, Any, IfOk, IfSome, IfNone};
+ghost use Rattle.std.specs.Prelude.{◌≡◌, ◌≤◌, ◌⊎◌, ◌∷◌, ◌+◌, ℕ, [], length, take, true, false, Any, IfOk, IfSome, IfNone};
 ghost use Rattle.std.specs.List.{before_first, after_first};
 ghost use Rattle.memchr.specs.Find.{IsFirstByte, is_byte3};
 ghost use Rattle.zerotrie_lines.specs.Numbers.{IsNumber};
@@ -10,10 +10,9 @@ ghost use Rattle.zerotrie_lines.specs.Reads.{ReadsLines, Reads, IsKeyOf, IsNotPl
 ghost use Rattle.zerotrie_lines.specs.declared.reading.Format.TheVariants.{Lines, Tsv, TsvRaw};
 ghost use Rattle.zerotrie_lines.specs.declared.reading.LineEnd.TheVariants.{CrLf};
 
-use crate::escapes::without_mark;
 use crate::lines::take_ended;
 use crate::numbers::parse_number;
-use crate::reading::{Format, LineEnd};
+use crate::reading::{Format, Header, LineEnd, pair_text};
 use memchr::{memchr, memchr3};
 use std::alloc::{AllocError, Global};
 use std::simd::prelude::*;
@@ -157,7 +156,7 @@ fn items_of_tsv(
     text: &[u8],
 ) -> Result<Option<Vec<(&[u8], usize)>>, AllocError>
     ensures reads { IfOk result (λ items. IfSome items (λ items.
-        ReadsLines Tsv 1 (ended_lines end text.now) (pairs_of items.items))) }
+        (n : ℕ) → ReadsLines Tsv n (ended_lines end text.now) (pairs_of items.items))) }
     ensures none { IfOk result (λ items.
         IfNone items (Any (IsNotPlain false) (ended_lines end text.now))) }
 {
@@ -190,7 +189,7 @@ fn items_of_raw(
     text: &[u8],
 ) -> Result<Option<Vec<(&[u8], usize)>>, AllocError>
     ensures reads { IfOk result (λ items. IfSome items (λ items.
-        ReadsLines TsvRaw 1 (ended_lines end text.now) (pairs_of items.items))) }
+        (n : ℕ) → ReadsLines TsvRaw n (ended_lines end text.now) (pairs_of items.items))) }
     ensures none { IfOk result (λ items.
         IfNone items (Any (IsNotPlain true) (ended_lines end text.now))) }
 {
@@ -205,18 +204,20 @@ fn items_of_raw(
     Ok(Some(items))
 }
 
-/// Reads lines that are keys.
+/// Reads lines that are keys. So many lines were before them.
 fn items_of_keys(
     alloc: Global,
     end: LineEnd,
+    before: usize,
     text: &[u8],
 ) -> Result<Vec<(&[u8], usize)>, AllocError>
+    requires { before ≤ 1 }
     ensures { IfOk result (λ items.
-        ReadsLines Lines 1 (ended_lines end text.now) (pairs_of items.items)) }
+        ReadsLines Lines (before + 1) (ended_lines end text.now) (pairs_of items.items)) }
 {
     let mut items = Vec::new(alloc);
     let mut rest = text;
-    let mut number: usize = 0;
+    let mut number = before;
     while !rest.is_empty() {
         let line = take_ended(end, &mut rest);
         number += 1;
@@ -230,7 +231,8 @@ fn items_of_keys(
 /// returns the error.
 ///
 /// ```
-/// let items = read_items(rt.alloc(), Format::Tsv, LineEnd::CrLf, b"ad\t22\nadef\t33\n")?;
+/// let (tsv, end) = (Format::Tsv, LineEnd::CrLf);
+/// let items = read_items(rt.alloc(), tsv, end, Header::Absent, b"ad\t22\nadef\t33\n")?;
 /// assert_eq!(rt; items.map(|items| items[1]), Some((b"adef".as_slice(), 33)));
 /// ```
 ///
@@ -239,17 +241,18 @@ pub fn read_items(
     alloc: Global,
     format: Format,
     end: LineEnd,
+    header: Header,
     input: &[u8],
 ) -> Result<Option<Vec<(&[u8], usize)>>, AllocError>
     ensures reads { IfOk result (λ items. IfSome items (λ items.
-        Reads format end input.now (pairs_of items.items))) }
-    ensures none { IfOk result (λ items. IfNone items (HasNoItems format end input.now)) }
+        Reads format end header input.now (pairs_of items.items))) }
+    ensures none { IfOk result (λ items. IfNone items (HasNoItems format end header input.now)) }
 {
-    let text = without_mark(input);
+    let text = pair_text(header, input);
     match format {
         Format::Tsv => items_of_tsv(alloc, end, text),
         Format::TsvRaw => items_of_raw(alloc, end, text),
-        Format::Lines => Ok(Some(items_of_keys(alloc, end, text)?)),
+        Format::Lines => Ok(Some(items_of_keys(alloc, end, header.rows(), text)?)),
         Format::Csv => Ok(None),
     }
 }

@@ -1,15 +1,15 @@
 //! Pairs that are read from an input.
 
-ghost use Rattle.std.specs.Prelude.{◌≡◌, ◌++◌, ◌∷◌, [], IfOk, IfErr};
+ghost use Rattle.std.specs.Prelude.{◌≡◌, ◌≤◌, ◌+◌, ◌++◌, ◌∷◌, [], IfOk, IfErr};
 ghost use Rattle.zerotrie_lines.specs.Tables.{Pairs, lowered};
 ghost use Rattle.zerotrie_lines.specs.Reads.{ReadsLines, ExplainsLines, Reads, Explains, tabbed};
-ghost use Rattle.zerotrie_lines.specs.Lines.{ended_lines};
+ghost use Rattle.zerotrie_lines.specs.Lines.{ended_lines, header_rows, text_lines};
 ghost use Rattle.zerotrie_lines.specs.declared.fault.ReadError.TheVariants.{OutOfMemory};
 ghost use Rattle.zerotrie_lines.specs.declared.reading.Format.TheVariants.{Lines};
 
 use crate::escapes::without_mark;
 use crate::fault::{ReadError, at_line};
-use crate::lines::{read_pair, take_ended};
+use crate::lines::{read_pair, take_ended, take_line};
 use crate::records::read_records;
 use crate::table::Table;
 use std::alloc::Global;
@@ -38,15 +38,58 @@ pub enum LineEnd {
     Lf,
 }
 
-/// Reads lines with a tab, whose keys are raw or may have escapes.
-fn read_tsv(alloc: Global, raw: bool, end: LineEnd, text: &[u8]) -> Result<Table, ReadError>
-    ensures ok { IfOk result (λ table. ReadsLines (tabbed raw) 1 (ended_lines end text.now) table) }
-    ensures err { IfErr result (ExplainsLines raw (ended_lines end text.now)) }
+/// Whether a header is in front of the pairs.
+#[derive(Clone, Copy, PartialEq, Eq, Debug)]
+pub enum Header {
+    /// The first line or record is a pair.
+    Absent,
+    /// The first line or record is a header, and no pair. It is counted in the numbers of the others.
+    Present,
+}
+
+impl Header {
+    /// Returns how many lines or records it is.
+    pub fn rows(self) -> usize
+        ensures { result ≡ header_rows self }
+    {
+        match self {
+            Header::Absent => 0,
+            Header::Present => 1,
+        }
+    }
+}
+
+/// Returns the text of the lines that are to be pairs: without a byte order mark and the header.
+pub(crate) fn pair_text(header: Header, input: &[u8]) -> &[u8]
+    ensures { (end : LineEnd) → ended_lines end result.now ≡ text_lines end header input.now }
+{
+    let mut rest = without_mark(input);
+    match header {
+        Header::Absent => rest,
+        Header::Present => {
+            take_line(&mut rest);
+            rest
+        }
+    }
+}
+
+/// Reads lines with a tab, whose keys are raw or may have escapes. So many lines were before them.
+fn read_tsv(
+    alloc: Global,
+    raw: bool,
+    end: LineEnd,
+    before: usize,
+    text: &[u8],
+) -> Result<Table, ReadError>
+    requires { before ≤ 1 }
+    ensures ok { IfOk result (λ table.
+        ReadsLines (tabbed raw) (before + 1) (ended_lines end text.now) table) }
+    ensures err { IfErr result (ExplainsLines raw (before + 1) (ended_lines end text.now)) }
 {
     let mut table = Table::new(alloc);
     let mut key = Vec::new(alloc);
     let mut rest = text;
-    let mut number: usize = 0;
+    let mut number = before;
     while !rest.is_empty() {
         let line = take_ended(end, &mut rest);
         number += 1;
@@ -57,14 +100,16 @@ fn read_tsv(alloc: Global, raw: bool, end: LineEnd, text: &[u8]) -> Result<Table
     Ok(table)
 }
 
-/// Reads lines that are keys.
-fn read_keys(alloc: Global, end: LineEnd, text: &[u8]) -> Result<Table, ReadError>
-    ensures ok { IfOk result (λ table. ReadsLines Lines 1 (ended_lines end text.now) table) }
+/// Reads lines that are keys. So many lines were before them.
+fn read_keys(alloc: Global, end: LineEnd, before: usize, text: &[u8]) -> Result<Table, ReadError>
+    requires { before ≤ 1 }
+    ensures ok { IfOk result (λ table.
+        ReadsLines Lines (before + 1) (ended_lines end text.now) table) }
     ensures err { IfErr result (λ e. e ≡ OutOfMemory) }
 {
     let mut table = Table::new(alloc);
     let mut rest = text;
-    let mut number: usize = 0;
+    let mut number = before;
     while !rest.is_empty() {
         let line = take_ended(end, &mut rest);
         number += 1;
@@ -77,31 +122,37 @@ fn read_keys(alloc: Global, end: LineEnd, text: &[u8]) -> Result<Table, ReadErro
 /// letters of their keys become lower case.
 ///
 /// ```
-/// let table = read_pairs(rt.alloc(), Format::Tsv, LineEnd::CrLf, false, b"ad\t22\na\\td\t33\r\n");
+/// let (tsv, end) = (Format::Tsv, LineEnd::CrLf);
+/// let text = b"ad\t22\na\\td\t33\r\n";
+/// let table = read_pairs(rt.alloc(), tsv, end, Header::Absent, false, text);
 /// assert_eq!(rt; table.map(|t| t.len()), Ok(2));
-/// let table = read_pairs(rt.alloc(), Format::Tsv, LineEnd::CrLf, false, b"ad\t22\nad 33\n");
+/// let table = read_pairs(rt.alloc(), tsv, end, Header::Present, false, text);
+/// assert_eq!(rt; table.map(|t| t.len()), Ok(1));
+/// let table = read_pairs(rt.alloc(), tsv, end, Header::Present, false, b"key\tvalue\nad 33\n");
 /// assert_eq!(rt; table.map(|t| t.len()), Err(ReadError::Line(2, BadLine::NoTab)));
 /// ```
 ///
-/// It allocates nothing for a line alone. An error names the first line or record that is no pair,
+/// It allocates nothing for a line alone. Input without a line or record has no header. An error names the first line or record that is no pair,
 /// and why.
 pub fn read_pairs(
     alloc: Global,
     format: Format,
     end: LineEnd,
+    header: Header,
     lower_case: bool,
     input: &[u8],
 ) -> Result<Table, ReadError>
-    ensures ok { IfOk result (λ table. (pairs : Pairs) × Reads format end input.now pairs
+    ensures ok { IfOk result (λ table. (pairs : Pairs) × Reads format end header input.now pairs
         × (table ≡ lowered lower_case pairs)) }
-    ensures err { IfErr result (λ e. Explains format end input.now e) }
+    ensures err { IfErr result (λ e. Explains format end header input.now e) }
 {
-    let text = without_mark(input);
+    let before = header.rows();
+    let text = pair_text(header, input);
     let mut table = match format {
-        Format::Lines => read_keys(alloc, end, text)?,
-        Format::Tsv => read_tsv(alloc, false, end, text)?,
-        Format::TsvRaw => read_tsv(alloc, true, end, text)?,
-        Format::Csv => read_records(alloc, end, input)?,
+        Format::Lines => read_keys(alloc, end, before, text)?,
+        Format::Tsv => read_tsv(alloc, false, end, before, text)?,
+        Format::TsvRaw => read_tsv(alloc, true, end, before, text)?,
+        Format::Csv => read_records(alloc, end, header, input)?,
     };
     if lower_case {
         table.lower_case();

@@ -9,7 +9,7 @@ ghost use Rattle.zerotrie_lines.specs.declared.reading.Format.TheVariants.{Csv};
 
 use crate::fault::{BadLine, ReadError, at_line};
 use crate::numbers::parse_number;
-use crate::reading::LineEnd;
+use crate::reading::{Header, LineEnd};
 use crate::table::Table;
 use crate::values::bad_value;
 use csv::{ByteRecord, ReaderBuilder, Terminator};
@@ -62,10 +62,15 @@ fn terminator_of(end: LineEnd) -> Terminator
     }
 }
 
-/// Returns the pairs that the records of an input are. No record is a header.
-pub(crate) fn read_records(alloc: Global, end: LineEnd, input: &[u8]) -> Result<Table, ReadError>
-    ensures ok { IfOk result (λ table. Reads Csv end input.now table) }
-    ensures err { IfErr result (λ e. Explains Csv end input.now e) }
+/// Returns the pairs that the records of an input are, behind the header.
+pub(crate) fn read_records(
+    alloc: Global,
+    end: LineEnd,
+    header: Header,
+    input: &[u8],
+) -> Result<Table, ReadError>
+    ensures ok { IfOk result (λ table. Reads Csv end header input.now table) }
+    ensures err { IfErr result (λ e. Explains Csv end header input.now e) }
 {
     let mut reader = ReaderBuilder::new()
         .terminator(terminator_of(end))
@@ -80,6 +85,9 @@ pub(crate) fn read_records(alloc: Global, end: LineEnd, input: &[u8]) -> Result<
         };
         if !found {
             return Ok(table);
+        }
+        if index < header.rows() {
+            continue;
         }
         if let Some(bad) = read_record(alloc, &row, &mut table)? {
             return Err(at_line(index + 1, bad));

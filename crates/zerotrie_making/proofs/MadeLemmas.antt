@@ -9,9 +9,10 @@ use Rattle.zerotrie_core.specs.Maps.{Pairs}
 use Rattle.zerotrie_lines.specs.Tables.{lowered}
 use Rattle.zerotrie_lines.specs.Reads.{Reads}
 use Rattle.zerotrie_lines.specs.declared.reading.Format.{Format}
+use Rattle.zerotrie_lines.specs.declared.reading.Header.{Header}
 use Rattle.zerotrie_lines.specs.declared.reading.LineEnd.{LineEnd}
 use Rattle.zerotrie_making.specs.Others.{IsOther}
-use Rattle.zerotrie_making.specs.Sources.{IsPairs, NoPairs}
+use Rattle.zerotrie_making.specs.Sources.{IsPairs, NoPairs, number_in_source}
 use Rattle.zerotrie_making.specs.Made.{OfInput, Explains, ExplainsKept, ExplainsOf, IsNotMerged}
 use Rattle.zerotrie_core.specs.declared.ZeroTrieBuildError.{ZeroTrieBuildError}
 use Rattle.zerotrie_index.specs.declared.error.ZeroIndexBuildError.{ZeroIndexBuildError}
@@ -33,20 +34,20 @@ pub of_table : (plan : Plan) (input : List ℕ) (table : Pairs) (Fact : Pairs �
 of_table plan input table Fact own h fact = (own, h.0, h.1, subst Fact h.2 fact)
 
 pub explains_of : (plan : Plan) (input : List ℕ) (table : Pairs) (e : MakeError) → IsOther input None → (pairs : Pairs) × IsPairs plan.read.source input pairs × (table ≡ lowered plan.read.lower_case pairs)
-    → ExplainsKept plan table e → Explains plan input e
+    → ExplainsKept plan (number_in_source plan.read.source) table e → Explains plan input e
 explains_of plan input table (NotText other) own h fact = absurd fact
 explains_of plan input table (Line number bad) own h fact = absurd fact
 explains_of plan input table (NotJson line column) own h fact = absurd fact
 explains_of plan input table NotPairs own h fact = absurd fact
 explains_of plan input table (NotPair bad) own h fact = absurd fact
-explains_of plan input table (Keys s) own h fact = of_table plan input table (λ pairs. ExplainsKept plan pairs (Keys s)) own h fact
-explains_of plan input table (SumTooLarge k) own h fact = of_table plan input table (λ pairs. ExplainsKept plan pairs (SumTooLarge k)) own h fact
-explains_of plan input table (Refused e) own h fact = of_table plan input table (λ pairs. ExplainsKept plan pairs (Refused e)) own h fact
-explains_of plan input table (IndexRefused e) own h fact = of_table plan input table (λ pairs. ExplainsKept plan pairs (IndexRefused e)) own h fact
+explains_of plan input table (Keys s) own h fact = of_table plan input table (λ pairs. ExplainsKept plan (number_in_source plan.read.source) pairs (Keys s)) own h fact
+explains_of plan input table (SumTooLarge k) own h fact = of_table plan input table (λ pairs. ExplainsKept plan (number_in_source plan.read.source) pairs (SumTooLarge k)) own h fact
+explains_of plan input table (Refused e) own h fact = of_table plan input table (λ pairs. ExplainsKept plan (number_in_source plan.read.source) pairs (Refused e)) own h fact
+explains_of plan input table (IndexRefused e) own h fact = of_table plan input table (λ pairs. ExplainsKept plan (number_in_source plan.read.source) pairs (IndexRefused e)) own h fact
 explains_of plan input table OutOfMemory own h fact = tt
 
 -- why no file is made of pairs that are kept is why none is made of all
-pub kept_refusal : (plan : Plan) (pairs : Pairs) (e : MakeError) → ExplainsOf plan.file (number_at plan.read.duplicates pairs) (kept plan.read.duplicates pairs) e → ExplainsKept plan pairs e
+pub kept_refusal : (plan : Plan) (pairs : Pairs) (e : MakeError) → ExplainsOf plan.file (number_at plan.read.duplicates pairs) (kept plan.read.duplicates pairs) e → ExplainsKept plan (λ n. n) pairs e
 kept_refusal plan pairs (NotText other) h = h
 kept_refusal plan pairs (Line number bad) h = h
 kept_refusal plan pairs (NotJson line column) h = h
@@ -59,7 +60,7 @@ kept_refusal plan pairs (IndexRefused e) h = h
 kept_refusal plan pairs OutOfMemory h = h
 
 -- and so is why they are not merged
-pub merge_refusal : (plan : Plan) (rule : Rule) (pairs : Pairs) (e : MakeError) → (rule ≡ rules.Sum → plan.read.duplicates ≡ Sum) → IsNotMerged rule pairs e → ExplainsKept plan pairs e
+pub merge_refusal : (plan : Plan) (rule : Rule) (pairs : Pairs) (e : MakeError) → (rule ≡ rules.Sum → plan.read.duplicates ≡ Sum) → IsNotMerged rule pairs e → ExplainsKept plan (λ n. n) pairs e
 merge_refusal plan rule pairs (NotText other) sum h = absurd h
 merge_refusal plan rule pairs (Line number bad) sum h = absurd h
 merge_refusal plan rule pairs (NotJson line column) sum h = absurd h
@@ -73,28 +74,28 @@ merge_refusal plan rule pairs OutOfMemory sum h = h
 
 -- an input that is no pairs shows no keys
 no_keys : (source : Source) (input : List ℕ) (s : Shown) → NoPairs source input (Keys s) → ⊥
-no_keys (Text format end) input s h = h
+no_keys (Text format end header) input s h = h
 no_keys Json input s h = h
 no_keys JsonLines input s h = h
 
 no_sum : (source : Source) (input : List ℕ) (k : NumberedKey) → NoPairs source input (SumTooLarge k) → ⊥
-no_sum (Text format end) input k h = h
+no_sum (Text format end header) input k h = h
 no_sum Json input k h = h
 no_sum JsonLines input k h = h
 
 no_refusal : (source : Source) (input : List ℕ) (e : ZeroTrieBuildError) → NoPairs source input (Refused e) → ⊥
-no_refusal (Text format end) input e h = h
+no_refusal (Text format end header) input e h = h
 no_refusal Json input e h = h
 no_refusal JsonLines input e h = h
 
 no_index_refusal : (source : Source) (input : List ℕ) (e : ZeroIndexBuildError) → NoPairs source input (IndexRefused e) → ⊥
-no_index_refusal (Text format end) input e h = h
+no_index_refusal (Text format end header) input e h = h
 no_index_refusal Json input e h = h
 no_index_refusal JsonLines input e h = h
 
 -- an input that is another file is no pairs
 pub other_is_unread : (source : Source) (input : List ℕ) (other : OtherFile) → IsOther input (Some other) → NoPairs source input (NotText other)
-other_is_unread (Text format end) input other h = h
+other_is_unread (Text format end header) input other h = h
 other_is_unread Json input other h = h
 other_is_unread JsonLines input other h = h
 
@@ -112,10 +113,10 @@ no_pairs plan input (IndexRefused e) h = absurd (no_index_refusal plan.read.sour
 no_pairs plan input OutOfMemory h = tt
 
 -- pairs of a text whose keys are as they are
-pub as_they_are : (source : Source) (format : Format) (end : LineEnd) (lower_case : Bool) (input : List ℕ) (pairs : Pairs) → source ≡ Text format end → not lower_case ≡ true
-    → Reads format end input pairs → (given : Pairs) × IsPairs source input given × (pairs ≡ lowered lower_case given)
-as_they_are source format end true input pairs text kept reads = absurd (cc)
-as_they_are source format end false input pairs text kept reads = (pairs, rw text reads, refl)
+pub as_they_are : (source : Source) (format : Format) (end : LineEnd) (header : Header) (lower_case : Bool) (input : List ℕ) (pairs : Pairs) → source ≡ Text format end header → not lower_case ≡ true
+    → Reads format end header input pairs → (given : Pairs) × IsPairs source input given × (pairs ≡ lowered lower_case given)
+as_they_are source format end header true input pairs text kept reads = absurd (cc)
+as_they_are source format end header false input pairs text kept reads = (pairs, rw text reads, refl)
 
 -- as many items are as many pairs
 pub counted_pairs : (items : List (Bor (List ℕ) × ℕ)) (len : ℕ) → len ≡ length items → len ≡ length (pairs_of items)

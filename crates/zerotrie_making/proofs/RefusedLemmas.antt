@@ -20,7 +20,7 @@ use Rattle.zerotrie_lines.specs.Laws.{OneReading, BadIsUnread}
 use Rattle.zerotrie_lines.specs.Tables.{lowered}
 use Rattle.zerotrie_making.specs.Plans.{Content, a_trie, an_index, content_of, route_of, kind_for}
 use Rattle.zerotrie_making.specs.Kept.{kept}
-use Rattle.zerotrie_making.specs.Sources.{IsPairs}
+use Rattle.zerotrie_making.specs.Sources.{IsPairs, number_in_source}
 use Rattle.zerotrie_making.specs.Json.{pairs_in}
 use Rattle.zerotrie_making.specs.Made.{OfInput, AreAtFault, ExplainsKept, IsBuiltAs, IsTooLargeAt, IsFile, IsFileOfKept, IsIndexRefusedBy, IsTrieRefusedBy}
 use Rattle.zerotrie_making.specs.Laws.{RefusedMakesNoFile}
@@ -153,22 +153,22 @@ built_small (a_trie kind) sorted pairs bytes key v built found = trie_small kind
 built_small an_index sorted pairs bytes key v built found = index_small pairs bytes key v (is_index sorted pairs bytes built) found
 
 -- so none is of pairs that have a sum that is too large
-sum_never : (content : Content) (sorted : Bool) (duplicates : Duplicates) (pairs : Pairs) (bytes : List ℕ) (k : NumberedKey) → IsBuiltAs content sorted (kept duplicates pairs) bytes → duplicates ≡ Sum → IsTooLargeAt pairs k → ⊥
-sum_never content sorted duplicates pairs bytes k built is large =
+sum_never : (content : Content) (sorted : Bool) (duplicates : Duplicates) (number : ℕ → ℕ) (pairs : Pairs) (bytes : List ℕ) (k : NumberedKey) → IsBuiltAs content sorted (kept duplicates pairs) bytes → duplicates ≡ Sum → IsTooLargeAt number pairs k → ⊥
+sum_never content sorted duplicates number pairs bytes k built is large =
     let merged = subst (λ d. IsBuiltAs content sorted (kept d pairs) bytes) is built in
-    no_large pairs k large (λ key v found. built_small content sorted (kept Sum pairs) bytes key v merged found)
+    no_large number pairs k large (λ key v found. built_small content sorted (kept Sum pairs) bytes key v merged found)
 
 -- an input is one list of pairs at most
 one_list : OneReading → (source : Source) (input : List ℕ) (pairs others : Pairs) → IsPairs source input pairs → IsPairs source input others → others ≡ pairs
-one_list one (Text format end) input pairs others h k = one format end input pairs others h k
+one_list one (Text format end header) input pairs others h k = one format end header input pairs others h k
 one_list one Json input pairs others h k =
     let same : h.0 ≡ k.0 = some_is h.0 k.0 (sym h.1.1 ∙ k.1.1) in
     some_is others pairs (sym k.2 ∙ ap pairs_in (sym same) ∙ h.2)
 one_list one JsonLines input pairs others h k = some_is others pairs (sym k ∙ h)
 
 -- the pairs that explain are those of the file
-of_one : OneReading → (plan : Plan) (input file : List ℕ) (e : MakeError) → OfInput plan input (λ pairs. ExplainsKept plan pairs e) → IsFile plan input file
-    → (pairs : Pairs) × ExplainsKept plan pairs e × IsFileOfKept plan pairs file
+of_one : OneReading → (plan : Plan) (input file : List ℕ) (e : MakeError) → OfInput plan input (λ pairs. ExplainsKept plan (number_in_source plan.read.source) pairs e) → IsFile plan input file
+    → (pairs : Pairs) × ExplainsKept plan (number_in_source plan.read.source) pairs e × IsFileOfKept plan pairs file
 of_one one plan input file e h made =
     (_, h.3, subst (λ ps. IsFileOfKept plan (lowered plan.read.lower_case ps) file) (one_list one plan.read.source input h.1 made.1 h.2 made.2) made.3)
 
@@ -185,7 +185,7 @@ refused one bad excludes plan input file (Keys s) h some other crowd made =
 refused one bad excludes plan input file (SumTooLarge k) h some other crowd made =
     let o = of_one one plan input file (SumTooLarge k) h made in
     let ps = kept plan.read.duplicates o.0 in
-    sum_never (content_of plan.file.form (kind_for plan.file.kind ps)) plan.file.sorted plan.read.duplicates o.0 o.2.bytes k o.2.build o.1.0 o.1.1
+    sum_never (content_of plan.file.form (kind_for plan.file.kind ps)) plan.file.sorted plan.read.duplicates (number_in_source plan.read.source) o.0 o.2.bytes k o.2.build o.1.0 o.1.1
 refused one bad excludes plan input file (Refused e) h some other crowd made =
     let o = of_one one plan input file (Refused e) h made in
     let ps = kept plan.read.duplicates o.0 in

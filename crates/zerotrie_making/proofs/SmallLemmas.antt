@@ -110,8 +110,8 @@ more_values (v ∷ values) more n is =
     (fold (one_of_two Sum) n more, ap Some all, sum_grows n more)
 
 -- if a sum is too large, so is a value of what is kept
-pub no_large : (pairs : Pairs) (k : NumberedKey) → IsTooLargeAt pairs k → ((key : List ℕ) (v : ℕ) → value_at simple_ascii (unnumbered (merged Sum pairs)) key ≡ Some v → v < 2 ^ 64) → ⊥
-no_large pairs k large small =
+pub no_large : (number : ℕ → ℕ) (pairs : Pairs) (k : NumberedKey) → IsTooLargeAt number pairs k → ((key : List ℕ) (v : ℕ) → value_at simple_ascii (unnumbered (merged Sum pairs)) key ≡ Some v → v < 2 ^ 64) → ⊥
+no_large number pairs k large small =
     let key = k.key.items in
     let (i, inside, is, sum, first) = large in
     let m = more_values (values_of key (take (i + 1) pairs)) (values_of key (drop (i + 1) pairs)) sum.1 sum.2 in

@@ -14,7 +14,7 @@ use Rattle.zerotrie_lines.specs.Tables.{lowered}
 use Rattle.zerotrie_lines.specs.declared.fault.ReadError.{ReadError}
 use Rattle.zerotrie_lines.specs.declared.fault.ReadError.TheVariants as fault
 use Rattle.zerotrie_making.specs.Others.{IsOther}
-use Rattle.zerotrie_making.specs.Sources.{IsPairs, NoPairs}
+use Rattle.zerotrie_making.specs.Sources.{IsPairs, NoPairs, number_in_source}
 use Rattle.zerotrie_making.specs.Plans.{Content, a_trie, an_index, content_of, route_of, kind_for, IsFormOf}
 use Rattle.zerotrie_sets.specs.declared.selection.Rule.{Rule}
 use Rattle.zerotrie_sets.specs.declared.selection.Rule.TheVariants as rules
@@ -73,9 +73,9 @@ IsMade plan input made = OfInput plan input (λ pairs. IsMadeOfKept plan pairs m
 abbrev pub IsKeyAt : (ℕ → ℕ) → Pairs → ℕ → NumberedKey → Type 0
 IsKeyAt number pairs index k = (k.number ≡ number index) × (k.key.items ≡ key_at pairs index)
 
--- it is the first pair, with its number, up to which the values of its key have a sum of 2^64 or more
-abbrev pub IsTooLargeAt : Pairs → NumberedKey → Type 0
-IsTooLargeAt pairs k = (i : ℕ) × (i < length pairs) × IsKeyAt (number_of None) pairs i k
+-- it is the first pair, by the number that it has for its number among the pairs, up to which the values of its key have a sum of 2^64 or more
+abbrev pub IsTooLargeAt : (ℕ → ℕ) → Pairs → NumberedKey → Type 0
+IsTooLargeAt number pairs k = (i : ℕ) × (i < length pairs) × IsKeyAt (λ j. number (number_of None j)) pairs i k
     × IsTooLarge k.key.items (take (i + 1) pairs) × ((key : List ℕ) → IsTooLarge key (take i pairs) → ⊥)
 
 -- why the pairs that have one key are not merged: the sum of their values is too large, or an allocation failed
@@ -86,7 +86,7 @@ IsNotMerged rule pairs (NotJson line column) = ⊥
 IsNotMerged rule pairs NotPairs = ⊥
 IsNotMerged rule pairs (NotPair bad) = ⊥
 IsNotMerged rule pairs (Keys s) = ⊥
-IsNotMerged rule pairs (SumTooLarge k) = (rule ≡ rules.Sum) × IsTooLargeAt pairs k
+IsNotMerged rule pairs (SumTooLarge k) = (rule ≡ rules.Sum) × IsTooLargeAt (λ n. n) pairs k
 IsNotMerged rule pairs (Refused e) = ⊥
 IsNotMerged rule pairs (IndexRefused e) = ⊥
 IsNotMerged rule pairs OutOfMemory = Unit {0}
@@ -132,10 +132,11 @@ IsRefusedAs content sorted number pairs OutOfMemory = Unit {0}
 abbrev pub ExplainsOf : FilePlan → (ℕ → ℕ) → Pairs → MakeError → Type 0
 ExplainsOf plan number pairs e = IsRefusedAs (content_of plan.form (kind_for plan.kind pairs)) plan.sorted number pairs e
 
--- why the plan makes no file of those of the pairs that are kept: a sum of their values is too large, or a build fails
-abbrev pub ExplainsKept : Plan → Pairs → MakeError → Type 0
-ExplainsKept plan pairs (SumTooLarge k) = (plan.read.duplicates ≡ Sum) × IsTooLargeAt pairs k
-ExplainsKept plan pairs e = ExplainsOf plan.file (number_at plan.read.duplicates pairs) (kept plan.read.duplicates pairs) e
+-- why the plan makes no file of those of the pairs that are kept, by the number that each has for its number among the pairs: a sum of
+-- their values is too large, or a build fails
+abbrev pub ExplainsKept : Plan → (ℕ → ℕ) → Pairs → MakeError → Type 0
+ExplainsKept plan number pairs (SumTooLarge k) = (plan.read.duplicates ≡ Sum) × IsTooLargeAt number pairs k
+ExplainsKept plan number pairs e = ExplainsOf plan.file (λ i. number (number_at plan.read.duplicates pairs i)) (kept plan.read.duplicates pairs) e
 
 -- why the plan makes no file of the input: it is another file, it is no pairs, a sum is too large, a build of its pairs fails, or an allocation failed
 abbrev pub Explains : Plan → List ℕ → MakeError → Type 0
@@ -144,10 +145,10 @@ Explains plan input (Line number bad) = NoPairs plan.read.source input (Line num
 Explains plan input (NotJson line column) = NoPairs plan.read.source input (NotJson line column)
 Explains plan input NotPairs = NoPairs plan.read.source input NotPairs
 Explains plan input (NotPair bad) = NoPairs plan.read.source input (NotPair bad)
-Explains plan input (Keys s) = OfInput plan input (λ pairs. ExplainsKept plan pairs (Keys s))
-Explains plan input (SumTooLarge k) = OfInput plan input (λ pairs. ExplainsKept plan pairs (SumTooLarge k))
-Explains plan input (Refused e) = OfInput plan input (λ pairs. ExplainsKept plan pairs (Refused e))
-Explains plan input (IndexRefused e) = OfInput plan input (λ pairs. ExplainsKept plan pairs (IndexRefused e))
+Explains plan input (Keys s) = OfInput plan input (λ pairs. ExplainsKept plan (number_in_source plan.read.source) pairs (Keys s))
+Explains plan input (SumTooLarge k) = OfInput plan input (λ pairs. ExplainsKept plan (number_in_source plan.read.source) pairs (SumTooLarge k))
+Explains plan input (Refused e) = OfInput plan input (λ pairs. ExplainsKept plan (number_in_source plan.read.source) pairs (Refused e))
+Explains plan input (IndexRefused e) = OfInput plan input (λ pairs. ExplainsKept plan (number_in_source plan.read.source) pairs (IndexRefused e))
 Explains plan input OutOfMemory = Unit {0}
 
 -- the fault of an input as one of a plan

@@ -1,8 +1,11 @@
 //! Why no file is made.
 
-ghost use Rattle.std.specs.Prelude.{◌≡◌, ◌<◌, ◌^◌, length, IfOk, IfSome};
+ghost use Rattle.std.specs.Prelude.{◌≡◌, ◌<◌, ◌+◌, ◌^◌, ℕ, length, IfOk, IfSome};
+ghost use Rattle.zerotrie_build.specs.declared.refusal.Refusal.{Refusal};
 ghost use Rattle.zerotrie_core.specs.Items.{pairs_of};
-ghost use Rattle.zerotrie_making.specs.Made.{IsKeyAt, Shows, IsOfReading};
+ghost use Rattle.zerotrie_core.specs.Maps.{Pairs};
+ghost use Rattle.zerotrie_making.specs.Made.{ExplainsKept, IsKeyAt, Shows, IsOfReading};
+ghost use Rattle.zerotrie_making.specs.declared.plan.Plan.{Plan};
 ghost use Rattle.zerotrie_making.specs.Kept.{number_of};
 ghost use Rattle.zerotrie_making.specs.declared.error.MakeError.TheVariants.{OutOfMemory};
 
@@ -14,7 +17,7 @@ use zerotrie_index::ZeroIndexBuildError;
 use zerotrie_lines::{BadLine, ReadError};
 
 /// A key, and the number of its pair, from 1 on: that of its line, its record, or its member or item
-/// of a JSON value.
+/// of a JSON value. A header is counted.
 #[derive(PartialEq, Eq, Debug, Drop)]
 pub struct NumberedKey {
     pub number: usize,
@@ -104,6 +107,48 @@ impl From<ReadError> for MakeError {
             ReadError::Line(number, bad) => MakeError::Line(number, bad),
             ReadError::OutOfMemory => MakeError::OutOfMemory,
         }
+    }
+}
+
+/// Returns the key with the number that it has behind so many rows. `None` if that is 2^64 or more.
+fn behind(rows: usize, key: NumberedKey) -> Option<NumberedKey>
+    ensures { IfSome result (λ behind. (behind.number ≡ rows + key.number)
+        × (behind.key.items ≡ key.key.items)) }
+{
+    Some(NumberedKey {
+        number: rows.checked_add(key.number)?,
+        key: key.key,
+    })
+}
+
+/// Returns the keys with the numbers that they have behind so many rows.
+fn shown_behind(rows: usize, shown: Shown) -> Option<Shown>
+    ensures { (number : ℕ → ℕ) (pairs : Pairs) (r : Refusal)
+        → Shows number pairs r shown → IfSome result (Shows (λ i. rows + number i) pairs r) }
+{
+    Some(Shown {
+        first: behind(rows, shown.first)?,
+        second: behind(rows, shown.second)?,
+        error: shown.error,
+    })
+}
+
+/// Returns the error with the numbers that pairs have behind so many rows. It has those among the
+/// pairs.
+pub(crate) fn error_behind(rows: usize, error: MakeError) -> MakeError
+    ensures { (plan : Plan) (pairs : Pairs) → ExplainsKept plan (λ n. n) pairs error
+        → ExplainsKept plan (λ n. rows + n) pairs result }
+{
+    match error {
+        MakeError::Keys(shown) => match shown_behind(rows, shown) {
+            Some(shown) => MakeError::Keys(shown),
+            None => MakeError::OutOfMemory,
+        },
+        MakeError::SumTooLarge(key) => match behind(rows, key) {
+            Some(key) => MakeError::SumTooLarge(key),
+            None => MakeError::OutOfMemory,
+        },
+        other => other,
     }
 }
 

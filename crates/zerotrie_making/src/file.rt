@@ -9,9 +9,10 @@ ghost use Rattle.zerotrie_making.specs.Others.{IsOther};
 ghost use Rattle.zerotrie_making.specs.Plans.{a_trie, an_index, content_of, route_of, IsFormOf};
 ghost use Rattle.zerotrie_making.specs.Made.{IsIndexed, IsBuiltAs, IsFileOf, IsMade, IsMadeOf, IsMadeOfKept, IsRefusedAs, Explains, ExplainsOf, ExplainsKept};
 ghost use Rattle.zerotrie_making.specs.Kept.{number_in, number_of};
+ghost use Rattle.zerotrie_making.specs.Sources.{number_in_source};
 
 use crate::duplicates::{Duplicates, Kept, firsts, lasts, merged};
-use crate::error::{MakeError, show};
+use crate::error::{MakeError, error_behind, show};
 use crate::input::{items_in, read_input};
 use crate::others::other_file;
 use crate::plan::{FileForm, FilePlan, Made, Plan};
@@ -208,10 +209,10 @@ fn make_kept(alloc: Global, plan: FilePlan, kept: Kept<'_>) -> Result<Made, Make
     )
 }
 
-/// Makes the file of those of the pairs that are kept.
-fn make_from(alloc: Global, plan: Plan, items: &[(&[u8], usize)]) -> Result<Made, MakeError>
+/// Makes the file of those of the pairs that are kept. An error has the numbers among the pairs.
+fn make_numbered(alloc: Global, plan: Plan, items: &[(&[u8], usize)]) -> Result<Made, MakeError>
     ensures ok { IfOk result (IsMadeOfKept plan (pairs_of items.now)) }
-    ensures err { IfErr result (λ e. ExplainsKept plan (pairs_of items.now) e) }
+    ensures err { IfErr result (λ e. ExplainsKept plan (λ n. n) (pairs_of items.now) e) }
 {
     match plan.read.duplicates {
         Duplicates::Refuse => make_counted(alloc, plan.file, None, items),
@@ -220,6 +221,18 @@ fn make_from(alloc: Global, plan: Plan, items: &[(&[u8], usize)]) -> Result<Made
         Duplicates::Sum => make_kept(alloc, plan.file, merged(alloc, Rule::Sum, items)?),
         Duplicates::Min => make_kept(alloc, plan.file, merged(alloc, Rule::Min, items)?),
         Duplicates::Max => make_kept(alloc, plan.file, merged(alloc, Rule::Max, items)?),
+    }
+}
+
+/// Makes the file of those of the pairs that are kept. An error has their numbers in the input.
+fn make_from(alloc: Global, plan: Plan, items: &[(&[u8], usize)]) -> Result<Made, MakeError>
+    ensures ok { IfOk result (IsMadeOfKept plan (pairs_of items.now)) }
+    ensures err { IfErr result (λ e.
+        ExplainsKept plan (number_in_source plan.read.source) (pairs_of items.now) e) }
+{
+    match make_numbered(alloc, plan, items) {
+        Ok(made) => Ok(made),
+        Err(error) => Err(error_behind(plan.read.source.rows_before(), error)),
     }
 }
 
@@ -243,7 +256,7 @@ fn make_text(alloc: Global, plan: Plan, input: Vec<u8>) -> Result<Made, MakeErro
 ///
 /// ```
 /// let read = ReadPlan {
-///     source: Source::Text(Format::Tsv, LineEnd::CrLf),
+///     source: Source::Text(Format::Tsv, LineEnd::CrLf, Header::Absent),
 ///     lower_case: false,
 ///     duplicates: Duplicates::Refuse,
 /// };
@@ -256,7 +269,13 @@ fn make_text(alloc: Global, plan: Plan, input: Vec<u8>) -> Result<Made, MakeErro
 /// let input = Vec::from_slice(rt.alloc(), b"ad\t2\nadef\t33\nad\t20\n")?;
 /// let made = make(rt.alloc(), Plan { read: summed, file }, input).map_err(|_| "refused")?;
 /// assert_eq!(rt; made.file.as_slice(), b"\x00ad\x90\x06ef\x90\x11".as_slice());
-/// let read = ReadPlan { source: Source::Text(Format::Lines, LineEnd::CrLf), ..read };
+/// let source = Source::Text(Format::Csv, LineEnd::CrLf, Header::Present);
+/// let input = Vec::from_slice(rt.alloc(), b"key,value\nad,22\nadef,33\n")?;
+/// let plan = Plan { read: ReadPlan { source, ..read }, file };
+/// let made = make(rt.alloc(), plan, input).map_err(|_| "refused")?;
+/// assert_eq!(rt; made.file.as_slice(), b"\x00ad\x90\x06ef\x90\x11".as_slice());
+/// let source = Source::Text(Format::Lines, LineEnd::CrLf, Header::Absent);
+/// let read = ReadPlan { source, ..read };
 /// let input = Vec::from_slice(rt.alloc(), b"\xFF\xFEa\0\n\0")?;
 /// let why = MakeError::NotText(OtherFile::Utf16);
 /// assert_eq!(rt; make(rt.alloc(), Plan { read, file }, input), Err(why));

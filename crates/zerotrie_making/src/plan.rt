@@ -1,14 +1,17 @@
 //! How the file of a trie or an index is made.
 
+ghost use Rattle.std.specs.Prelude.{◌≡◌};
+ghost use Rattle.zerotrie_making.specs.Sources.{rows_before};
+
 use crate::duplicates::Duplicates;
 use zerotrie_core::TrieKind;
-use zerotrie_lines::{Format, LineEnd};
+use zerotrie_lines::{Format, Header, LineEnd};
 
 /// How an input is pairs.
 #[derive(Clone, Copy, PartialEq, Eq, Debug)]
 pub enum Source {
-    /// Lines or records, one a pair, with what ends them.
-    Text(Format, LineEnd),
+    /// Lines or records, one a pair, with what ends them, and whether a header is in front.
+    Text(Format, LineEnd, Header),
     /// A JSON value: an object from keys to numbers, or a list of pairs. A pair is a list of two, a
     /// key and a number, and a key is a text or a list of bytes. The pairs are in the order of the
     /// text; a name that comes twice is a key that two pairs have.
@@ -16,6 +19,18 @@ pub enum Source {
     /// Lines, each a JSON value: such a pair, or an object whose members `key` and `value` are the
     /// two. Other members count for nothing.
     JsonLines,
+}
+
+impl Source {
+    /// Returns how many lines or records are in front of the pairs.
+    pub(crate) fn rows_before(self) -> usize
+        ensures { result ≡ rows_before self }
+    {
+        match self {
+            Source::Text(_, _, header) => header.rows(),
+            Source::Json | Source::JsonLines => 0,
+        }
+    }
 }
 
 /// What a file has: a trie, with what is beside its bytes, or an index.

@@ -80,10 +80,10 @@ IsLineOn place text = (words : List ℕ) × (text ≡ line_front place ++ (words
 
 -- what holds one pair of a source
 abbrev pub unit_of : Source → PairUnit
-unit_of (Text Lines ended) = unit.Line
-unit_of (Text Tsv ended) = unit.Line
-unit_of (Text TsvRaw ended) = unit.Line
-unit_of (Text Csv ended) = unit.Record
+unit_of (Text Lines ended header) = unit.Line
+unit_of (Text Tsv ended header) = unit.Line
+unit_of (Text TsvRaw ended header) = unit.Line
+unit_of (Text Csv ended header) = unit.Record
 unit_of Json = unit.Pair
 unit_of JsonLines = unit.Line
 

@@ -13,7 +13,7 @@ use std::test::Fail;
 use zerotrie_core::TrieKind;
 use zerotrie_files::{Disk, Noted, Store};
 use zerotrie_index::ZeroIndex;
-use zerotrie_lines::{Format, LineEnd};
+use zerotrie_lines::{Format, Header, LineEnd};
 use zerotrie_making::{Duplicates, FileForm, FilePlan, Plan, ReadPlan, Source};
 use zerotrie_queries::{
     Asked, Choice, Form, Language, Order, Query, ReportForm, Spelling, Style, View,
@@ -55,7 +55,7 @@ const TAGGED: FilePlan = FilePlan {
 /// The trie of any pairs.
 const PLAN: Plan = Plan {
     read: ReadPlan {
-        source: Source::Text(Format::Tsv, LineEnd::CrLf),
+        source: Source::Text(Format::Tsv, LineEnd::CrLf, Header::Absent),
         lower_case: false,
         duplicates: Duplicates::Refuse,
     },
@@ -94,7 +94,7 @@ const INDEXING: Build<'static> = Build {
 const OF_LINES: Build<'static> = Build {
     plan: Plan {
         read: ReadPlan {
-            source: Source::Text(Format::Lines, LineEnd::CrLf),
+            source: Source::Text(Format::Lines, LineEnd::CrLf, Header::Absent),
             ..READ
         },
         ..PLAN
@@ -282,7 +282,7 @@ const REFUSED: [Row; 11] = [
         command: Command::Build(Build {
             plan: Plan {
                 read: ReadPlan {
-                    source: Source::Text(Format::Tsv, LineEnd::CrLf),
+                    source: Source::Text(Format::Tsv, LineEnd::CrLf, Header::Absent),
                     lower_case: false,
                     duplicates: Duplicates::Sum,
                 },
@@ -591,7 +591,7 @@ const MADE_AGAIN: [Row; 6] = [
         command: Command::Build(Build {
             plan: Plan {
                 read: ReadPlan {
-                    source: Source::Text(Format::Csv, LineEnd::CrLf),
+                    source: Source::Text(Format::Csv, LineEnd::CrLf, Header::Absent),
                     ..READ
                 },
                 file: TAGGED,

@@ -59,9 +59,19 @@ IsNeverRaw input.Lines = Unit {0}
 IsNeverRaw input.Json = Unit {0}
 IsNeverRaw input.JsonLines = Unit {0}
 
--- the words of a build are no input: no format, no end of its lines, or `--raw` for another than `tsv`
+-- a format has no header
+abbrev pub HasNoHeader : Input → Type 0
+HasNoHeader input.Tsv = ⊥
+HasNoHeader input.Csv = ⊥
+HasNoHeader input.Lines = Unit {0}
+HasNoHeader input.Json = Unit {0}
+HasNoHeader input.JsonLines = Unit {0}
+
+-- the words of a build are no input: no format, no end of its lines, `--header` for another than `tsv` and `csv`, or `--raw` for another
+-- than `tsv`
 abbrev pub IsNoInputOf : ArgMatches → Input → Type 0
-IsNoInputOf matches format = IsNoEnd format (word_of matches (codes "eol")) ⊎ (IsNeverRaw format × (IsFlag (flag_of matches (codes "raw")) true))
+IsNoInputOf matches format = IsNoEnd format (word_of matches (codes "eol")) ⊎ ((HasNoHeader format × IsFlag (flag_of matches (codes "header")) true)
+    ⊎ (IsNeverRaw format × IsFlag (flag_of matches (codes "raw")) true))
 
 abbrev pub IsNoInput : ArgMatches → Type 0
 IsNoInput matches = NamesNone format_word (word_of matches (codes "format"))

@@ -17,6 +17,8 @@ use Rattle.zerotrie_words.specs.declared.input.Input.TheVariants as input
 use Rattle.zerotrie_core.specs.Kinds.{kind_name}
 use Rattle.zerotrie_core.specs.declared.TrieKind.{TrieKind}
 use Rattle.zerotrie_lines.specs.declared.reading.Format.TheVariants.{Tsv, TsvRaw, Csv, Lines}
+use Rattle.zerotrie_lines.specs.declared.reading.Header.{Header}
+use Rattle.zerotrie_lines.specs.declared.reading.Header.TheVariants.{Absent, Present}
 use Rattle.zerotrie_lines.specs.declared.reading.LineEnd.{LineEnd}
 use Rattle.zerotrie_lines.specs.declared.reading.LineEnd.TheVariants.{CrLf, Lf}
 use Rattle.zerotrie_queries.specs.Chosen.{pattern_by}
@@ -123,14 +125,27 @@ MayNameEnd input.Lines word = Unit {0}
 MayNameEnd input.Json word = word ≡ None
 MayNameEnd input.JsonLines word = word ≡ None
 
+-- whether a header is in front, by its flag
+abbrev pub has_header : Header → Bool
+has_header Absent = false
+has_header Present = true
+
+-- a format may have a header: `tsv` and `csv`, whose pairs are columns
+abbrev pub MayHaveHeader : Input → Header → Type 0
+MayHaveHeader input.Tsv header = Unit {0}
+MayHaveHeader input.Csv header = Unit {0}
+MayHaveHeader input.Lines header = header ≡ Absent
+MayHaveHeader input.Json header = header ≡ Absent
+MayHaveHeader input.JsonLines header = header ≡ Absent
+
 -- an input of a format is such pairs, by whether it is raw: only `tsv` is
-abbrev pub IsSourceOf : Input → Bool → LineEnd → Source → Type 0
-IsSourceOf input.Tsv true end source = source ≡ Text TsvRaw end
-IsSourceOf input.Tsv false end source = source ≡ Text Tsv end
-IsSourceOf input.Csv raw end source = (raw ≡ false) × (source ≡ Text Csv end)
-IsSourceOf input.Lines raw end source = (raw ≡ false) × (source ≡ Text Lines end)
-IsSourceOf input.Json raw end source = (raw ≡ false) × (source ≡ Json)
-IsSourceOf input.JsonLines raw end source = (raw ≡ false) × (source ≡ JsonLines)
+abbrev pub IsSourceOf : Input → Bool → LineEnd → Header → Source → Type 0
+IsSourceOf input.Tsv true end header source = source ≡ Text TsvRaw end header
+IsSourceOf input.Tsv false end header source = source ≡ Text Tsv end header
+IsSourceOf input.Csv raw end header source = (raw ≡ false) × (source ≡ Text Csv end header)
+IsSourceOf input.Lines raw end header source = (raw ≡ false) × (source ≡ Text Lines end header)
+IsSourceOf input.Json raw end header source = (raw ≡ false) × (source ≡ Json)
+IsSourceOf input.JsonLines raw end header source = (raw ≡ false) × (source ≡ JsonLines)
 
 -- What the input of a build is, by its words.
 pub record IsInput (matches : ArgMatches) (source : Source) : Type 0 where
@@ -139,9 +154,12 @@ pub record IsInput (matches : ArgMatches) (source : Source) : Type 0 where
   pub end : LineEnd
   pub ended : IsEnd (word_of matches (codes "eol")) end
   pub lines : MayNameEnd format (word_of matches (codes "eol"))
+  pub header : Header
+  pub headed : IsFlag (flag_of matches (codes "header")) (has_header header)
+  pub columns : MayHaveHeader format header
   pub raw : Bool
   pub flag : IsFlag (flag_of matches (codes "raw")) raw
-  pub of : IsSourceOf format raw end source
+  pub of : IsSourceOf format raw end header source
 
 -- what becomes of a key that comes again, by its word
 abbrev pub duplicates_word : Duplicates → List ℕ

@@ -1,9 +1,9 @@
 //! The build that the command line asks for.
 
-ghost use Rattle.std.specs.Prelude.{◌≡◌, Some, IfErr, IfOk, IfSome, IfNone, codes};
-ghost use Rattle.zerotrie_words.specs.Refusals.{ExcludeEachOther, IsNoBuild, IsNoChoice, IsNoContent, IsNoEnd, IsNoInput, IsNoPlan, IsNoProgress, IsSaid, NamesNone};
+ghost use Rattle.std.specs.Prelude.{◌≡◌, Some, true, IfErr, IfOk, IfSome, IfNone, codes};
+ghost use Rattle.zerotrie_words.specs.Refusals.{ExcludeEachOther, HasNoHeader, IsNoBuild, IsNoChoice, IsNoContent, IsNoEnd, IsNoInput, IsNoPlan, IsNoProgress, IsSaid, NamesNone};
 ghost use Rattle.zerotrie_words.specs.Requests.{IsBuild};
-ghost use Rattle.zerotrie_words.specs.Words.{AreTogether, IsEnd, IsForm, IsFormat, IsInput, IsKind, IsPlan, IsSummary, IsTarget, MayNameEnd, duplicates_word, end_word, flag_of, format_word, word_of};
+ghost use Rattle.zerotrie_words.specs.Words.{AreTogether, IsEnd, IsFlag, IsForm, IsFormat, IsInput, IsKind, IsPlan, IsSummary, IsTarget, MayHaveHeader, MayNameEnd, duplicates_word, end_word, flag_of, format_word, has_header, word_of};
 ghost use Rattle.zerotrie_lines.specs.declared.reading.LineEnd.{LineEnd};
 ghost use Rattle.zerotrie_making.specs.declared.duplicates.Duplicates.{Duplicates};
 
@@ -11,7 +11,7 @@ use crate::input::Input;
 use crate::names::{kind_in, place_in, source_in};
 use clap::ArgMatches;
 use zerotrie_core::TrieKind;
-use zerotrie_lines::{Format, LineEnd};
+use zerotrie_lines::{Format, Header, LineEnd};
 use zerotrie_making::{Duplicates, FileForm, FilePlan, Plan, ReadPlan, Source};
 use zerotrie_run::{Build, Place, Summary};
 
@@ -62,6 +62,22 @@ fn end_in(matches: &ArgMatches<'_>, input: Input) -> Result<LineEnd, &'static st
     }
 }
 
+/// Returns whether a header is in front of an input of this format.
+fn header_in(matches: &ArgMatches<'_>, input: Input) -> Result<Header, &'static str>
+    ensures header { IfOk result (λ header.
+        IsFlag (flag_of matches.now (codes "header")) (has_header header)) }
+    ensures columns { IfOk result (MayHaveHeader input) }
+    ensures refused { IfErr result (λ _. HasNoHeader input
+        × IsFlag (flag_of matches.now (codes "header")) true) }
+    ensures said { IfErr result IsSaid }
+{
+    match (matches.get_flag("header"), input) {
+        (false, _) => Ok(Header::Absent),
+        (true, Input::Tsv | Input::Csv) => Ok(Header::Present),
+        (true, Input::Lines | Input::Json | Input::JsonLines) => Err("--header is for tsv and csv"),
+    }
+}
+
 /// Returns how the input is pairs. Only `tsv` is raw.
 fn input_in(matches: &ArgMatches<'_>) -> Result<Source, &'static str>
     ensures input { IfOk result (IsInput matches.now) }
@@ -70,12 +86,13 @@ fn input_in(matches: &ArgMatches<'_>) -> Result<Source, &'static str>
 {
     let input = format_in(matches)?;
     let end = end_in(matches, input)?;
+    let header = header_in(matches, input)?;
     let raw = matches.get_flag("raw");
     match (input, raw) {
-        (Input::Tsv, true) => Ok(Source::Text(Format::TsvRaw, end)),
-        (Input::Tsv, false) => Ok(Source::Text(Format::Tsv, end)),
-        (Input::Csv, false) => Ok(Source::Text(Format::Csv, end)),
-        (Input::Lines, false) => Ok(Source::Text(Format::Lines, end)),
+        (Input::Tsv, true) => Ok(Source::Text(Format::TsvRaw, end, header)),
+        (Input::Tsv, false) => Ok(Source::Text(Format::Tsv, end, header)),
+        (Input::Csv, false) => Ok(Source::Text(Format::Csv, end, header)),
+        (Input::Lines, false) => Ok(Source::Text(Format::Lines, end, header)),
         (Input::Json, false) => Ok(Source::Json),
         (Input::JsonLines, false) => Ok(Source::JsonLines),
         (Input::Csv | Input::Lines | Input::Json | Input::JsonLines, true) => Err(

@@ -245,6 +245,11 @@ const LOOK_UPS: &[Subcommand] = &[
                 help: "Read tsv without escapes",
             },
             Argument {
+                name: "header",
+                form: Form::Flag(None),
+                help: "Leave out the first line or record of tsv or csv, which is a header",
+            },
+            Argument {
                 name: "eol",
                 form: Form::OneOf("E", None, ENDS, Otherwise::Nothing),
                 help: "What ends a line, else crlf: lf keeps carriage returns",

@@ -27,8 +27,8 @@ impl PairUnit {
         ensures { result ≡ unit_of source }
     {
         match source {
-            Source::Text(Format::Csv, _) => PairUnit::Record,
-            Source::Text(Format::Tsv | Format::TsvRaw | Format::Lines, _) => PairUnit::Line,
+            Source::Text(Format::Csv, _, _) => PairUnit::Record,
+            Source::Text(Format::Tsv | Format::TsvRaw | Format::Lines, _, _) => PairUnit::Line,
             Source::Json => PairUnit::Pair,
             Source::JsonLines => PairUnit::Line,
         }
@@ -156,9 +156,9 @@ fn add_keys(text: &mut Vec<u8>, shown: &Shown) -> Result<(), AllocError>
 fn hint(unit: PairUnit, number: usize, bad: &BadLine) -> &'static str {
     match (unit, bad) {
         (_, BadLine::NoTab) => "; if the input has another form, name it by --format",
-        (PairUnit::Record, BadLine::Value(value))
+        (PairUnit::Line | PairUnit::Record, BadLine::Value(value))
             if number == 1 && value.fault == ValueFault::Other => {
-            "; if it is a header, leave it out"
+            "; if it is a header, say so by --header"
         }
         _ => "",
     }

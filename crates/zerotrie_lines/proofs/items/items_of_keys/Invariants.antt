@@ -7,8 +7,9 @@ use Rattle.zerotrie_lines.proofs.items.items_of_keys.Given as goal
 
 abbrev pub invariant-loop-rest : goal.invariant-loop-rest
 invariant-loop-rest l = record {
-  few : l.number + length l.rest ≤ length l.text;
-  read : ReadTo Lines (ended_lines l.end l.text) (pairs_of l.items.items) (l.number + 1) (ended_lines l.end l.rest);
+  few : l.number + length l.rest ≤ l.before + length l.text;
+  start : l.before ≤ 1;
+  read : ReadTo (l.before + 1) Lines (ended_lines l.end l.text) (pairs_of l.items.items) (l.number + 1) (ended_lines l.end l.rest);
 }
 
 abbrev pub decreases-loop-rest : goal.decreases-loop-rest

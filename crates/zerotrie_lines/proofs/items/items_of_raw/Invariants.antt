@@ -7,7 +7,7 @@ use Rattle.zerotrie_lines.proofs.ReadLemmas.{ReadTo}
 use Rattle.zerotrie_lines.proofs.items.items_of_raw.Given as goal
 
 abbrev pub invariant-loop-rest : goal.invariant-loop-rest
-invariant-loop-rest l = (n : ℕ) × ReadTo TsvRaw (ended_lines l.end l.text) (pairs_of l.items.items) n (ended_lines l.end l.rest)
+invariant-loop-rest l = ((first : ℕ) → (n : ℕ) × ReadTo first TsvRaw (ended_lines l.end l.text) (pairs_of l.items.items) n (ended_lines l.end l.rest))
     × (Any (IsNotPlain true) (ended_lines l.end l.rest) → Any (IsNotPlain true) (ended_lines l.end l.text))
 
 abbrev pub decreases-loop-rest : goal.decreases-loop-rest

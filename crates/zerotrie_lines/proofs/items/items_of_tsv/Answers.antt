@@ -11,7 +11,7 @@ use Rattle.zerotrie_lines.proofs.ReadLemmas.{ReadTo, read_none, read_more, read_
 use Rattle.zerotrie_lines.proofs.items.items_of_tsv.Goals as goal
 
 pub loop-rest-init : goal.loop-rest-init
-loop-rest-init c = (1, rw c.new-items.ensures.items (read_none Tsv (ended_lines c.args.end c.args.text.now)), λ h. h)
+loop-rest-init c = (λ first. (first, rw c.new-items.ensures.items (read_none first Tsv (ended_lines c.args.end c.args.text.now))), λ h. h)
 
 pub loop-rest-preserved : goal.loop-rest-preserved
 loop-rest-preserved c =
@@ -21,14 +21,15 @@ loop-rest-preserved c =
     let after = c.take_plain.new.rest.now in
     let items = c.loop-rest.items.items in
     let item = c.in-Some.item in
-    let n = c.loop-rest.invariant.0 in
     let all = ended_lines end c.args.text.now in
     let first = first_ended end rest line after (not_nil rest c.loop-rest-test.ensures) refl c.in-Some.ensures.rest in
     let pushed = ap pairs_of c.in_ok-push-in-Some.ensures.items ∙ pairs_push items item in (
-      n + 1,
-      subst (λ p. ReadTo Tsv all p (n + 1) (ended_lines end after)) (sym pushed)
-          (read_more Tsv all (ended_lines end rest) (ended_lines end after) (pairs_of items) n line (item.0.now, item.1) c.loop-rest.invariant.1 first c.in-Some.ensures.pair),
-      λ h. c.loop-rest.invariant.2 (subst (Any (IsNotPlain false)) (sym first) (any_later (IsNotPlain false) line (ended_lines end after) h)),
+      λ start. let so_far = c.loop-rest.invariant.0 start in (
+        so_far.0 + 1,
+        subst (λ p. ReadTo start Tsv all p (so_far.0 + 1) (ended_lines end after)) (sym pushed)
+            (read_more start Tsv all (ended_lines end rest) (ended_lines end after) (pairs_of items) so_far.0 line (item.0.now, item.1) so_far.1 first c.in-Some.ensures.pair),
+      ),
+      λ h. c.loop-rest.invariant.1 (subst (Any (IsNotPlain false)) (sym first) (any_later (IsNotPlain false) line (ended_lines end after) h)),
     )
 
 pub returns-in-None-clause-none : goal.returns-in-None-clause-none
@@ -38,9 +39,10 @@ returns-in-None-clause-none c =
     let line = ended end (before_first is_feed rest) in
     let after = ended_lines end (after_first is_feed rest) in
     let first = first_ended end rest line (after_first is_feed rest) (not_nil rest c.loop-rest-test.ensures) refl refl in
-    c.loop-rest.invariant.2 (subst (Any (IsNotPlain false)) (sym first) (any_first (IsNotPlain false) line after c.in-None.ensures.not_plain))
+    c.loop-rest.invariant.1 (subst (Any (IsNotPlain false)) (sym first) (any_first (IsNotPlain false) line after c.in-None.ensures.not_plain))
 
 pub returns-clause-reads : goal.returns-clause-reads
-returns-clause-reads c =
-    read_all Tsv (ended_lines c.args.end c.args.text.now) (ended_lines c.args.end c.loop-rest.rest.now) (pairs_of c.loop-rest.items.items) c.loop-rest.invariant.0 c.loop-rest.invariant.1
+returns-clause-reads c = λ first.
+    let so_far = c.loop-rest.invariant.0 first in
+    read_all first Tsv (ended_lines c.args.end c.args.text.now) (ended_lines c.args.end c.loop-rest.rest.now) (pairs_of c.loop-rest.items.items) so_far.0 so_far.1
     (none_ended c.args.end c.loop-rest.rest.now (is_nil c.loop-rest.rest.now c.loop-rest-test.ensures))

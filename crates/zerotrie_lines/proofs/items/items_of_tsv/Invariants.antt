@@ -7,7 +7,7 @@ use Rattle.zerotrie_lines.proofs.ReadLemmas.{ReadTo}
 use Rattle.zerotrie_lines.proofs.items.items_of_tsv.Given as goal
 
 abbrev pub invariant-loop-rest : goal.invariant-loop-rest
-invariant-loop-rest l = (n : ℕ) × ReadTo Tsv (ended_lines l.end l.text) (pairs_of l.items.items) n (ended_lines l.end l.rest)
+invariant-loop-rest l = ((first : ℕ) → (n : ℕ) × ReadTo first Tsv (ended_lines l.end l.text) (pairs_of l.items.items) n (ended_lines l.end l.rest))
     × (Any (IsNotPlain false) (ended_lines l.end l.rest) → Any (IsNotPlain false) (ended_lines l.end l.text))
 
 abbrev pub decreases-loop-rest : goal.decreases-loop-rest

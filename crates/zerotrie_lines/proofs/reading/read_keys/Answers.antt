@@ -13,12 +13,13 @@ loop-rest-preserved c =
     let after = line.new.rest.now in
     let some = not_nil rest c.loop-rest-test.ensures in
     let first = first_ended c.args.end rest line.result.now after some line.ensures.line line.ensures.rest in record {
+      start = c.loop-rest.invariant.start;
       few = omega (arith, c.loop-rest.invariant.few, after_shorter rest some, ap (λ t. length t) line.ensures.rest);
-      read = subst (λ t. ReadTo Lines (ended_lines c.args.end c.args.text.now) t (c.loop-rest.number + 1 + 1) (ended_lines c.args.end after)) (sym c.in_ok-push.ensures.ok)
-          (read_more Lines (ended_lines c.args.end c.args.text.now) (ended_lines c.args.end rest) (ended_lines c.args.end after) c.loop-rest.table (c.loop-rest.number + 1) line.result.now (line.result.now, c.loop-rest.number + 1) c.loop-rest.invariant.read first refl);
+      read = subst (λ t. ReadTo (c.args.before + 1) Lines (ended_lines c.args.end c.args.text.now) t (c.loop-rest.number + 1 + 1) (ended_lines c.args.end after)) (sym c.in_ok-push.ensures.ok)
+          (read_more (c.args.before + 1) Lines (ended_lines c.args.end c.args.text.now) (ended_lines c.args.end rest) (ended_lines c.args.end after) c.loop-rest.table (c.loop-rest.number + 1) line.result.now (line.result.now, c.loop-rest.number + 1) c.loop-rest.invariant.read first refl);
     }
 
 pub returns-clause-ok : goal.returns-clause-ok
 returns-clause-ok c =
-    read_all Lines (ended_lines c.args.end c.args.text.now) (ended_lines c.args.end c.loop-rest.rest.now) c.loop-rest.table (c.loop-rest.number + 1) c.loop-rest.invariant.read
+    read_all (c.args.before + 1) Lines (ended_lines c.args.end c.args.text.now) (ended_lines c.args.end c.loop-rest.rest.now) c.loop-rest.table (c.loop-rest.number + 1) c.loop-rest.invariant.read
     (none_ended c.args.end c.loop-rest.rest.now (is_nil c.loop-rest.rest.now c.loop-rest-test.ensures))

@@ -6,9 +6,10 @@ use Rattle.zerotrie_lines.proofs.reading.read_tsv.Given as goal
 
 abbrev pub invariant-loop-rest : goal.invariant-loop-rest
 invariant-loop-rest l = record {
-  few : l.number + length l.rest ≤ length l.text;
-  read : ReadTo (tabbed l.raw) (ended_lines l.end l.text) l.table (l.number + 1) (ended_lines l.end l.rest);
-  good : GoodTo l.raw (ended_lines l.end l.text) (l.number + 1) (ended_lines l.end l.rest);
+  few : l.number + length l.rest ≤ l.before + length l.text;
+  start : l.before ≤ 1;
+  read : ReadTo (l.before + 1) (tabbed l.raw) (ended_lines l.end l.text) l.table (l.number + 1) (ended_lines l.end l.rest);
+  good : GoodTo (l.before + 1) l.raw (ended_lines l.end l.text) (l.number + 1) (ended_lines l.end l.rest);
 }
 
 abbrev pub decreases-loop-rest : goal.decreases-loop-rest

@@ -3,9 +3,10 @@ use Rattle.csv.specs.Reading.{Reached, strip_bom}
 use Rattle.csv.specs.Records.{fields_of}
 use Rattle.csv.specs.declared.parser.State.TheVariants as st
 use Rattle.csv.proofs.ReadFacts.{rows-more}
+use Rattle.zerotrie_lines.specs.Lines.{behind}
 use Rattle.zerotrie_lines.specs.Reads.{ExplainsRecords}
 use Rattle.zerotrie_lines.specs.Records.{ArePairRecords, config_of}
-use Rattle.zerotrie_lines.proofs.RecordLemmas.{records_push, with_end}
+use Rattle.zerotrie_lines.proofs.RecordLemmas.{behind_more, behind_nothing, none_behind, records_push, with_end}
 use Rattle.zerotrie_lines.proofs.records.read_records.Goals as goal
 
 pub loop-index-init : goal.loop-index-init
@@ -22,7 +23,7 @@ loop-index-init c =
       fr.source,
       [],
       (sym fr.state, refl),
-      subst (λ t. ArePairRecords [] t) (sym c.new-table.ensures) tt,
+      subst (λ t. ArePairRecords (behind c.args.header []) t) (sym c.new-table.ensures) (subst (λ r. ArePairRecords r []) (sym (behind_nothing c.args.header)) tt),
       refl,
     )
 
@@ -32,8 +33,25 @@ returns-in-Some-clause-err c =
     let fields = fields_of c.read_byte_record.new.row in
     let r = rw c.if-not-found.false at (c.in-Ok.ensures.reads trim ready) in
     let m = rows-more (λ (s : Bor (List ℕ)). Some s.now) c.loop-index.reader c.read_byte_record.new.self fields (config_of c.args.end) st.StartRecord (strip_bom c.args.input.now) y rows config source reached r in
-    subst (λ e. ExplainsRecords c.args.end c.args.input.now e) (sym c.at_line.ensures)
-    (rows, fields, c.loop-index.table, (c.read_byte_record.new.self.state, m.0, m.2), pairs, omega (arith, count), rw c.in-Some.is at c.in_ok-bad.ensures.none)
+    subst (λ e. ExplainsRecords c.args.end c.args.header c.args.input.now e) (sym c.at_line.ensures)
+    (rows, fields, c.loop-index.table, (c.read_byte_record.new.self.state, m.0, m.2), pairs, omega (arith, count, c.if-index-rows.false, c.rows.ensures), omega (arith, count), rw c.in-Some.is at c.in_ok-bad.ensures.none)
+
+pub loop-index-preserved-then-index-rows : goal.loop-index-preserved-then-index-rows
+loop-index-preserved-then-index-rows c =
+    let (trim, ready, config, y, source, rows, reached, pairs, count) = c.loop-index.invariant in
+    let fields = fields_of c.read_byte_record.new.row in
+    let r = rw c.if-not-found.false at (c.in-Ok.ensures.reads trim ready) in
+    let m = rows-more (λ (s : Bor (List ℕ)). Some s.now) c.loop-index.reader c.read_byte_record.new.self fields (config_of c.args.end) st.StartRecord (strip_bom c.args.input.now) y rows config source reached r in (
+      r.3 ∙ trim,
+      inl (c.in-Ok.ensures.ready trim),
+      r.2 ∙ config,
+      m.0,
+      m.1,
+      rows ++ fields ∷ [],
+      m.2,
+      subst (λ rs. ArePairRecords rs c.loop-index.table) (sym (none_behind c.args.header rows fields (omega (arith, count, c.if-index-rows.true, c.rows.ensures)))) pairs,
+      omega (arith, length-append rows (fields ∷ []), count),
+    )
 
 pub loop-index-preserved : goal.loop-index-preserved
 loop-index-preserved c =
@@ -49,6 +67,8 @@ loop-index-preserved c =
       m.1,
       rows ++ fields ∷ [],
       m.2,
-      subst (λ t. ArePairRecords (rows ++ fields ∷ []) t) (sym pair.2) (records_push rows c.loop-index.table fields pair.0 pairs pair.1),
+      subst (λ t. ArePairRecords (behind c.args.header (rows ++ fields ∷ [])) t) (sym pair.2)
+          (subst (λ rs. ArePairRecords rs (c.loop-index.table ++ pair.0 ∷ [])) (sym (behind_more c.args.header rows (fields ∷ []) (omega (arith, count, c.if-index-rows.false, c.rows.ensures))))
+          (records_push (behind c.args.header rows) c.loop-index.table fields pair.0 pairs pair.1)),
       omega (arith, length-append rows (fields ∷ []), count),
     )

@@ -5,7 +5,7 @@ use Rattle.zerotrie_core.specs.Items.{pairs_of}
 use Rattle.zerotrie_making.specs.Kept.{numbered, firsts, lasts, unnumbered, kept, number_in, number_at}
 use Rattle.zerotrie_making.specs.Made.{ExplainsOf}
 use Rattle.zerotrie_making.proofs.MadeLemmas.{kept_refusal}
-use Rattle.zerotrie_making.proofs.file.make_from.Goals as goal
+use Rattle.zerotrie_making.proofs.file.make_numbered.Goals as goal
 
 pub returns-in-Refuse-clause-err : goal.returns-in-Refuse-clause-err
 returns-in-Refuse-clause-err c =
