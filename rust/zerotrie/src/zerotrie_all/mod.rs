@@ -29,8 +29,8 @@
 //! - `ZeroTrieExtendedCapacity` for keys of any bytes, also in tries of more than 4 GB,
 //! - `ZeroTrie`, whose kind is a value at run time: any of these but the one that ignores case.
 //!
-//! Only a `ZeroTrieSimpleAscii` can be built in an array. A `ZeroTrie` over bytes or a store takes
-//! its kind as a type parameter.
+//! The two over ASCII keys can be built in an array. A `ZeroTrie` over bytes or a store takes its
+//! kind as a type parameter.
 //!
 //! `use zerotrie::Trie` brings the calls that all types share: of prefixes of a string, streams, counts.
 //! A `TrieRef` has them for any kind that is known only when the program runs.
@@ -104,7 +104,7 @@ pub mod bytes {
     };
     pub use crate::zerotrie_build::{
         ByteSliceWithIndices, TrieBuilderStore, ZeroTrieBuilder, ZeroTrieBuilderConst,
-        bytes_within, encoded_len, fill_from_end,
+        bytes_within, bytes_within_as, encoded_len, fill_from_end, fill_from_end_as,
     };
     pub use crate::zerotrie_core::{
         Branch, ByteSet, CursorPlace, Fault, FaultCause, LookUps, Node, Nodes, Part, Reached,

@@ -2,12 +2,12 @@
 //! Tries that are built in arrays.
 
 use crate::rstd::prelude::*;
-use crate::zerotrie_ascii::trie::{AsciiTrie, ZeroTrieSimpleAscii};
+use crate::zerotrie_ascii::trie::{AsciiKind, AsciiTrie};
 use crate::rstd::alloc::Global;
-use crate::zerotrie_build::{ByteSliceWithIndices, bytes_within, fill_from_end};
+use crate::zerotrie_build::{ByteSliceWithIndices, bytes_within_as, fill_from_end_as};
 use crate::zerotrie_core::{ZeroTrieBuildError, laws};
 
-impl<const N: usize> ZeroTrieSimpleAscii<[u8; N]> {
+impl<K: AsciiKind, const N: usize> AsciiTrie<K, [u8; N]> {
     /// Builds the trie of a slice in an array of exactly its length:
     /// `from_sorted_u8_tuples_with_stack` with a stack of 100.
     pub fn from_sorted_u8_tuples(items: &[(&[u8], usize)]) -> Result<Self, ZeroTrieBuildError> {
@@ -15,8 +15,8 @@ impl<const N: usize> ZeroTrieSimpleAscii<[u8; N]> {
     }
 
     /// Builds the trie of a slice, whose keys must ascend strictly by their bytes, in an array of
-    /// exactly its length, which `encoded_len` returns. The stack has room for `K` finished
-    /// subtries that wait for their branch. `K` must be below 2^58. Does not allocate.
+    /// exactly its length, which `encoded_len` returns. The stack has room for `STACK` finished
+    /// subtries that wait for their branch. `STACK` must be below 2^58. Does not allocate.
     ///
     /// ```
     /// # use zerotrie::{rstd::examples::*, zerotrie_ascii::*, zerotrie_core::*, zerotrie_build::*, zerotrie_any::*};
@@ -27,12 +27,25 @@ impl<const N: usize> ZeroTrieSimpleAscii<[u8; N]> {
     /// # Ok::<(), Fail>(())
     /// ```
     ///
+    /// The keys of a `ZeroAsciiIgnoreCaseTrie` must ascend in lower case instead, as nothing is
+    /// sorted here.
+    ///
+    /// ```
+    /// # use zerotrie::{rstd::examples::*, zerotrie_ascii::*, zerotrie_core::*, zerotrie_build::*, zerotrie_any::*};
+    /// let items: [(&[u8], usize); 3] = [(b"Accept", 1), (b"Accept-CH", 2), (b"dnt", 3)];
+    /// let trie: ZeroAsciiIgnoreCaseTrie<[u8; 17]> =
+    ///     ZeroAsciiIgnoreCaseTrie::from_sorted_u8_tuples_with_stack::<2>(&items)?;
+    /// assert_eq!(trie.get(b"DNT"), Some(3));
+    /// # Ok::<(), Fail>(())
+    /// ```
+    ///
     /// Errors: `Unsorted`, `NonAsciiError`, `CapacityExceeded`, `BufferTooSmall`, `BufferTooLarge`,
-    /// `StackExceeded`; see `ZeroTrieBuildError`. Without such a cause it returns the trie.
-    pub fn from_sorted_u8_tuples_with_stack<const K: usize>(
+    /// `StackExceeded`, and without case `MixedCase`; see `ZeroTrieBuildError`. Without such a
+    /// cause it returns the trie.
+    pub fn from_sorted_u8_tuples_with_stack<const STACK: usize>(
         items: &[(&[u8], usize)],
     ) -> Result<Self, ZeroTrieBuildError> {
-        fill::<N, K>(ByteSliceWithIndices::from_byte_slice(items))
+        fill::<K, N, STACK>(ByteSliceWithIndices::from_byte_slice(items))
     }
 
     /// Builds the trie of a slice, as `from_sorted_u8_tuples` does, for `str` keys.
@@ -41,14 +54,14 @@ impl<const N: usize> ZeroTrieSimpleAscii<[u8; N]> {
     }
 
     /// Builds the trie of a slice, as `from_sorted_u8_tuples_with_stack` does, for `str` keys.
-    pub fn from_sorted_str_tuples_with_stack<const K: usize>(
+    pub fn from_sorted_str_tuples_with_stack<const STACK: usize>(
         items: &[(&str, usize)],
     ) -> Result<Self, ZeroTrieBuildError> {
-        fill::<N, K>(ByteSliceWithIndices::from_str_slice(items))
+        fill::<K, N, STACK>(ByteSliceWithIndices::from_str_slice(items))
     }
 }
 
-impl ZeroTrieSimpleAscii<Vec<u8>> {
+impl<K: AsciiKind> AsciiTrie<K, Vec<u8>> {
     /// Builds the trie of a slice, of at most 10,000 bytes and with a stack of 100:
     /// `try_from_sorted_slice_sized` with these numbers.
     pub fn try_from_sorted_slice_with_const_builder(
@@ -58,9 +71,10 @@ impl ZeroTrieSimpleAscii<Vec<u8>> {
         Self::try_from_sorted_slice_sized::<10000, 100>(alloc, items)
     }
 
-    /// Builds the trie of a slice, whose keys must ascend strictly by their bytes. It may have at
-    /// most `N` bytes; as many as it has are allocated. The stack has room for `K` finished
-    /// subtries that wait for their branch. `K` must be below 2^58.
+    /// Builds the trie of a slice, whose keys must ascend strictly by their bytes, or in lower case
+    /// in the kind that ignores case. It may have at most `N` bytes; as many as it has are
+    /// allocated. The stack has room for `STACK` finished subtries that wait for their branch.
+    /// `STACK` must be below 2^58.
     ///
     /// ```
     /// # use zerotrie::{rstd::examples::*, zerotrie_ascii::*, zerotrie_core::*, zerotrie_build::*, zerotrie_any::*};
@@ -71,24 +85,24 @@ impl ZeroTrieSimpleAscii<Vec<u8>> {
     /// ```
     ///
     /// Errors: `Unsorted`, `NonAsciiError`, `CapacityExceeded`, `BufferTooSmall`, `StackExceeded`,
-    /// `OutOfMemory`; see `ZeroTrieBuildError`.
-    pub fn try_from_sorted_slice_sized<const N: usize, const K: usize>(
+    /// `OutOfMemory`, and without case `MixedCase`; see `ZeroTrieBuildError`.
+    pub fn try_from_sorted_slice_sized<const N: usize, const STACK: usize>(
         alloc: Global,
         items: &[(&[u8], usize)],
     ) -> Result<Self, ZeroTrieBuildError> {
         let items = ByteSliceWithIndices::from_byte_slice(items);
-        let store = bytes_within::<K>(alloc, N, items)?;
+        let store = bytes_within_as::<K, STACK>(alloc, N, items)?;
         Ok(AsciiTrie::from_store(store))
     }
 }
 
 /// Builds the trie of the items in an array of exactly its length.
-fn fill<const N: usize, const K: usize>(
+fn fill<K: AsciiKind, const N: usize, const STACK: usize>(
     items: ByteSliceWithIndices<'_>,
-) -> Result<ZeroTrieSimpleAscii<[u8; N]>, ZeroTrieBuildError> {
+) -> Result<AsciiTrie<K, [u8; N]>, ZeroTrieBuildError> {
     laws::length_is_size();
     let mut bytes = [0; N];
-    let start = fill_from_end::<K>(&mut bytes, items)?;
+    let start = fill_from_end_as::<K, STACK>(&mut bytes, items)?;
     if start > 0 {
         return Err(ZeroTrieBuildError::BufferTooLarge(N - start));
     }

@@ -38,7 +38,8 @@ pub enum ZeroTrieBuildError {
     IllegalDelimiter,
     /// An iterator returned a key twice.
     DuplicateKey,
-    /// The keys of a slice or map do not strictly ascend by their bytes.
+    /// The keys of a slice or map do not strictly ascend by their bytes, or those of an array of the
+    /// kind that ignores case by their bytes in lower case.
     Unsorted,
     /// The encoding is longer than the array.
     BufferTooSmall,

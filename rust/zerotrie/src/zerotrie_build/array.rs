@@ -8,8 +8,8 @@ mod text;
 mod walk;
 
 use crate::zerotrie_build::items::ByteSliceWithIndices;
-pub use fill::{bytes_within, fill_from_end};
-use crate::zerotrie_base::ZeroTrieBuildError;
+pub use fill::{bytes_within, bytes_within_as, fill_from_end, fill_from_end_as};
+use crate::zerotrie_base::{Simple, ZeroTrieBuildError, ZeroTrieWithOptions};
 
 /// A builder of a trie over ASCII keys in an array of `N` bytes, which it fills from the end. It
 /// does not allocate.
@@ -47,8 +47,18 @@ impl<const N: usize> ZeroTrieBuilderConst<N> {
     pub fn from_tuple_slice_with_stack<const K: usize>(
         items: ByteSliceWithIndices<'_>,
     ) -> Result<Self, ZeroTrieBuildError> {
+        Self::from_tuple_slice_as::<Simple, K>(items)
+    }
+
+    /// Builds the trie of the items in a kind over ASCII keys: `Simple`, or `Ignore`, whose items
+    /// ascend strictly by the bytes of their keys in lower case.
+    ///
+    /// It is `fill_from_end_as` over an array, with the same errors.
+    pub fn from_tuple_slice_as<K: ZeroTrieWithOptions, const STACK: usize>(
+        items: ByteSliceWithIndices<'_>,
+    ) -> Result<Self, ZeroTrieBuildError> {
         let mut data = [0; N];
-        let start = fill_from_end::<K>(&mut data, items)?;
+        let start = fill_from_end_as::<K, STACK>(&mut data, items)?;
         Ok(ZeroTrieBuilderConst { data, start })
     }
 

@@ -22,7 +22,9 @@ mod store;
 mod windows;
 mod write;
 
-pub use array::{ZeroTrieBuilderConst, bytes_within, fill_from_end};
+pub use array::{
+    ZeroTrieBuilderConst, bytes_within, bytes_within_as, fill_from_end, fill_from_end_as,
+};
 pub use builder::{ZeroTrieBuilder, build_slice, encoded_len};
 pub use items::ByteSliceWithIndices;
 pub use refusal::{Refusal, why_iter_refused, why_slice_refused};

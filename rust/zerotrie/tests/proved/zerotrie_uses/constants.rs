@@ -1,11 +1,11 @@
 // Made from crates/zerotrie_uses/src/constants.rt by rust/make: edit that.
-//! A table of constants. No build refuses it: the only error is out of memory, and a build in an
+//! Tables of constants. No build refuses them: the only error is out of memory, and a build in an
 //! array returns none.
 
 use crate::rstd::prelude::*;
 use crate::rstd::alloc::{AllocError, Global};
 use crate::zerotrie_all::bytes::{ByteSliceWithIndices, ZeroTrieBuilderConst, get};
-use crate::zerotrie_all::{Simple, ZeroTrieBuildError, ZeroTrieSimpleAscii};
+use crate::zerotrie_all::{Ignore, Simple, ZeroTrieBuildError, ZeroTrieSimpleAscii};
 
 /// Names of headers in ascending order, each with its number.
 pub const HEADERS: &[(&[u8], usize)] = &[
@@ -140,6 +140,26 @@ pub fn header_bytes() -> ZeroTrieBuilderConst<3493> {
 pub fn header_number(name: &[u8]) -> Option<usize> {
     let bytes = header_bytes();
     ZeroTrieSimpleAscii::from_bytes(bytes.as_bytes()).get(name)
+}
+
+/// Returns the number of a header field in any case, or `None` exactly if there is no such field.
+/// There is no error, and nothing is allocated. The names ascend in lower case.
+pub fn field_number(name: &[u8]) -> Option<usize> {
+    let fields: [(&[u8], usize); 8] = [
+        (b"Accept", 0),
+        (b"Content-Length", 1),
+        (b"Content-Type", 2),
+        (b"DNT", 3),
+        (b"ETag", 4),
+        (b"Host", 5),
+        (b"TE", 6),
+        (b"WWW-Authenticate", 7),
+    ];
+    let items = ByteSliceWithIndices::from_byte_slice(&fields);
+    match ZeroTrieBuilderConst::<221>::from_tuple_slice_as::<Ignore, 8>(items) {
+        Ok(bytes) => get::<Ignore>(bytes.as_bytes(), name),
+        Err(_) => unreachable!(),
+    }
 }
 
 /// Returns the number of a request method, or `None` exactly if there is no such method. There is

@@ -16,7 +16,9 @@ mod listings;
 mod stored;
 
 pub use completion::complete;
-pub use constants::{HEADERS, header_bytes, header_number, header_trie, method_number};
+pub use constants::{
+    HEADERS, field_number, header_bytes, header_number, header_trie, method_number,
+};
 pub use cursors::{find_behind, find_written, suffixes_of};
 pub use fallbacks::{fall_back, fall_back_in_hashed, longest_key};
 pub use keyword::find_keyword;

@@ -36,7 +36,10 @@ fn of_texts_with_stack<const N: usize, const K: usize>(items: &[(&str, usize)]) 
 }
 
 /// Returns whether the array is filled with this text.
-fn is_full<const N: usize>(built: Built<N>, text: &[u8]) -> bool {
+fn is_full<K: AsciiKind, const N: usize>(
+    built: Result<AsciiTrie<K, [u8; N]>, ZeroTrieBuildError>,
+    text: &[u8],
+) -> bool {
     match built {
         Ok(trie) => trie.as_bytes() == text && trie.is_empty() == text.is_empty(),
         Err(_) => false,
@@ -52,9 +55,9 @@ const HIGH: [(&str, usize); 3] = [("bazzoo", 3), ("bár", 2), ("foo", 1)];
 #[test]
 fn arrays_are_filled() {
     let rt = HostRuntime;
-    holds(&rt, is_full::<0>(of_bytes(&[]), b""));
+    holds(&rt, is_full::<_, 0>(of_bytes(&[]), b""));
     holds(&rt, is_full(of_bytes_with_stack::<0, 0>(&[]), b""));
-    holds(&rt, is_full::<17>(of_texts(&BAZ), BAZ_TEXT));
+    holds(&rt, is_full::<_, 17>(of_texts(&BAZ), BAZ_TEXT));
     holds(&rt, is_full(of_texts_with_stack::<17, 3>(&BAZ), BAZ_TEXT));
     holds(
         &rt,
@@ -90,6 +93,45 @@ fn other_arrays_and_keys_are_refused() {
     );
     let small = of_texts_with_stack::<17, 2>(&BAZ);
     holds(&rt, is_refused(small, &ZeroTrieBuildError::StackExceeded));
+}
+
+/// Names that ascend in lower case, but not by their bytes.
+const NAMES: [(&str, usize); 4] = [("Accept", 1), ("Accept-CH", 2), ("dnt", 3), ("Via", 4)];
+
+/// Their encoding without case.
+const NAMES_TEXT: &[u8] = b"\xC3AdV\x0A\x0Dccept\x81-CH\x82nt\x83ia\x84";
+
+/// A trie without case in an array, or the error.
+fn without_case<const N: usize, const STACK: usize>(
+    items: &[(&str, usize)],
+) -> Result<ZeroAsciiIgnoreCaseTrie<[u8; N]>, ZeroTrieBuildError> {
+    ZeroAsciiIgnoreCaseTrie::from_sorted_str_tuples_with_stack::<STACK>(items)
+}
+
+#[test]
+fn arrays_without_case() -> Result<(), Fail> {
+    let rt = HostRuntime;
+    let grown = ZeroAsciiIgnoreCaseTrie::try_from_iter(rt.alloc(), NAMES)?;
+    same(&rt, grown.as_bytes(), NAMES_TEXT);
+    holds(&rt, is_full(without_case::<22, 3>(&NAMES), NAMES_TEXT));
+    let small = without_case::<22, 2>(&NAMES);
+    holds(&rt, is_refused(small, &ZeroTrieBuildError::StackExceeded));
+    Ok(())
+}
+
+#[test]
+fn arrays_without_case_are_refused() {
+    let rt = HostRuntime;
+    let by_bytes = without_case::<22, 3>(&[("DNT", 1), ("accept", 2)]);
+    holds(&rt, is_refused(by_bytes, &ZeroTrieBuildError::Unsorted));
+    let twice = without_case::<22, 3>(&[("DNT", 1), ("DNT", 2)]);
+    holds(&rt, is_refused(twice, &ZeroTrieBuildError::Unsorted));
+    let both_cases = without_case::<22, 3>(&[("DNT", 1), ("dnt", 2)]);
+    holds(&rt, is_refused(both_cases, &ZeroTrieBuildError::MixedCase));
+    let mixed = without_case::<22, 3>(&[("Accept", 1), ("access", 2)]);
+    holds(&rt, is_refused(mixed, &ZeroTrieBuildError::MixedCase));
+    let high = without_case::<22, 3>(&HIGH);
+    holds(&rt, is_refused(high, &ZeroTrieBuildError::NonAsciiError));
 }
 
 /// The bytes from 0 to 100.
