@@ -319,7 +319,7 @@ class Reference:
         rows = ""
         for it, block in calls:
             if block.type != name:
-                rows += f'<tr><td><a href="{self.pages[of]}#{it.name}"><code>{breaking(it.name)}</code></a><td>{self.inline(self.sentence(it.doc))}'
+                rows += f'<tr id="{it.name}"><td><a href="{self.pages[of]}#{it.name}"><code>{breaking(it.name)}</code></a><td>{self.inline(self.sentence(it.doc))}'
         done += f'<h2 id="of-{of}">Calls of {self.linked(of)}</h2><table>{rows}</table>\n'
         return done + self.shared_calls(traits)
 
