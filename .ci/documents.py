@@ -23,7 +23,7 @@ import sources
 
 QUOTING = ["README.md", "docs/CALLING.md"]
 SIGNATURES = "docs/SIGNATURES.md"
-TOGETHER = 27916  # words of all pages
+TOGETHER = 27960  # words of all pages
 # How many words a page may have: words have a letter or a digit, so the bars of a table are none. CHANGELOG.md grows.
 LIMITS = {
     "README.md": 810,
@@ -39,9 +39,9 @@ LIMITS = {
     "crates/zerotrie_tool/README.md": 390,
     "docs/ARCHITECTURE.md": 1290,
     "docs/C.md": 790,
-    "docs/CALLING.md": 2145,
+    "docs/CALLING.md": 2150,
     "docs/CPP.md": 800,
-    "docs/DECISIONS.md": 1595,
+    "docs/DECISIONS.md": 1640,
     "docs/DIFFERENCES.md": 1300,
     "docs/FORMAT.md": 4210,
     "docs/JAVASCRIPT.md": 550,
