@@ -1,6 +1,7 @@
 -- Which file a plan makes of an input, and why it makes none.
 use Rattle.std.specs.Prelude.{◌≡◌, ◌≢◌, ◌<◌, ◌+◌, ℕ, List, length, take, Bool, true, false, Result, Ok, Err, Some, None}
 use Rattle.zerotrie_core.specs.Kind.{perfect_hash}
+use Rattle.zerotrie_core.specs.Kinds.{kind_of}
 use Rattle.zerotrie_core.specs.Maps.{Pairs}
 use Rattle.zerotrie_core.specs.Routes.{Takes, HasCause, IsBuild}
 use Rattle.zerotrie_core.specs.declared.ZeroTrieBuildError.{ZeroTrieBuildError}
@@ -56,9 +57,10 @@ IsFileOfKept plan pairs file = IsFileOf plan.file (kept plan.read.duplicates pai
 abbrev pub IsFile : Plan → List ℕ → List ℕ → Type 0
 IsFile plan input file = OfInput plan input (λ pairs. IsFileOfKept plan pairs file)
 
--- The file is that of the pairs, and they are counted.
+-- The file is that of the pairs, its kind is known, and they are counted.
 pub record IsMadeOf (plan : FilePlan) (pairs : Pairs) (made : MadeFile) : Type 0 where
   pub is : IsFileOf plan pairs made.file.items
+  pub kind : kind_of made.kind ≡ kind_for plan.kind pairs
   pub counted : made.keys ≡ length pairs
 
 -- the same of those of the pairs that are kept

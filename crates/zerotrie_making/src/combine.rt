@@ -1,38 +1,97 @@
-//! Makes the file of a trie or an index from the tries of two others.
+//! Makes the file of a trie or an index from the tries of others.
 
-ghost use Rattle.std.specs.Prelude.{◌≡◌, ℕ, IfOk, IfErr, IfSome, Option, None, false};
-ghost use Rattle.std.specs.Bool.{OnTrue};
+ghost use Rattle.std.specs.Prelude.{◌≡◌, ℕ, List, All, map, take, slice_index_or, IfOk, IfErr, IfSome, OnOk, OnTrue, Option, None, false};
 ghost use Rattle.std.specs.FinMap.{entries};
+ghost use Rattle.zerotrie_core.specs.Items.{pairs_of};
 ghost use Rattle.zerotrie_core.specs.Kind.{flags};
 ghost use Rattle.zerotrie_core.specs.Kinds.{kind_of};
-ghost use Rattle.zerotrie_core.specs.Maps.{Ascends};
+ghost use Rattle.zerotrie_core.specs.Maps.{Pairs};
 ghost use Rattle.zerotrie_core.specs.WellFormed.{IsWellFormed};
-ghost use Rattle.zerotrie_queries.specs.Recased.{second_pairs};
+ghost use Rattle.zerotrie_core.specs.declared.TrieRef.{TrieRef};
 ghost use Rattle.zerotrie_sets.specs.Operations.{choose, IsCombined};
-ghost use Rattle.zerotrie_making.specs.Combinations.{IsFileOfBoth, ExplainsBoth, OfMeant, kind_kept};
+ghost use Rattle.zerotrie_sets.specs.Rows.{EachAscends};
+ghost use Rattle.zerotrie_making.specs.Combinations.{IsMadeOfMaps, ExplainsMaps, OfMeant, kind_kept};
 
-use crate::error::MakeError;
+use crate::error::CombinationError;
 use crate::file::make_of;
-use crate::plan::{FileForm, FilePlan};
+use crate::plan::{Combination, FilePlan, Made};
 use std::alloc::{AllocError, Global};
 use zerotrie_core::{PairStream, TrieKind, TrieRef};
 use zerotrie_lines::Table;
-use zerotrie_queries::{collect, ignore_case, look_up_all, of_sorted, recased, sorted_pairs};
-use zerotrie_search::laws::sorted_listing_ascends;
-use zerotrie_sets::{Combined, Keep, Operation};
+use zerotrie_queries::{collect, look_up_all, of_sorted, recased, sorted_pairs};
+use zerotrie_sets::{Keep, MergeAll, Operation, Rule, Selection, SortedSlice, SortedTrie};
 
-/// Combines the pairs of two streams whose keys ascend.
-fn merged<S: PairStream + Drop, T: PairStream + Drop>(
+/// Adds the current key of a merge, if it is taken.
+fn add_taken<S: PairStream>(
     alloc: Global,
-    operation: Operation,
-    first: S,
-    second: T,
-) -> Result<Table, AllocError>
-    requires first { Ascends (S.left first).pairs }
-    requires second { Ascends (T.left second).pairs }
-    ensures { IfOk result (IsCombined operation (S.left first).pairs (T.left second).pairs) }
-{
-    collect(alloc, Combined::new(first, second, operation))
+    combination: Combination,
+    rows: &MergeAll<S>,
+    table: &mut Table,
+) -> Result<(), CombinationError> {
+    match rows.selected(combination.selection, combination.rule) {
+        Ok(Some(value)) => Ok(table.push(rows.key(), value)?),
+        Ok(None) => Ok(()),
+        Err(why) => Err(CombinationError::NoValue(why, Vec::from_slice(alloc, rows.key())?)),
+    }
+}
+
+/// Merges streams whose keys ascend, and returns the pairs that are taken.
+fn merged<S: PairStream + Drop>(
+    alloc: Global,
+    combination: Combination,
+    streams: Vec<S>,
+) -> Result<Table, CombinationError> {
+    let mut rows = MergeAll::new(alloc, streams)?;
+    let mut table = Table::new(alloc);
+    while rows.advance()? {
+        add_taken(alloc, combination, &rows, &mut table)?;
+    }
+    Ok(table)
+}
+
+/// Lists each trie in the order of bytes.
+fn streams_of<'t>(
+    alloc: Global,
+    tries: &'t [TrieRef<'_>],
+) -> Result<Vec<SortedTrie<'t, 't>>, AllocError> {
+    let mut streams = Vec::with_capacity(alloc, tries.len())?;
+    for trie in tries {
+        streams.push(sorted_pairs(alloc, trie)?)?;
+    }
+    Ok(streams)
+}
+
+/// Returns the pairs of the trie with this number, each key in the case of the first trie that has it.
+fn in_first_case(alloc: Global, tries: &[TrieRef<'_>], at: usize) -> Result<Table, AllocError> {
+    let mut table = collect(alloc, sorted_pairs(alloc, &tries[at])?)?;
+    let mut before = at;
+    while before > 0 {
+        before -= 1;
+        let items = table.items(alloc)?;
+        table = recased(alloc, &tries[before], &tries[at], of_sorted(items.as_slice()))?;
+    }
+    Ok(table)
+}
+
+/// Combines the pairs of tries that ignore case.
+fn combine_in_any_case(
+    alloc: Global,
+    combination: Combination,
+    tries: &[TrieRef<'_>],
+) -> Result<Table, CombinationError> {
+    let mut tables = Vec::with_capacity(alloc, tries.len())?;
+    for at in 0..tries.len() {
+        tables.push(in_first_case(alloc, tries, at)?)?;
+    }
+    let mut items = Vec::with_capacity(alloc, tries.len())?;
+    for table in tables.as_slice() {
+        items.push(table.items(alloc)?)?;
+    }
+    let mut streams: Vec<SortedSlice<'_, '_>> = Vec::with_capacity(alloc, tries.len())?;
+    for pairs in items.as_slice() {
+        streams.push(of_sorted(pairs.as_slice()))?;
+    }
+    merged(alloc, combination, streams)
 }
 
 /// One trie has few keys beside another if it has at most one byte for this many of the other's.
@@ -46,18 +105,18 @@ fn are_few(trie: &TrieRef<'_>, other: &TrieRef<'_>) -> bool
     trie.bytes.len() <= other.bytes.len() / MANY && !other.kind.options().ignore_case()
 }
 
-/// Returns whether an operation takes only keys that the first trie has.
-fn takes_of_first(operation: Operation) -> bool
-    ensures { OnTrue result ((found : Option ℕ) → choose operation None found ≡ None) }
-{
-    matches!(
-        operation,
-        Operation::Intersection(_) | Operation::Difference
-    )
+/// Returns the operation on two tries that takes the same, and only keys that the first one has.
+fn operation_of(selection: Selection, rule: Rule) -> Option<Operation> {
+    match (selection, rule) {
+        (Selection::Intersection, Rule::First) => Some(Operation::Intersection(Keep::First)),
+        (Selection::Intersection, Rule::Last) => Some(Operation::Intersection(Keep::Last)),
+        (Selection::Difference, _) => Some(Operation::Difference),
+        _ => None,
+    }
 }
 
-/// Returns what does the same with the tries in each other's place, if that takes only keys that the
-/// second trie has.
+/// Returns the same with the tries in each other's place, if that takes only keys that the second trie
+/// has.
 fn turned(operation: Operation) -> Option<Operation>
     ensures same { IfSome result (λ turned. (one other : Option ℕ)
         → choose turned one other ≡ choose operation other one) }
@@ -70,147 +129,138 @@ fn turned(operation: Operation) -> Option<Operation>
     }
 }
 
-/// Lists two tries, and combines their pairs.
-fn combine_listed(
+/// Returns what a combination takes of two tries, if one of them has few keys, which are then looked up
+/// in the other. `None` if neither has, or the combination takes other keys.
+fn look_up_few(
     alloc: Global,
-    operation: Operation,
-    first: &TrieRef<'_>,
-    second: &TrieRef<'_>,
-) -> Result<Table, AllocError>
-    requires first { IsWellFormed (kind_of first.now.kind) first.now.bytes.now }
-    requires second { IsWellFormed (kind_of second.now.kind) second.now.bytes.now }
-    ensures { IfOk result (λ table. OfMeant (kind_of first.now.kind) first.now.bytes.now
-        (kind_of second.now.kind) second.now.bytes.now
-        (λ m n. IsCombined operation (entries m) (entries n) table)) }
-{
-    let pairs = sorted_pairs(alloc, first)?;
-    let others = sorted_pairs(alloc, second)?;
-    merged(alloc, operation, pairs, others)
-}
-
-/// Combines the pairs of two tries, whose keys are equal if their bytes are. If one has few keys, they
-/// are looked up in the other, which is then not listed.
-fn combine_exact(
-    alloc: Global,
-    operation: Operation,
-    first: &TrieRef<'_>,
-    second: &TrieRef<'_>,
-) -> Result<Table, AllocError>
-    requires first { IsWellFormed (kind_of first.now.kind) first.now.bytes.now }
-    requires second { IsWellFormed (kind_of second.now.kind) second.now.bytes.now }
-    ensures { IfOk result (λ table. OfMeant (kind_of first.now.kind) first.now.bytes.now
-        (kind_of second.now.kind) second.now.bytes.now
-        (λ m n. IsCombined operation (entries m) (entries n) table)) }
-{
-    sorted_listing_ascends();
-    if takes_of_first(operation) && are_few(first, second) {
-        return look_up_all(alloc, operation, first, second);
+    combination: Combination,
+    tries: &[TrieRef<'_>],
+) -> Result<Option<Table>, AllocError> {
+    let [first, second] = tries else {
+        return Ok(None);
+    };
+    let Some(operation) = operation_of(combination.selection, combination.rule) else {
+        return Ok(None);
+    };
+    if are_few(first, second) {
+        return Ok(Some(look_up_all(alloc, operation, first, second)?));
     }
     match turned(operation) {
-        Some(turned) if are_few(second, first) => look_up_all(alloc, turned, second, first),
-        _ => combine_listed(alloc, operation, first, second),
+        Some(turned) if are_few(second, first) => {
+            Ok(Some(look_up_all(alloc, turned, second, first)?))
+        }
+        _ => Ok(None),
     }
 }
 
-/// Combines the pairs of two tries. If both ignore case, keys that differ only in the case of letters
-/// are one key, as the first trie has it.
+/// Returns whether all tries ignore case.
+fn all_ignore_case(tries: &[TrieRef<'_>]) -> bool {
+    for trie in tries {
+        if !trie.kind.options().ignore_case() {
+            return false;
+        }
+    }
+    true
+}
+
+/// Returns the pairs that a combination takes of tries.
 fn combine(
     alloc: Global,
-    operation: Operation,
-    first: &TrieRef<'_>,
-    second: &TrieRef<'_>,
-) -> Result<Table, AllocError>
-    requires first { IsWellFormed (kind_of first.now.kind) first.now.bytes.now }
-    requires second { IsWellFormed (kind_of second.now.kind) second.now.bytes.now }
-    ensures { IfOk result (λ table. OfMeant (kind_of first.now.kind) first.now.bytes.now
-        (kind_of second.now.kind) second.now.bytes.now
-        (λ m n. IsCombined operation (entries m)
-        (second_pairs (kind_of first.now.kind) (kind_of second.now.kind) m n) table)) }
-{
-    if ignore_case(first.kind, second.kind) {
-        let pairs = sorted_pairs(alloc, first)?;
-        let table = recased(alloc, first, second)?;
-        let items = table.items(alloc)?;
-        merged(alloc, operation, pairs, of_sorted(items.as_slice()))
-    } else {
-        combine_exact(alloc, operation, first, second)
+    combination: Combination,
+    tries: &[TrieRef<'_>],
+) -> Result<Table, CombinationError> {
+    if all_ignore_case(tries) {
+        return combine_in_any_case(alloc, combination, tries);
+    }
+    match look_up_few(alloc, combination, tries)? {
+        Some(table) => Ok(table),
+        None => merged(alloc, combination, streams_of(alloc, tries)?),
     }
 }
 
-/// Returns the kind that is asked for: the one that is named, or else the one that both tries have.
+/// Returns the kind that is asked for: the one that is named, or else the one that all tries have.
 /// `None` if theirs differ.
-fn kind_kept(named: Option<TrieKind>, first: TrieKind, second: TrieKind) -> Option<TrieKind>
-    ensures { result ≡ kind_kept named first second }
+pub fn kind_kept(named: Option<TrieKind>, tries: &[TrieRef<'_>]) -> Option<TrieKind>
+    ensures { result ≡ kind_kept named (map (λ trie. trie.kind) tries.now) }
 {
-    match named {
-        Some(kind) => Some(kind),
-        None if first.tag() == second.tag() => Some(first),
-        None => None,
+    if named.is_some() {
+        return named;
     }
+    let (first, others) = tries.split_first()?;
+    for trie in others {
+        if trie.kind.tag() != first.kind.tag() {
+            return None;
+        }
+    }
+    Some(first.kind)
 }
 
-/// Makes the file of the union, the intersection or a difference of two tries, of any kinds.
+/// Makes the file of the union, the intersection or a difference of tries, of any kinds.
 ///
 /// ```
 /// // the keys "a" and "b", and the keys "b" and "c"
-/// let first = TrieRef { kind: TrieKind::Simple, bytes: b"\xC2ab\x01\x81\x82" };
-/// let second = TrieRef { kind: TrieKind::Hash, bytes: b"\xC2bc\x01\x83\x84" };
-/// let union = Operation::Union(Keep::First);
-/// let file = make_combined(rt.alloc(), union, &first, &second, None, FileForm::Bare)
-///     .map_err(|_| "refused")?;
-/// let trie = TrieRef { kind: TrieKind::Simple, bytes: file.as_slice() };
-/// assert_eq!(rt; (trie.get(b"a"), trie.get(b"b"), trie.get(b"c")), (Some(1), Some(2), Some(4)));
-/// let operation = Operation::Difference;
-/// let file = make_combined(rt.alloc(), operation, &first, &second, None, FileForm::Bare)
-///     .map_err(|_| "refused")?;
-/// assert_eq!(rt; file.as_slice(), b"a\x81".as_slice());
-/// let file = make_combined(rt.alloc(), union, &second, &second, None, FileForm::Tagged)
-///     .map_err(|_| "refused")?;
-/// assert_eq!(rt; TrieKind::of_tag(file[0]), Some(TrieKind::Hash));
+/// let tries = [
+///     TrieRef { kind: TrieKind::Simple, bytes: b"\xC2ab\x01\x81\x82" },
+///     TrieRef { kind: TrieKind::Hash, bytes: b"\xC2bc\x01\x83\x84" },
+/// ];
+/// let union = Combination {
+///     selection: Selection::Union,
+///     rule: Rule::Sum,
+///     kind: None,
+///     form: FileForm::Bare,
+/// };
+/// let made = make_combined(rt.alloc(), union, &tries).map_err(|_| "refused")?;
+/// assert_eq!(rt; (made.kind, made.keys), (TrieKind::Simple, 3));
+/// let trie = TrieRef { kind: made.kind, bytes: made.file.as_slice() };
+/// assert_eq!(rt; (trie.get(b"a"), trie.get(b"b"), trie.get(b"c")), (Some(1), Some(5), Some(4)));
+/// let minus = Combination { selection: Selection::Difference, ..union };
+/// let made = make_combined(rt.alloc(), minus, &tries).map_err(|_| "refused")?;
+/// assert_eq!(rt; made.file.as_slice(), b"a\x81".as_slice());
+/// let refuse = Combination { rule: Rule::Refuse, ..union };
+/// let key = Vec::from_slice(rt.alloc(), b"b")?;
+/// let why = CombinationError::NoValue(RuleError::SeveralValues, key);
+/// assert_eq!(rt; make_combined(rt.alloc(), refuse, &tries), Err(why));
 /// // the key "Ab", and the keys "aB" and "c", which ignore case
-/// let first = TrieRef { kind: TrieKind::Ignore, bytes: b"Ab\x81" };
-/// let second = TrieRef { kind: TrieKind::Ignore, bytes: b"\xC2ac\x02B\x85\x86" };
-/// let file = make_combined(rt.alloc(), union, &first, &second, None, FileForm::Bare)
-///     .map_err(|_| "refused")?;
-/// assert_eq!(rt; file.as_slice(), b"\xC2Ac\x02b\x81\x86".as_slice());
+/// let tries = [
+///     TrieRef { kind: TrieKind::Ignore, bytes: b"Ab\x81" },
+///     TrieRef { kind: TrieKind::Ignore, bytes: b"\xC2ac\x02B\x85\x86" },
+/// ];
+/// let first = Combination { rule: Rule::First, ..union };
+/// let made = make_combined(rt.alloc(), first, &tries).map_err(|_| "refused")?;
+/// assert_eq!(rt; made.file.as_slice(), b"\xC2Ac\x02b\x81\x86".as_slice());
 /// ```
 ///
-/// The kind is the one that is named, or else that of the two tries. If theirs differ, it is the one
-/// that a build of the pairs takes. Keys are equal if their bytes are; if both tries ignore case, they
-/// are if a look-up takes them as one, and are then as the first trie has them. In the kind that ignores
-/// case a build is an error if keys that begin alike differ in the case of a letter.
+/// The kind is the one that is named, or else that of all tries. If theirs differ, it is the one that a
+/// build of the pairs takes. Keys are equal if their bytes are; if all tries ignore case, they are if a
+/// look-up takes them as one, and are then as the first trie that has them has them. In the kind that
+/// ignores case a build is an error if keys that begin alike differ in the case of a letter.
 ///
-/// If the bytes of one trie are at most a sixteenth of the other's, an intersection looks the keys of the
-/// small one up in the other, which is not listed. A difference does so if the first trie is the small
-/// one. That is, if the other trie does not ignore case.
+/// If one of two tries has at most a sixteenth of the other's bytes, an intersection that keeps the
+/// first or the last value looks the keys of the small one up in the other, which is not listed. A
+/// difference does so if the first trie is the small one. That is, if the other trie does not ignore
+/// case. Else a step compares a key of each trie. Tries that ignore case are listed once for each one
+/// before them.
 ///
-/// The error is `Keys` if keys show why a build of the pairs fails, `Refused` or `IndexRefused` if it
-/// fails and none do, and `OutOfMemory`. The numbers of keys are those of their pairs in the order of
-/// bytes.
+/// The error is `NoValue` with a key that is taken and gets no value by the rule; `Keys` if keys show
+/// why a build of the pairs fails, `Refused` or `IndexRefused` if it fails and none do, and
+/// `OutOfMemory`. The numbers of keys are those of their pairs in the order of bytes.
 pub fn make_combined(
     alloc: Global,
-    operation: Operation,
-    first: &TrieRef<'_>,
-    second: &TrieRef<'_>,
-    kind: Option<TrieKind>,
-    form: FileForm,
-) -> Result<Vec<u8>, MakeError>
-    requires first { IsWellFormed (kind_of first.now.kind) first.now.bytes.now }
-    requires second { IsWellFormed (kind_of second.now.kind) second.now.bytes.now }
-    ensures ok { IfOk result (λ file. OfMeant (kind_of first.now.kind) first.now.bytes.now
-        (kind_of second.now.kind) second.now.bytes.now
-        (λ m n. IsFileOfBoth operation kind form first.now.kind second.now.kind
-        m n file.items)) }
-    ensures err { IfErr result (λ e. OfMeant (kind_of first.now.kind) first.now.bytes.now
-        (kind_of second.now.kind) second.now.bytes.now
-        (λ m n. ExplainsBoth operation kind form first.now.kind second.now.kind m n e)) }
+    combination: Combination,
+    tries: &[TrieRef<'_>],
+) -> Result<Made, CombinationError>
+    requires { All (λ trie. IsWellFormed (kind_of trie.kind) trie.bytes.now) tries.now }
+    ensures ok { IfOk result (λ made. OfMeant tries.now (λ maps.
+        IsMadeOfMaps combination maps made)) }
+    ensures err { IfErr result (λ e. OfMeant tries.now (λ maps.
+        ExplainsMaps combination maps e)) }
 {
-    let table = combine(alloc, operation, first, second)?;
+    let table = combine(alloc, combination, tries)?;
     let items = table.items(alloc)?;
     let plan = FilePlan {
-        kind: kind_kept(kind, first.kind, second.kind),
+        kind: kind_kept(combination.kind, tries),
         sorted: false,
-        form,
+        form: combination.form,
     };
-    make_of(alloc, plan, None, items.as_slice())
+    Ok(make_of(alloc, plan, None, items.as_slice())?)
 }

@@ -7,6 +7,7 @@ ghost use Rattle.zerotrie_core.specs.Maps.{Pairs};
 ghost use Rattle.zerotrie_making.specs.Made.{ExplainsKept, IsKeyAt, Shows, IsOfReading};
 ghost use Rattle.zerotrie_making.specs.declared.plan.Plan.{Plan};
 ghost use Rattle.zerotrie_making.specs.Kept.{number_of};
+ghost use Rattle.zerotrie_making.specs.declared.error.CombinationError.TheVariants.{NotMade};
 ghost use Rattle.zerotrie_making.specs.declared.error.MakeError.TheVariants.{OutOfMemory};
 
 use crate::others::OtherFile;
@@ -15,6 +16,7 @@ use zerotrie_build::Refusal;
 use zerotrie_core::ZeroTrieBuildError;
 use zerotrie_index::ZeroIndexBuildError;
 use zerotrie_lines::{BadLine, ReadError};
+use zerotrie_sets::RuleError;
 
 /// A key, and the number of its pair, from 1 on: that of its line, its record, or its member or item
 /// of a JSON value. A header is counted.
@@ -96,6 +98,31 @@ impl From<AllocError> for MakeError {
 
     fn from(_: AllocError) -> Self {
         MakeError::OutOfMemory
+    }
+}
+
+/// Why no file is made of what a combination takes of tries.
+#[derive(PartialEq, Eq, Debug, Drop)]
+pub enum CombinationError {
+    /// This key is taken, and gets no value: why.
+    NoValue(RuleError, Vec<u8>),
+    /// The build of the pairs fails, or an allocation failed.
+    NotMade(MakeError),
+}
+
+impl From<MakeError> for CombinationError {
+    ghost from_gives = { λ why e. e ≡ NotMade why };
+
+    fn from(why: MakeError) -> Self {
+        CombinationError::NotMade(why)
+    }
+}
+
+impl From<AllocError> for CombinationError {
+    ghost from_gives = { λ _ e. e ≡ NotMade OutOfMemory };
+
+    fn from(_: AllocError) -> Self {
+        CombinationError::NotMade(MakeError::OutOfMemory)
     }
 }
 

@@ -158,26 +158,9 @@ fn build_of(
     }
 }
 
-/// Makes the file of the pairs.
-pub(crate) fn make_of(
-    alloc: Global,
-    plan: FilePlan,
-    numbers: Option<&[usize]>,
-    items: &[(&[u8], usize)],
-) -> Result<Vec<u8>, MakeError>
-    requires { IfSome numbers (λ numbers. length numbers.now ≡ length items.now) }
-    ensures ok { IfOk result (λ file. IsFileOf plan (pairs_of items.now) file.items) }
-    ensures err { IfErr result (λ e. ExplainsOf plan (number_of numbers.entry)
-        (pairs_of items.now) e) }
-{
-    let kind = kind_for(plan.kind, items);
-    let bytes = build_of(alloc, plan.form, kind, plan.sorted, numbers, items)?;
-    Ok(file_of(alloc, plan.form, kind, bytes)?)
-}
-
 /// Makes the file of the pairs, and counts them.
 #[tactic(auto, using(crate::proofs::MadeLemmas::counted_pairs))]
-fn make_counted(
+pub(crate) fn make_of(
     alloc: Global,
     plan: FilePlan,
     numbers: Option<&[usize]>,
@@ -188,8 +171,11 @@ fn make_counted(
     ensures err { IfErr result (λ e. ExplainsOf plan (number_of numbers.entry)
         (pairs_of items.now) e) }
 {
+    let kind = kind_for(plan.kind, items);
+    let bytes = build_of(alloc, plan.form, kind, plan.sorted, numbers, items)?;
     Ok(Made {
-        file: make_of(alloc, plan, numbers, items)?,
+        file: file_of(alloc, plan.form, kind, bytes)?,
+        kind,
         keys: items.len(),
     })
 }
@@ -201,7 +187,7 @@ fn make_kept(alloc: Global, plan: FilePlan, kept: Kept<'_>) -> Result<Made, Make
     ensures err { IfErr result (λ e. ExplainsOf plan (number_in kept.entry.numbers.items)
         (pairs_of kept.entry.items.items) e) }
 {
-    make_counted(
+    make_of(
         alloc,
         plan,
         Some(kept.numbers.as_slice()),
@@ -215,7 +201,7 @@ fn make_numbered(alloc: Global, plan: Plan, items: &[(&[u8], usize)]) -> Result<
     ensures err { IfErr result (λ e. ExplainsKept plan (λ n. n) (pairs_of items.now) e) }
 {
     match plan.read.duplicates {
-        Duplicates::Refuse => make_counted(alloc, plan.file, None, items),
+        Duplicates::Refuse => make_of(alloc, plan.file, None, items),
         Duplicates::First => make_kept(alloc, plan.file, firsts(alloc, items)?),
         Duplicates::Last => make_kept(alloc, plan.file, lasts(alloc, items)?),
         Duplicates::Sum => make_kept(alloc, plan.file, merged(alloc, Rule::Sum, items)?),

@@ -14,9 +14,9 @@ mod others;
 mod plan;
 mod tries;
 
-pub use combine::make_combined;
+pub use combine::{kind_kept, make_combined};
 pub use duplicates::Duplicates;
-pub use error::{MakeError, NoPair, NumberedKey, Shown};
+pub use error::{CombinationError, MakeError, NoPair, NumberedKey, Shown};
 pub use file::make;
 pub use others::OtherFile;
-pub use plan::{FileForm, FilePlan, Made, Plan, ReadPlan, Source};
+pub use plan::{Combination, FileForm, FilePlan, Made, Plan, ReadPlan, Source};

@@ -6,6 +6,7 @@ ghost use Rattle.zerotrie_making.specs.Sources.{rows_before};
 use crate::duplicates::Duplicates;
 use zerotrie_core::TrieKind;
 use zerotrie_lines::{Format, Header, LineEnd};
+use zerotrie_sets::{Rule, Selection};
 
 /// How an input is pairs.
 #[derive(Clone, Copy, PartialEq, Eq, Debug)]
@@ -78,11 +79,27 @@ pub struct Plan {
     pub file: FilePlan,
 }
 
+/// How tries are combined, and what file is made of that.
+#[derive(Clone, Copy, PartialEq, Eq, Debug)]
+pub struct Combination {
+    /// Which keys are taken.
+    pub selection: Selection,
+    /// Which value a key gets that more than one trie has.
+    pub rule: Rule,
+    /// The kind of the new trie. If `None`, it is the one that all tries have, or if theirs differ the
+    /// one that a build of the pairs takes. An index has none.
+    pub kind: Option<TrieKind>,
+    /// What the file has.
+    pub form: FileForm,
+}
+
 /// The file that is made of pairs.
 #[derive(PartialEq, Eq, Debug, Drop)]
 pub struct Made {
     /// The bytes of the file.
     pub file: Vec<u8>,
+    /// The kind of its trie. An index has none; then it is the one that a trie of its keys would have.
+    pub kind: TrieKind,
     /// How many keys it has.
     pub keys: usize,
 }

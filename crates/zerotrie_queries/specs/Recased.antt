@@ -18,11 +18,12 @@ abbrev pub looked_up : Operation → (List ℕ → Option ℕ) → Pairs → Pai
 looked_up operation at [] = []
 looked_up operation at (e ∷ pairs) = if_some e.0 (choose operation (Some e.1) (at e.0)) (looked_up operation at pairs)
 
--- the second map with its keys as the first one has them: the keys of the first that it has, and its other pairs
-abbrev pub recased : Kind → Kind → Map → Map → Pairs
-recased k j m n = chosen (choose (Union First))
-    (joined (looked_up (Intersection Last) (look j n) (entries m)) (looked_up Difference (look k m) (entries n)))
+-- pairs of the second map, whose keys may be in any case, with their keys as the first one has them: the keys of the first that the second
+-- has, and the other pairs
+abbrev pub recased : Kind → Kind → Map → Map → Pairs → Pairs
+recased k j m n pairs = chosen (choose (Union First))
+    (joined (looked_up (Intersection Last) (look j n) (entries m)) (looked_up Difference (look k m) pairs))
 
 -- what a merge takes of the second map: all as it is, unless both kinds ignore case
 abbrev pub second_pairs : Kind → Kind → Map → Map → Pairs
-second_pairs k j m n = if ignore_both k j then recased k j m n else entries n
+second_pairs k j m n = if ignore_both k j then recased k j m n (entries n) else entries n

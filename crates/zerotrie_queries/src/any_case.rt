@@ -135,22 +135,25 @@ fn unite(alloc: Global, first: &Table, second: &Table) -> Result<Table, AllocErr
 }
 
 /// Returns the pairs of a second trie in the order of bytes, with each key as the first trie has it,
-/// if a look-up finds it there.
-pub fn recased(
+/// if a look-up finds it there. The stream lists the second trie's pairs, with keys in any case.
+pub fn recased<S: PairStream + Drop>(
     alloc: Global,
     first: &TrieRef<'_>,
     second: &TrieRef<'_>,
+    pairs: S,
 ) -> Result<Table, AllocError>
     requires first { IsWellFormed (kind_of first.now.kind) first.now.bytes.now }
     requires second { IsWellFormed (kind_of second.now.kind) second.now.bytes.now }
+    requires pairs { Ascends (S.left pairs).pairs }
     ensures ascends { IfOk result Ascends }
     ensures is { IfOk result (λ table. (m n : Map)
         → Means (kind_of first.now.kind) first.now.bytes.now m
         → Means (kind_of second.now.kind) second.now.bytes.now n
-        → table ≡ recased (kind_of first.now.kind) (kind_of second.now.kind) m n) }
+        → table ≡ recased (kind_of first.now.kind) (kind_of second.now.kind) m n
+        (S.left pairs).pairs) }
 {
     combined_are_maps();
     let found = look_up_all(alloc, Operation::Intersection(Keep::Last), first, second)?;
-    let others = look_up_all(alloc, Operation::Difference, second, first)?;
+    let others = look_up_each(alloc, Operation::Difference, pairs, first)?;
     unite(alloc, &found, &others)
 }

@@ -176,7 +176,7 @@ pub fn write_diff<W: Write>(
     diffs_are_of_maps();
     let first = sorted_pairs(alloc, old)?;
     if ignore_case(old.kind, new.kind) {
-        let table = recased(alloc, old, new)?;
+        let table = recased(alloc, old, new, sorted_pairs(alloc, new)?)?;
         let items = table.items(alloc)?;
         write_merged(alloc, first, of_sorted(items.as_slice()), output)
     } else {
