@@ -1,6 +1,7 @@
 //! Makes the file of a trie or an index from the tries of others.
 
-ghost use Rattle.std.specs.Prelude.{◌≡◌, ℕ, List, All, map, take, slice_index_or, IfOk, IfErr, IfSome, OnOk, OnTrue, Option, None, false};
+ghost use Rattle.std.specs.Prelude.{◌≡◌, ℕ, List, All, map, take, slice_index_or, IfOk, IfErr, IfSome, OnOk, Option, None, false};
+ghost use Rattle.std.specs.Bool.{OnTrue};
 ghost use Rattle.std.specs.FinMap.{entries};
 ghost use Rattle.zerotrie_core.specs.Items.{pairs_of};
 ghost use Rattle.zerotrie_core.specs.Kind.{flags};
@@ -61,16 +62,59 @@ fn streams_of<'t>(
     Ok(streams)
 }
 
+/// Returns pairs of a trie, with keys in any case, in the case of a trie before it.
+fn in_case_of(
+    alloc: Global,
+    before: &TrieRef<'_>,
+    trie: &TrieRef<'_>,
+    table: &Table,
+) -> Result<Table, AllocError> {
+    let items = table.items(alloc)?;
+    recased(alloc, before, trie, of_sorted(items.as_slice()))
+}
+
 /// Returns the pairs of the trie with this number, each key in the case of the first trie that has it.
 fn in_first_case(alloc: Global, tries: &[TrieRef<'_>], at: usize) -> Result<Table, AllocError> {
     let mut table = collect(alloc, sorted_pairs(alloc, &tries[at])?)?;
     let mut before = at;
     while before > 0 {
         before -= 1;
-        let items = table.items(alloc)?;
-        table = recased(alloc, &tries[before], &tries[at], of_sorted(items.as_slice()))?;
+        table = in_case_of(alloc, &tries[before], &tries[at], &table)?;
     }
     Ok(table)
+}
+
+/// Returns the pairs of each trie, each key in the case of the first trie that has it.
+fn in_first_cases(alloc: Global, tries: &[TrieRef<'_>]) -> Result<Vec<Table>, AllocError> {
+    let mut tables = Vec::with_capacity(alloc, tries.len())?;
+    for at in 0..tries.len() {
+        tables.push(in_first_case(alloc, tries, at)?)?;
+    }
+    Ok(tables)
+}
+
+/// Returns the pairs of each table.
+fn items_of<'t>(
+    alloc: Global,
+    tables: &'t [Table],
+) -> Result<Vec<Vec<(&'t [u8], usize)>>, AllocError> {
+    let mut items = Vec::with_capacity(alloc, tables.len())?;
+    for table in tables {
+        items.push(table.items(alloc)?)?;
+    }
+    Ok(items)
+}
+
+/// Lists pairs whose keys ascend.
+fn slices_of<'i, 'k>(
+    alloc: Global,
+    items: &'i [Vec<(&'k [u8], usize)>],
+) -> Result<Vec<SortedSlice<'i, 'k>>, AllocError> {
+    let mut streams = Vec::with_capacity(alloc, items.len())?;
+    for pairs in items {
+        streams.push(of_sorted(pairs.as_slice()))?;
+    }
+    Ok(streams)
 }
 
 /// Combines the pairs of tries that ignore case.
@@ -79,18 +123,9 @@ fn combine_in_any_case(
     combination: Combination,
     tries: &[TrieRef<'_>],
 ) -> Result<Table, CombinationError> {
-    let mut tables = Vec::with_capacity(alloc, tries.len())?;
-    for at in 0..tries.len() {
-        tables.push(in_first_case(alloc, tries, at)?)?;
-    }
-    let mut items = Vec::with_capacity(alloc, tries.len())?;
-    for table in tables.as_slice() {
-        items.push(table.items(alloc)?)?;
-    }
-    let mut streams: Vec<SortedSlice<'_, '_>> = Vec::with_capacity(alloc, tries.len())?;
-    for pairs in items.as_slice() {
-        streams.push(of_sorted(pairs.as_slice()))?;
-    }
+    let tables = in_first_cases(alloc, tries)?;
+    let items = items_of(alloc, tables.as_slice())?;
+    let streams = slices_of(alloc, items.as_slice())?;
     merged(alloc, combination, streams)
 }
 

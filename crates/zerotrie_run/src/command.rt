@@ -6,9 +6,8 @@ ghost use Rattle.zerotrie_run.specs.Runs.{AreOneStream, IsNamed, of_lines};
 ghost use Rattle.zerotrie_run.specs.declared.command.Place.TheVariants.{Stream};
 
 use zerotrie_core::TrieKind;
-use zerotrie_making::{FileForm, Plan};
+use zerotrie_making::{Combination, Plan};
 use zerotrie_queries::{Choice, Form, Language, Order, Query, ReportForm, View};
-use zerotrie_sets::Operation;
 
 /// Where bytes come from, or go to.
 #[derive(Clone, Copy, PartialEq, Eq, Debug)]
@@ -140,21 +139,18 @@ pub enum Side {
     Second,
 }
 
-/// How a file is made of the tries of two files, and where. Each of these says its kind.
+/// How a file is made of the tries of files, and where. Each of these says its kind.
 #[derive(Clone, Copy, Debug)]
 pub struct Combine<'a> {
-    /// What is made of the pairs of both.
-    pub operation: Operation,
-    pub first: Place<'a>,
-    pub second: Place<'a>,
+    /// The files, of which at most one is standard input.
+    pub from: &'a [Place<'a>],
     pub to: Place<'a>,
-    /// The kind of the new trie. If `None`, it is that of both tries, or if theirs differ the one that a
-    /// build of its pairs takes.
-    pub kind: Option<TrieKind>,
-    /// What the new file has.
-    pub form: FileForm,
-    /// Whether a file that is there already is left as it is, and the build refused.
+    /// What is made of their tries.
+    pub combination: Combination,
+    /// Whether a file that is there already is left as it is, and the command refused.
     pub no_clobber: bool,
+    /// When it is reported at the end what was made.
+    pub summary: Summary,
 }
 
 /// What the program is asked to do.
@@ -166,7 +162,7 @@ pub enum Command<'a> {
     Ask(TrieFile<'a>, Question<'a>),
     /// Print what changed from the trie of one file to that of another.
     Diff(Diff<'a>),
-    /// Make such a file of the tries of two others.
+    /// Make such a file of the tries of others.
     Combine(Combine<'a>),
 }
 
