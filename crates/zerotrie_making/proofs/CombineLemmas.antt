@@ -273,7 +273,7 @@ in_case_first tries at d pairs inside is maps meant =
 -- one more is
 pub in_case_next : (tries : List TrieRef) (before after at : ℕ) (d e : TrieRef) (pairs more : Pairs) → at < length tries → before + 1 ≡ after → after ≤ at
     → ((m n : Map) → Means (kind_of (get_or tries before d).kind) (get_or tries before d).bytes.now m → Means (kind_of (get_or tries at e).kind) (get_or tries at e).bytes.now n
-        → more ≡ recased (kind_of (get_or tries before d).kind) (kind_of (get_or tries at e).kind) m n pairs)
+    → more ≡ recased (kind_of (get_or tries before d).kind) (kind_of (get_or tries at e).kind) m n pairs)
     → IsInCase tries after at pairs → IsInCase tries before at more
 in_case_next tries before after at d e pairs more inside next upto is so maps meant =
     let here = meant_at tries maps at e inside meant in
@@ -331,10 +331,6 @@ of_these [] d e Fact two fact = absurd (omega arith)
 of_these (one ∷ []) d e Fact two fact = absurd (omega arith)
 of_these (one ∷ other ∷ []) d e Fact two fact = of_two one other Fact fact
 of_these (one ∷ other ∷ t ∷ tries) d e Fact two fact = absurd (omega arith)
-
-pub some_weaker : {A : Type 0} (o : Option A) (P Q : A → Type 0) → ((x : A) → P x → Q x) → IfSome o P → IfSome o Q
-some_weaker None P Q so p = tt
-some_weaker (Some x) P Q so p = so x p
 
 -- ---- errors
 
