@@ -8,7 +8,4 @@ mod RefusedLemmas
 mod FileLemmas
 mod SpareLemmas
 mod DiffLemmas
-mod CombinedLemmas
-mod CombinedTold
-mod CombinedEnds
-mod CombinedLaws
+mod StreamLemmas
