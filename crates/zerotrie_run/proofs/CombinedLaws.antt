@@ -1,6 +1,7 @@
 -- What is opened of a file that was made of others, and when none is made.
 use Rattle.std.proofs.Common.{◌≡◌, ◌⊎◌, ◌<◌, ◌≤◌, ℕ, zero, suc, List, [], ◌∷◌, Some, All, false, length, get_or, refl, subst, arith, inl, inr}
-use Rattle.std.specs.Prelude.{Any, AllZip}
+use Rattle.std.specs.Prelude.{Any}
+use Rattle.std.specs.List.{AllZip}
 use Rattle.zerotrie_sealed.specs.Laws.{OneTrie}
 use Rattle.zerotrie_files.specs.Disks.{Story}
 use Rattle.zerotrie_making.specs.Combinations.{Meant, ExplainsMaps, IsMadeOfMaps, plan_of}
@@ -26,8 +27,7 @@ combined_opens one c input before after held files known same made file stdin aw
     let f = taken.fact.is in
     let kind = kind_for (plan_of c.combination maps).kind pairs in
     let back : (got : List ℕ) → IsRead file.place stdin after.files got → got ≡ made.made.file.items =
-    λ got read. read_back c.to stdin made.made.file.items got before after held files known same away made.written (subst (λ p. IsRead p stdin after.files got) at read) in
-    (
+    λ got read. read_back c.to stdin made.made.file.items got before after held files known same away made.written (subst (λ p. IsRead p stdin after.files got) at read) in (
       made.of.0,
       made.of.1,
       maps,

@@ -1,7 +1,7 @@
 -- A file that is made of others: what was read of them, how the command ends, and why.
 use Rattle.std.proofs.Common.{◌≡◌, ◌⊎◌, ◌<◌, ◌+◌, ◌++◌, ◌∙◌, ◌∷◌, [], ℕ, zero, suc, List, Option, Some, None, Bool, false, Vec, Global, All, map, length, take, get_or, refl, sym, ap, subst, arith, inl, inr}
-use Rattle.std.specs.Prelude.{Any, AllZip, is_none, option_map}
-use Rattle.std.specs.List.{slice_get}
+use Rattle.std.specs.Prelude.{Any, is_none, option_map}
+use Rattle.std.specs.List.{AllZip, slice_get}
 use Rattle.std.proofs.Math.Seq.{take-suc}
 use Rattle.std.proofs.lemmas.List.{map-append, take_all}
 use Rattle.std.proofs.lemmas.Option.{get_or_from_slice_get, slice_get-get_or, slice_get_within, slice_get-map}
@@ -68,11 +68,14 @@ file_there P places number place is h = any_of P places number place is h
 
 -- ---- what was read
 
-pub read_more : {I : Option (List ℕ)} {F : Option Story} (places : List Place) (i : ℕ) (d : Place) (held new : List (Vec ℕ Global)) (bytes : Vec ℕ Global) → i < length places
-    → AreRead (take i places) I F (map (λ b. b.items) held) → IsRead (get_or places i d) I F bytes.items → new ≡ held ++ bytes ∷ [] → AreRead (take (i + 1) places) I F (map (λ b. b.items) new)
-read_more {I} {F} places i d held new bytes inside before read is =
-    subst (λ hs. AreRead (take (i + 1) places) I F hs) (sym (ap (map (λ b. b.items)) is ∙ map-append (λ b. b.items) held (bytes ∷ [])))
-    (zip_next (λ place b. IsRead place I F b) places i d (map (λ b. b.items) held) bytes.items inside before read)
+abbrev bytes_in : Vec ℕ Global → List ℕ
+bytes_in bytes = bytes.items
+
+pub read_more : (I : Option (List ℕ)) (F : Option Story) (places : List Place) (i : ℕ) (d : Place) (held new : List (Vec ℕ Global)) (bytes : Vec ℕ Global) → i < length places
+    → AreRead (take i places) I F (map bytes_in held) → IsRead (get_or places i d) I F bytes.items → new ≡ held ++ bytes ∷ [] → AreRead (take (i + 1) places) I F (map bytes_in new)
+read_more I F places i d held new bytes inside before read is =
+    subst (λ hs. AreRead (take (i + 1) places) I F hs) (sym (ap (map bytes_in) is ∙ map-append bytes_in held (bytes ∷ [])))
+    (zip_next (λ place b. IsRead place I F b) places i d (map bytes_in held) bytes.items inside before read)
 
 -- ---- tries that were opened
 
@@ -86,7 +89,7 @@ record AreOpened (held : List (List ℕ)) (tries : List TrieRef) : Type 0 where
 abbrev OpensTrie : Vec ℕ Global → TrieRef → Type 0
 OpensTrie bytes trie = OpensBy Full None bytes.items trie.kind trie.bytes.now
 
-are_opened : (held : List (Vec ℕ Global)) (tries : List TrieRef) → AllZip OpensTrie held tries → AreOpened (map (λ b. b.items) held) tries
+are_opened : (held : List (Vec ℕ Global)) (tries : List TrieRef) → AllZip OpensTrie held tries → AreOpened (map bytes_in held) tries
 are_opened [] [] h = record { maps = []; meant = tt; has = tt; kinds = refl }
 are_opened [] (t ∷ tries) h = absurd h
 are_opened (b ∷ held) [] h = absurd h
@@ -101,33 +104,37 @@ are_opened (b ∷ held) (t ∷ tries) h =
     }
 
 -- what holds of the maps that they mean
-pub of_held : (held : List (Vec ℕ Global)) (tries : List TrieRef) (Fact : List Meant → Type 0) → AllZip OpensTrie held tries → OfMeant tries Fact → OfHeld (map (λ b. b.items) held) Fact
+pub of_held : (held : List (Vec ℕ Global)) (tries : List TrieRef) (Fact : List Meant → Type 0) → AllZip OpensTrie held tries → OfMeant tries Fact → OfHeld (map bytes_in held) Fact
 of_held held tries Fact h fact = let o = are_opened held tries h in (o.maps, o.has, fact o.maps o.meant)
 
 -- a file was made of them, and it is known whether they have several kinds
 pub made_so : (c : Combine) (held : List (Vec ℕ Global)) (tries : List TrieRef) (file : Made) (several : Bool) → AllZip OpensTrie held tries → OfMeant tries (λ maps. IsMadeOfMaps c.combination maps file)
-    → several ≡ are_several c.combination.kind (map (λ trie. trie.kind) tries) → OfHeld (map (λ b. b.items) held) (λ maps. IsMadeSo c maps file several)
+    → several ≡ are_several c.combination.kind (map (λ trie. trie.kind) tries) → OfHeld (map bytes_in held) (λ maps. IsMadeSo c maps file several)
 made_so c held tries file several h fact is =
     let o = are_opened held tries h in
     (o.maps, o.has, (fact o.maps o.meant, is ∙ ap (are_several c.combination.kind) (sym o.kinds)))
+
+-- what holds of the first and of each behind it
+pub all_cons : {X : Type 0} (P : X → Type 0) (x : X) (xs : List X) → P x → All P xs → (k : ℕ) (d : X) → k < length (x ∷ xs) → P (get_or (x ∷ xs) k d)
+all_cons P x xs h more zero d below = h
+all_cons P x xs h more (suc k) d below = more k d (omega (arith, below))
+
+abbrev IsTrie : TrieRef → Type 0
+IsTrie trie = IsWellFormed (kind_of trie.kind) trie.bytes.now
 
 -- each of them is a trie
 pub all_well : (held : List (Vec ℕ Global)) (tries : List TrieRef) → AllZip OpensTrie held tries → All (λ trie. IsWellFormed (kind_of trie.kind) trie.bytes.now) tries
 all_well [] [] h = λ k d below. absurd (omega (arith, below))
 all_well [] (t ∷ tries) h = absurd h
 all_well (b ∷ held) [] h = absurd h
-all_well (b ∷ held) (t ∷ tries) h = λ k d below. each k d below
-  where
-    each : (k : ℕ) (d : TrieRef) → k < length (t ∷ tries) → IsWellFormed (kind_of (get_or (t ∷ tries) k d).kind) (get_or (t ∷ tries) k d).bytes.now
-    each zero d below = h.0.1
-    each (suc k) d below = all_well held tries h.1 k d (omega (arith, below))
+all_well (b ∷ held) (t ∷ tries) h = all_cons IsTrie t tries h.0.1 (all_well held tries h.1)
 
 -- the file with a number has no trie
-pub none_at : (held : List (Vec ℕ Global)) (number : ℕ) (d : Vec ℕ Global) (e : CombineError) → number < length held → IsUnopenedAt number (get_or held number d).items e → AreUnopened (map (λ b. b.items) held) e
+pub none_at : (held : List (Vec ℕ Global)) (number : ℕ) (d : Vec ℕ Global) (e : CombineError) → number < length held → IsUnopenedAt number (get_or held number d).items e → AreUnopened (map bytes_in held) e
 none_at held number d (Unopened other e) inside h = absurd h
 none_at held number d (NoTrie other why t) inside h =
-    let at = slice_get-map (λ b. b.items) held number ∙ ap (λ found. option_map (λ b. b.items) found) (slice_get-get_or held number d inside) in
-    ((get_or held number d).items, subst (λ n. slice_get (map (λ b. b.items) held) n ≡ Some (get_or held number d).items) (sym h.0) at, h.1, h.2)
+    let at = slice_get-map bytes_in held number ∙ ap (λ found. option_map bytes_in found) (slice_get-get_or held number d inside) in
+    ((get_or held number d).items, subst (λ n. slice_get (map bytes_in held) n ≡ Some (get_or held number d).items) (sym h.0) at, h.1, h.2)
 none_at held number d (NoValue why key) inside h = absurd h
 none_at held number d (NotBuilt e) inside h = absurd h
 

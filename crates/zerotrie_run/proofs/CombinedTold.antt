@@ -1,5 +1,5 @@
 -- What is told of a run that makes a file of others.
-use Rattle.std.proofs.Common.{◌≡◌, ◌⊎◌, ◌++◌, ℕ, List, [], Option, Bool, true, false, Result, Ok, Err, IfOk, Vec, Global, length, refl, subst, inl, inr}
+use Rattle.std.proofs.Common.{◌≡◌, ◌⊎◌, ◌++◌, ℕ, List, [], Option, Some, Bool, true, false, Result, Ok, Err, IfOk, Vec, Global, length, refl, subst, inl, inr}
 use Rattle.std.specs.Prelude.{◌&&◌, Any, unwrap_or}
 use Rattle.std.specs.Io.KnownBytes.{Appends}
 use Rattle.std.specs.declared.alloc.AllocError.{AllocError}
@@ -72,7 +72,7 @@ text_told o input files a b c text read write closed (NotBuilt (build.Unread e))
 text_told o input files a b c text read write closed (NotBuilt (build.NotMade e)) (inl none) tells more h =
     rw none (failure_told (commands.Combine o) input files a b c text (target_name o.to) read write closed (inr refl) tells.0 more h)
 text_told o input files a b c text read write closed (NotBuilt (build.NotMade e)) (inr cause) tells more h =
-    made_told o input files a b c text read write closed e cause tells more h (of_pairs o e cause.2 cause.4)
+    made_told o input files a b c text read write closed e cause tells more h (of_pairs o e cause.2.0 cause.2.2)
 text_told o input files a b c text read write closed (NotBuilt (build.Unwritten e)) cause tells more h = failure_told (commands.Combine o) input files a b c text (target_name o.to) read write closed (inr refl) tells more h
 text_told o input files a b c text read write closed (NotBuilt build.Taken) cause tells more h = (text, tells, told_last a b c text more h)
 text_told o input files a b c text read write closed (NotBuilt (build.Unfound e)) cause tells more h = failure_told (commands.Combine o) input files a b c text (target_name o.to) read write closed (inr refl) tells more h

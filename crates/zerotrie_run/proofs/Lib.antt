@@ -9,3 +9,7 @@ mod FileLemmas
 mod SpareLemmas
 mod DiffLemmas
 mod StreamLemmas
+mod CombinedLemmas
+mod CombinedTold
+mod CombinedEnds
+mod CombinedLaws

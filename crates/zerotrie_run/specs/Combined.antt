@@ -1,6 +1,6 @@
 -- What comes of a command that makes a file of the tries of others.
-use Rattle.std.specs.Prelude.{◌≡◌, ◌⊎◌, ◌<◌, ℕ, List, [], ◌∷◌, length, map, Any, AllZip, Option, Some, None, Result, Ok, Err, Bool, false, is_none}
-use Rattle.std.specs.List.{slice_get}
+use Rattle.std.specs.Prelude.{◌≡◌, ◌⊎◌, ◌<◌, ℕ, List, [], ◌∷◌, length, map, Any, Option, Some, None, Result, Ok, Err, Bool, false, is_none}
+use Rattle.std.specs.List.{AllZip, slice_get}
 use Rattle.zerotrie_core.specs.Kinds.{kind_of}
 use Rattle.zerotrie_core.specs.Texts.{Means}
 use Rattle.zerotrie_core.specs.declared.TrieKind.{TrieKind}

@@ -754,11 +754,8 @@ const DIFFS: [Row; 5] = [
 
 /// Two files, and three.
 const TWO: &[Place<'static>] = &[Place::File("one"), Place::File("two")];
-const THREE: &[Place<'static>] = &[
-    Place::File("one"),
-    Place::File("two"),
-    Place::File("three"),
-];
+
+const THREE: &[Place<'static>] = &[Place::File("one"), Place::File("two"), Place::File("three")];
 
 /// How the pairs of all files are one trie, in which a key has its first value.
 const UNION: Combination = Combination {

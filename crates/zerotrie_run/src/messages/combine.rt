@@ -12,7 +12,9 @@ use crate::command::{Check, Combine, Place, Summary, TrieFile};
 use crate::messages::ask::no_trie;
 use crate::messages::build::{made_text, unbuilt};
 use crate::messages::key::add_key;
-use crate::messages::line::{add, add_words, begin_line, end_line, fault_on, source_name, target_name, tell};
+use crate::messages::line::{
+    add, add_words, begin_line, end_line, fault_on, source_name, target_name, tell,
+};
 use crate::messages::pairs::PairUnit;
 use std::alloc::{AllocError, Global};
 use std::io::Write;
@@ -26,7 +28,10 @@ pub fn tell_two_streams<M: Write>(messages: &mut Noted<M>)
     ensures { messages.new.failed ≡ false → (messages.old.failed ≡ false)
         × LineTold (M.contents messages.old.inner) (M.contents messages.new.inner) }
 {
-    tell(messages, b"zerotrie: standard input can't be two of the files\n");
+    tell(
+        messages,
+        b"zerotrie: standard input can't be two of the files\n",
+    );
 }
 
 /// Returns the file with this number, from 0 on.
@@ -60,12 +65,7 @@ fn value_words(why: RuleError) -> &'static str
 
 /// Returns a line that says that a key gets no value, and why.
 #[tactic(auto, using(crate::proofs::MessageLemmas::extends_both, crate::proofs::MessageLemmas::line_here, crate::proofs::MessageLemmas::says_on))]
-fn no_value(
-    alloc: Global,
-    place: &str,
-    why: RuleError,
-    key: &[u8],
-) -> Result<Vec<u8>, AllocError>
+fn no_value(alloc: Global, place: &str, why: RuleError, key: &[u8]) -> Result<Vec<u8>, AllocError>
     ensures line { IfOk result (λ text. IsLineOn place.now text.items) }
     ensures why { IfOk result (λ text. Says text.items (value_words why)) }
     ensures key { IfOk result (λ text. Says text.items (told_key key.now)) }
@@ -83,7 +83,7 @@ pub fn combine_text(
     combine: Combine<'_>,
     error: &CombineError,
 ) -> Result<Vec<u8>, AllocError>
-    requires { NamesFile combine.entry error.now }
+    requires { NamesFile combine error.now }
     ensures { IfOk result (λ text. TellsCombine combine.entry error.now text.items) }
 {
     // no file has the pairs that are taken, so a line on them is on the file that is made

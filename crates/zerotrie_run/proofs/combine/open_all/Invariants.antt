@@ -1,5 +1,5 @@
 use Rattle.std.proofs.Common.{take, None}
-use Rattle.std.specs.Prelude.{AllZip}
+use Rattle.std.specs.List.{AllZip}
 use Rattle.zerotrie_run.specs.Runs.{OpensBy}
 use Rattle.zerotrie_run.specs.declared.command.Check.TheVariants.{Full}
 use Rattle.zerotrie_run.proofs.combine.open_all.Given as goal
