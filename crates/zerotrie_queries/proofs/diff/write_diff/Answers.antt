@@ -23,6 +23,9 @@ returns-in_err-second-clause-part g c =
     on_err c.from_residual-in_err-second.result
     (λ m n p q. none_told (kind_of c.args.old.now.kind) (kind_of c.args.new.now.kind) m n (g.W.Write.contents c.args.output.now.inner) c.sorted_listing_ascends.ensures c.diffs_are_of_maps.ensures c.combined_are_maps.ensures)
 
+pub recased-requires-clause-pairs : goal.recased-requires-clause-pairs
+recased-requires-clause-pairs g c = (c.in_ok-second.ensures c.requires.new.0 c.requires.new.1).1
+
 pub write_merged-requires-clause-first : goal.write_merged-requires-clause-first
 write_merged-requires-clause-first g c = (c.in_ok-first.ensures c.requires.old.0 c.requires.old.1).1
 
