@@ -26,10 +26,7 @@ fn sources_of<'a>(alloc: Global, words: &[&'a str]) -> Result<Vec<Place<'a>>, Al
 }
 
 /// Returns the places of the tries that are combined.
-pub fn sources_in<'a>(
-    alloc: Global,
-    matches: &ArgMatches<'a>,
-) -> Result<Vec<Place<'a>>, AllocError>
+pub fn sources_in<'a>(alloc: Global, matches: &ArgMatches<'a>) -> Result<Vec<Place<'a>>, AllocError>
     ensures { IfOk result (λ places. AreSources (files_of matches.now) places.items) }
 {
     match matches.get_strs("FILE") {
@@ -87,7 +84,12 @@ pub fn combine_in<'w, 'a: 'w>(
     Ok(Combine {
         from: places,
         to: target_in(matches),
-        combination: Combination { selection, rule, kind, form },
+        combination: Combination {
+            selection,
+            rule,
+            kind,
+            form,
+        },
         no_clobber: matches.get_flag("no-clobber"),
         summary: summary_in(matches, to_terminal)?,
     })

@@ -179,7 +179,7 @@ impl<'a> Request<'a> {
     pub fn command(&self, file: usize, to_terminal: bool) -> Result<Command<'_>, Reply<'a>>
         ensures command { IfOk result
             (IsCommand self.now.matches (texts_of self.now.keys) self.now.places.items to_terminal
-                file self.now.task) }
+            file self.now.task) }
         ensures refused { IfErr result (λ _.
             IsNoCommand self.now.matches (texts_of self.now.keys) self.now.task) }
         ensures status { IfErr result (λ reply. status_of reply ≡ BadUsage) }
