@@ -1,7 +1,7 @@
--- What comes of a command that makes a file of the tries of two others.
-use Rattle.std.specs.Prelude.{◌≡◌, ◌⊎◌, ℕ, List, Option, Some, None, Result, Ok, Err, Bool, false, is_none}
+-- What comes of a command that makes a file of the tries of others.
+use Rattle.std.specs.Prelude.{◌≡◌, ◌⊎◌, ◌&&◌, ℕ, List, [], ◌∷◌, ◌++◌, length, map, Any, AllZip, Option, Some, None, Result, Ok, Err, Bool, true, false, is_none}
+use Rattle.std.specs.List.{slice_get}
 use Rattle.zerotrie_core.specs.Kinds.{kind_of}
-use Rattle.zerotrie_core.specs.Maps.{Map}
 use Rattle.zerotrie_core.specs.Texts.{Means}
 use Rattle.zerotrie_core.specs.declared.TrieKind.{TrieKind}
 use Rattle.zerotrie_files.specs.Disks.{Story}
@@ -9,86 +9,79 @@ use Rattle.zerotrie_queries.specs.Files.{Holds}
 use Rattle.zerotrie_queries.specs.Texts.{looks_like_text}
 use Rattle.zerotrie_queries.specs.declared.file.OpenError.{OpenError}
 use Rattle.zerotrie_queries.specs.declared.file.OpenError.TheVariants as unopened
-use Rattle.zerotrie_making.specs.Combinations.{IsFileOfBoth, ExplainsBoth}
-use Rattle.zerotrie_making.specs.declared.error.MakeError.{MakeError}
-use Rattle.zerotrie_run.specs.Runs.{World, AreOneStream, IsFreshAt, IsKept, IsRead, IsSparedAt, IsThere, IsUnopened, IsUnopenedBy, IsWritten, HasNoTrie, Untouched, build_refusal}
+use Rattle.zerotrie_making.specs.Combinations.{Meant, IsMadeOfMaps, ExplainsMaps, kind_kept}
+use Rattle.zerotrie_making.specs.declared.error.CombinationError.{CombinationError}
+use Rattle.zerotrie_making.specs.declared.error.CombinationError.TheVariants as combination
+use Rattle.zerotrie_making.specs.declared.error.MakeError.TheVariants as made
+use Rattle.zerotrie_making.specs.declared.plan.Made.{Made}
+use Rattle.zerotrie_run.specs.Runs.{World, HaveTwoStreams, IsFreshAt, IsKept, IsRead, IsSparedAt, IsThere, IsUnopened, IsUnopenedBy, IsWritten, HasNoTrie, Untouched, build_refusal}
 use Rattle.zerotrie_run.specs.Statuses.{made_refusal}
 use Rattle.zerotrie_run.specs.declared.build.BuildError.{BuildError}
 use Rattle.zerotrie_run.specs.declared.build.BuildError.TheVariants as build
 use Rattle.zerotrie_run.specs.declared.combine.CombineError.{CombineError}
-use Rattle.zerotrie_run.specs.declared.combine.CombineError.TheVariants.{Unopened, NoTrie, NotBuilt}
+use Rattle.zerotrie_run.specs.declared.combine.CombineError.TheVariants.{Unopened, NoTrie, NoValue, NotBuilt}
 use Rattle.zerotrie_run.specs.declared.command.Check.TheVariants.{Full}
 use Rattle.zerotrie_run.specs.declared.command.Combine.{Combine}
 use Rattle.zerotrie_run.specs.declared.command.Place.{Place}
-use Rattle.zerotrie_run.specs.declared.command.Side.{Side}
-use Rattle.zerotrie_run.specs.declared.command.Side.TheVariants.{First, Second}
 use Rattle.zerotrie_run.specs.declared.command.TrieFile.{TrieFile}
 use Rattle.zerotrie_run.specs.declared.status.Status.{Status}
 use Rattle.zerotrie_run.specs.declared.status.Status.TheVariants.{Done, Absent, Refused, Taken, BadUsage, BadInput, Unread, Unwritten, OutOfMemory, Closed}
 
--- one of the two files
-abbrev pub place_of : Combine → Side → Place
-place_of c First = c.first
-place_of c Second = c.second
+-- how each of the files is read: it says its kind, and all its bytes are validated
+abbrev pub file_of : Place → TrieFile
+file_of place = record { place = place; bare = None; check = Full }
 
--- how it is read: it says its kind, and all its bytes are validated
-abbrev pub file_of : Combine → Side → TrieFile
-file_of c side = record { place = place_of c side; bare = None; check = Full }
+-- what a file holds is a trie of this kind that means this map
+abbrev pub HasMap : List ℕ → Meant → Type 0
+HasMap held m = (bytes : List ℕ) × Holds None held m.0 bytes × Means (kind_of m.0) bytes m.1
 
--- what a file holds is a trie of this kind that means the map
-abbrev pub HasMap : List ℕ → TrieKind → Map → Type 0
-HasMap held kind m = (bytes : List ℕ) × Holds None held kind bytes × Means (kind_of kind) bytes m
+-- what the files hold are tries, and the fact holds of their kinds and maps
+abbrev pub OfHeld : List (List ℕ) → (List Meant → Type 0) → Type 0
+OfHeld held Fact = (maps : List Meant) × AllZip HasMap held maps × Fact maps
 
--- what two files hold are tries, and the fact holds of their kinds and maps
-abbrev pub OfHeld : List ℕ → List ℕ → (TrieKind → TrieKind → Map → Map → Type 0) → Type 0
-OfHeld held other Fact = (k : TrieKind) × (j : TrieKind) × (m : Map) × (n : Map) × HasMap held k m × HasMap other j n × Fact k j m n
+-- this is what the files hold
+abbrev pub AreRead : List Place → Option (List ℕ) → Option Story → List (List ℕ) → Type 0
+AreRead places input files held = AllZip (λ place bytes. IsRead place input files bytes) places held
 
--- this is what the two files hold
-abbrev pub AreRead : Combine → Option (List ℕ) → Option Story → List ℕ → List ℕ → Type 0
-AreRead c input files held other = IsRead c.first input files held × IsRead c.second input files other
+-- the files have tries, and the fact holds of their kinds and maps
+abbrev pub OfFiles : Combine → Option (List ℕ) → Option Story → (List Meant → Type 0) → Type 0
+OfFiles c input files Fact = (held : List (List ℕ)) × AreRead c.from.now input files held × OfHeld held Fact
 
--- the two files have tries, and the fact holds of their kinds and maps
-abbrev pub OfFiles : Combine → Option (List ℕ) → Option Story → (TrieKind → TrieKind → Map → Map → Type 0) → Type 0
-OfFiles c input files Fact = (held : List ℕ) × (other : List ℕ) × AreRead c input files held other × OfHeld held other Fact
-
--- the new file is that of the combination: of the kind that is named, or else of the one that both tries have
-abbrev pub IsOfMaps : Combine → List ℕ → TrieKind → TrieKind → Map → Map → Type 0
-IsOfMaps c file k j m n = IsFileOfBoth c.operation c.kind c.form k j m n file
-
--- The file was made of the two files' maps, and written.
+-- The file was made of the maps of the files, and written.
 pub record IsCombination (c : Combine) (input : Option (List ℕ)) (before after : World) : Type 0 where
-  pub file : List ℕ
-  pub made : OfFiles c input before.files (IsOfMaps c file)
-  pub written : IsWritten c.to file before after
+  pub made : Made
+  pub of : OfFiles c input before.files (λ maps. IsMadeOfMaps c.combination maps made)
+  pub written : IsWritten c.to made.file.items before after
 
 -- The file was made, and could not be written, or not to the end.
 pub record IsUnwrittenCombination (c : Combine) (input : Option (List ℕ)) (before after : World) : Type 0 where
-  pub file : List ℕ
-  pub made : OfFiles c input before.files (IsOfMaps c file)
-  pub kept : IsKept c.to file before after
+  pub made : Made
+  pub of : OfFiles c input before.files (λ maps. IsMadeOfMaps c.combination maps made)
+  pub kept : IsKept c.to made.file.items before after
 
--- why no file is made of two tries
-abbrev pub ExplainsMaps : Combine → MakeError → TrieKind → TrieKind → Map → Map → Type 0
-ExplainsMaps c e k j m n = ExplainsBoth c.operation c.kind c.form k j m n e
+-- how a run ends if no file is made of the maps; none if it is out of memory
+abbrev pub unmade_refusal : CombinationError → Option Status
+unmade_refusal (combination.NoValue why key) = Some Refused
+unmade_refusal (combination.NotMade e) = made_refusal e
 
--- no file is made of the maps of the two files, for a reason with this status, and nothing was touched
+-- no file is made of the maps of the files, for a reason with this status, and nothing was touched
 abbrev pub IsRefusedCombination : Combine → Option (List ℕ) → World → World → Status → Type 0
 IsRefusedCombination c input before after status =
-    (e : MakeError) × OfFiles c input before.files (ExplainsMaps c e) × (made_refusal e ≡ Some status) × Untouched before after
+    (e : CombinationError) × OfFiles c input before.files (λ maps. ExplainsMaps c.combination maps e) × (unmade_refusal e ≡ Some status) × Untouched before after
 
 -- something failed: nothing was touched, or the file was made, and its place holds what it held, or a beginning of it was printed
 abbrev pub FailsCombine : Combine → Option (List ℕ) → World → World → Type 0
 FailsCombine c input before after = Untouched before after ⊎ IsUnwrittenCombination c input before after
 
--- How it ends. The file was made; its keys are refused; it is there already; both files are standard input; one of them has no trie;
--- or something failed.
+-- How it ends. The file was made; its keys are refused; it is there already; two of the files are standard input; one of them has no
+-- trie; or something failed.
 abbrev pub RunsCombine : Combine → Option (List ℕ) → World → World → Status → Type 0
 RunsCombine c input before after Done = IsCombination c input before after × IsFreshAt c.to c.no_clobber before.files
 RunsCombine c input before after Absent = ⊥
 RunsCombine c input before after Refused = IsRefusedCombination c input before after Refused
 RunsCombine c input before after Taken = IsSparedAt c.to c.no_clobber before after
-RunsCombine c input before after BadUsage = AreOneStream c.first c.second × Untouched before after
-RunsCombine c input before after BadInput = (side : Side) × HasNoTrie (file_of c side) input before.files × Untouched before after
+RunsCombine c input before after BadUsage = HaveTwoStreams c.from.now × Untouched before after
+RunsCombine c input before after BadInput = Any (λ place. HasNoTrie (file_of place) input before.files) c.from.now × Untouched before after
 RunsCombine c input before after Unread = FailsCombine c input before after
 RunsCombine c input before after Unwritten = FailsCombine c input before after
 RunsCombine c input before after OutOfMemory = FailsCombine c input before after
@@ -108,8 +101,9 @@ unopened_refusal unopened.OutOfMemory = None
 
 -- how a run ends if it is refused; none if something failed
 abbrev pub combine_refusal : CombineError → Option Status
-combine_refusal (Unopened side e) = None
-combine_refusal (NoTrie side why is_text) = unopened_refusal why
+combine_refusal (Unopened number e) = None
+combine_refusal (NoTrie number why is_text) = unopened_refusal why
+combine_refusal (NoValue why key) = Some Refused
 combine_refusal (NotBuilt e) = build_refusal e
 
 -- whether something failed: a file was neither made nor refused
@@ -117,40 +111,63 @@ abbrev pub combine_fails : {A : Type 0} → Result A CombineError → Bool
 combine_fails (Ok made) = false
 combine_fails (Err e) = is_none (combine_refusal e)
 
--- one of the two files can't be read
-abbrev pub IsUnread : CombineError → Type 0
-IsUnread (Unopened side e) = Unit {0}
-IsUnread (NoTrie side why is_text) = ⊥
-IsUnread (NotBuilt e) = ⊥
+-- the file with this number, from 0 on, is at this place
+abbrev pub IsNumbered : List Place → ℕ → Place → Type 0
+IsNumbered places number place = slice_get places number ≡ Some place
 
--- one of them holds these bytes, which are no trie
-abbrev pub IsUnopenedSide : Side → List ℕ → CombineError → Type 0
-IsUnopenedSide side held (Unopened other e) = ⊥
-IsUnopenedSide side held (NoTrie other why is_text) = (other ≡ side) × IsUnopenedBy Full None held why × (is_text ≡ looks_like_text held)
-IsUnopenedSide side held (NotBuilt e) = ⊥
+-- an allocation failed
+abbrev pub IsNoMemory : BuildError → Type 0
+IsNoMemory e = e ≡ build.NotMade made.OutOfMemory
 
--- why no file is made or written of two tries
-abbrev pub ExplainsUnbuilt : Combine → BuildError → TrieKind → TrieKind → Map → Map → Type 0
-ExplainsUnbuilt c (build.Unread e) k j m n = ⊥
-ExplainsUnbuilt c (build.NotMade e) k j m n = ExplainsMaps c e k j m n
-ExplainsUnbuilt c (build.Unwritten e) k j m n = ⊥
-ExplainsUnbuilt c build.Taken k j m n = ⊥
-ExplainsUnbuilt c (build.Unfound e) k j m n = ⊥
+-- why files are not read: one of them can't be
+abbrev pub IsUnread : List Place → CombineError → Type 0
+IsUnread places (Unopened number e) = (place : Place) × IsNumbered places number place
+IsUnread places (NoTrie number why is_text) = ⊥
+IsUnread places (NoValue why key) = ⊥
+IsUnread places (NotBuilt e) = IsNoMemory e
 
--- why nothing is made of what two files hold: one of them has no trie, or no file is made of their maps
-abbrev pub IsUncombined : Combine → List ℕ → List ℕ → CombineError → Type 0
-IsUncombined c held other (Unopened side e) = ⊥
-IsUncombined c held other (NoTrie First why is_text) = IsUnopenedBy Full None held why × (is_text ≡ looks_like_text held)
-IsUncombined c held other (NoTrie Second why is_text) = IsUnopenedBy Full None other why × (is_text ≡ looks_like_text other)
-IsUncombined c held other (NotBuilt e) = OfHeld held other (ExplainsUnbuilt c e)
+-- the file with this number holds these bytes, which are no trie
+abbrev pub IsUnopenedAt : ℕ → List ℕ → CombineError → Type 0
+IsUnopenedAt number held (Unopened other e) = ⊥
+IsUnopenedAt number held (NoTrie other why is_text) = (other ≡ number) × IsUnopenedBy Full None held why × (is_text ≡ looks_like_text held)
+IsUnopenedAt number held (NoValue why key) = ⊥
+IsUnopenedAt number held (NotBuilt e) = ⊥
 
--- why no file was made or written is so of the two files and of the new one
+-- the file with this number has no trie, for this reason
+abbrev pub HasNoTrieAt : List (List ℕ) → ℕ → OpenError → Bool → Type 0
+HasNoTrieAt held number why is_text = (bytes : List ℕ) × (slice_get held number ≡ Some bytes) × IsUnopenedBy Full None bytes why × (is_text ≡ looks_like_text bytes)
+
+-- why what the files hold is not opened: one of them has no trie
+abbrev pub AreUnopened : List (List ℕ) → CombineError → Type 0
+AreUnopened held (Unopened number e) = ⊥
+AreUnopened held (NoTrie number why is_text) = HasNoTrieAt held number why is_text
+AreUnopened held (NoValue why key) = ⊥
+AreUnopened held (NotBuilt e) = IsNoMemory e
+
+-- why nothing is made of what the files hold: one of them has no trie, or no file is made of their maps
+abbrev pub IsUncombined : Combine → List (List ℕ) → CombineError → Type 0
+IsUncombined c held (Unopened number e) = ⊥
+IsUncombined c held (NoTrie number why is_text) = HasNoTrieAt held number why is_text
+IsUncombined c held (NoValue why key) = OfHeld held (λ maps. ExplainsMaps c.combination maps (combination.NoValue why key))
+IsUncombined c held (NotBuilt (build.Unread e)) = ⊥
+IsUncombined c held (NotBuilt (build.NotMade e)) = (e ≡ made.OutOfMemory) ⊎ OfHeld held (λ maps. ExplainsMaps c.combination maps (combination.NotMade e))
+IsUncombined c held (NotBuilt (build.Unwritten e)) = ⊥
+IsUncombined c held (NotBuilt build.Taken) = ⊥
+IsUncombined c held (NotBuilt (build.Unfound e)) = ⊥
+
+-- why no file was made or written is so of the files and of the new one
 abbrev pub HasCombineCause : Combine → Option (List ℕ) → Option Story → CombineError → Type 0
-HasCombineCause c input files (Unopened side e) = Unit {0}
-HasCombineCause c input files (NoTrie side why is_text) =
-    (held : List ℕ) × IsRead (place_of c side) input files held × IsUnopened (file_of c side) held why × (is_text ≡ looks_like_text held)
+HasCombineCause c input files (Unopened number e) = (place : Place) × IsNumbered c.from.now number place
+HasCombineCause c input files (NoTrie number why is_text) = (place : Place) × IsNumbered c.from.now number place
+    × (held : List ℕ) × IsRead place input files held × IsUnopened (file_of place) held why × (is_text ≡ looks_like_text held)
+HasCombineCause c input files (NoValue why key) = OfFiles c input files (λ maps. ExplainsMaps c.combination maps (combination.NoValue why key))
 HasCombineCause c input files (NotBuilt (build.Unread e)) = Unit {0}
-HasCombineCause c input files (NotBuilt (build.NotMade e)) = OfFiles c input files (ExplainsMaps c e)
+HasCombineCause c input files (NotBuilt (build.NotMade e)) = (e ≡ made.OutOfMemory) ⊎ OfFiles c input files (λ maps. ExplainsMaps c.combination maps (combination.NotMade e))
 HasCombineCause c input files (NotBuilt (build.Unwritten e)) = Unit {0}
 HasCombineCause c input files (NotBuilt build.Taken) = IsThere c.to files
 HasCombineCause c input files (NotBuilt (build.Unfound e)) = Unit {0}
+
+-- whether no kind is named, and tries of these kinds have several
+abbrev pub are_several : Option TrieKind → List TrieKind → Bool
+are_several named [] = false
+are_several named (kind ∷ kinds) = is_none (kind_kept named (kind ∷ kinds))

@@ -1,7 +1,7 @@
 -- What each command does with its input, prints and leaves in files, and how it ends.
 use Rattle.std.specs.Prelude.{◌≡◌, ◌⊎◌, ℕ, List, Option, Some, Bool, true, false}
 use Rattle.zerotrie_files.specs.Disks.{Story}
-use Rattle.zerotrie_run.specs.Runs.{World, AreFiles, AreOneStream, IsDoubtful, LeavesInputOf, RunsAsk, RunsBuild, of_lines}
+use Rattle.zerotrie_run.specs.Runs.{World, AreAllFiles, AreFiles, AreOneStream, HaveTwoStreams, IsDoubtful, LeavesInputOf, RunsAsk, RunsBuild, of_lines}
 use Rattle.zerotrie_run.specs.Diffs.{IsEitherDoubtful, RunsDiff}
 use Rattle.zerotrie_run.specs.Combined.{RunsCombine}
 use Rattle.zerotrie_run.specs.declared.command.Command.{Command}
@@ -19,19 +19,19 @@ TellsNumber (commands.Ask file question) input files = IsDoubtful file input fil
 TellsNumber (commands.Diff diff) input files = IsEitherDoubtful diff input files
 TellsNumber (commands.Combine c) input files = ⊥
 
--- the file and the keys of a command are both standard input, or two files are
+-- the file and the keys of a command are both standard input, or two of its files are
 abbrev pub ReadsTwice : Command → Type 0
 ReadsTwice (commands.Build build) = ⊥
 ReadsTwice (commands.Ask file question) = (file.place ≡ Stream) × (of_lines question ≡ true)
 ReadsTwice (commands.Diff diff) = AreOneStream diff.old diff.new
-ReadsTwice (commands.Combine c) = AreOneStream c.first c.second
+ReadsTwice (commands.Combine c) = HaveTwoStreams c.from.now
 
 -- a command that ends so doesn't read standard input
 abbrev pub LeavesInput : Command → Status → Type 0
 LeavesInput (commands.Build build) status = build.from ≡ Stream → ⊥
 LeavesInput (commands.Ask file question) status = LeavesInputOf file question (Some status)
 LeavesInput (commands.Diff diff) status = (status ≡ BadUsage) ⊎ AreFiles diff.old diff.new
-LeavesInput (commands.Combine c) status = (status ≡ BadUsage) ⊎ AreFiles c.first c.second
+LeavesInput (commands.Combine c) status = (status ≡ BadUsage) ⊎ AreAllFiles c.from.now
 
 -- whether what was made may be told
 abbrev pub may_tell : Summary → Bool
@@ -44,7 +44,7 @@ abbrev pub tells_made : Command → Bool
 tells_made (commands.Build build) = may_tell build.summary
 tells_made (commands.Ask file question) = false
 tells_made (commands.Diff diff) = false
-tells_made (commands.Combine c) = false
+tells_made (commands.Combine c) = may_tell c.summary
 
 -- how a command ends, what it printed, and what it left in files
 abbrev pub Runs : Command → Option (List ℕ) → World → World → Status → Type 0

@@ -48,8 +48,9 @@ BuildFailed read write (build.Unwritten e) = IsFailureOf write e
 BuildFailed read write build.Taken = Unit {0}
 BuildFailed read write (build.Unfound e) = IsFailureOf read e
 
--- of one that none is made of two others
+-- of one that none is made of others
 abbrev pub CombineFailed : (read write : Type 0) → CombineError → Type 0
-CombineFailed read write (combine.Unopened side e) = IsFailureOf read e
-CombineFailed read write (combine.NoTrie side why is_text) = Unit {0}
+CombineFailed read write (combine.Unopened number e) = IsFailureOf read e
+CombineFailed read write (combine.NoTrie number why is_text) = Unit {0}
+CombineFailed read write (combine.NoValue why key) = Unit {0}
 CombineFailed read write (combine.NotBuilt e) = BuildFailed read write e

@@ -19,7 +19,13 @@ use Rattle.zerotrie_making.specs.declared.error.NoPair.TheVariants.{Member, Item
 use Rattle.zerotrie_making.specs.declared.error.Shown.{Shown}
 use Rattle.zerotrie_making.specs.declared.error.MakeError.{MakeError}
 use Rattle.zerotrie_making.specs.declared.error.MakeError.TheVariants as made
-use Rattle.zerotrie_run.specs.Combined.{place_of}
+use Rattle.zerotrie_sets.specs.declared.selection.RuleError.{RuleError}
+use Rattle.zerotrie_sets.specs.declared.selection.RuleError.TheVariants.{SeveralValues, SumTooLarge}
+use Rattle.zerotrie_core.specs.Kinds.{kind_name}
+use Rattle.zerotrie_core.specs.declared.TrieKind.{TrieKind}
+use Rattle.zerotrie_making.specs.declared.error.CombinationError.{CombinationError}
+use Rattle.zerotrie_making.specs.declared.error.CombinationError.TheVariants as combination
+use Rattle.zerotrie_run.specs.Combined.{IsNumbered}
 use Rattle.zerotrie_run.specs.declared.command.Combine.{Combine}
 use Rattle.zerotrie_run.specs.declared.command.Place.{Place}
 use Rattle.zerotrie_run.specs.declared.command.Place.TheVariants.{File, Stream}
@@ -173,10 +179,22 @@ TellsBuild from to unit (build.Unwritten e) text = IsLineOn to text
 TellsBuild from to unit build.Taken text = IsLineOn to text
 TellsBuild from to unit (build.Unfound e) text = IsLineOn to text
 
--- a line tells why no file was made of two others, or written, and which place it is about; pairs are refused at the one that is written
+-- why a key that is taken gets no value
+abbrev pub value_words : RuleError → List ℕ
+value_words SeveralValues = codes "more than one file has this key: "
+value_words SumTooLarge = codes "the sum of the values of this key is 2^64 or more: "
+
+-- a message tells why no file is made of maps: which key gets no value, and why; or as of pairs that are in no input
+abbrev pub TellsUnmade : CombinationError → List ℕ → Type 0
+TellsUnmade (combination.NoValue why key) text = Says text (value_words why) × Says text (told_key key.items)
+TellsUnmade (combination.NotMade e) text = TellsMade unit.Pair e text
+
+-- a line tells why no file was made of others, or written, and which place it is about; pairs are refused at the one that is written
 abbrev pub TellsCombine : Combine → CombineError → List ℕ → Type 0
-TellsCombine c (combine.Unopened side e) text = IsLineOn (source_name (place_of c side)) text
-TellsCombine c (combine.NoTrie side why is_text) text = IsLineOn (source_name (place_of c side)) text × TellsNoTrie why is_text text
+TellsCombine c (combine.Unopened number e) text = (place : Place) → IsNumbered c.from.now number place → IsLineOn (source_name place) text
+TellsCombine c (combine.NoTrie number why is_text) text = ((place : Place) → IsNumbered c.from.now number place → IsLineOn (source_name place) text)
+    × TellsNoTrie why is_text text
+TellsCombine c (combine.NoValue why key) text = IsLineOn (target_name c.to) text × TellsUnmade (combination.NoValue why key) text
 TellsCombine c (combine.NotBuilt e) text = TellsBuild (target_name c.to) (target_name c.to) unit.Pair e text
 
 -- tenths of a unit
@@ -196,3 +214,7 @@ key_word keys = if keys == 1 then codes "key" else codes "keys"
 -- what is told of a file that was made: its place, how many keys it has, and its size
 abbrev pub made_line : List ℕ → ℕ → ℕ → List ℕ
 made_line place keys len = ((codes "zerotrie: " ++ (place ++ (codes ": " ++ (decimal keys ++ (codes " " ++ (key_word keys ++ codes ", ")))))) ++ size_text len) ++ (10 ∷ [])
+
+-- what is told of the kind of a file for which none was named, and that was made of tries of several
+abbrev pub kind_line : List ℕ → TrieKind → List ℕ
+kind_line place kind = ((line_front place ++ codes "the files have tries of several kinds, so it is of kind ") ++ kind_name kind) ++ (10 ∷ [])

@@ -1,5 +1,5 @@
 -- What each command prints, what it leaves in files, and how it ends.
-use Rattle.std.specs.Prelude.{◌≡◌, ◌≢◌, ◌⊎◌, ℕ, List, [], Option, Some, None, IfSome, Result, Ok, Err, Bool, true, false, is_none, map, codes}
+use Rattle.std.specs.Prelude.{◌≡◌, ◌≢◌, ◌⊎◌, ◌<◌, ℕ, suc, List, [], ◌∷◌, Option, Some, None, IfSome, Result, Ok, Err, Bool, true, false, is_none, map, codes}
 use Rattle.std.specs.Io.KnownBytes.{Appends, Keeps}
 use Rattle.std.specs.Io.Buffered.{writer_buffer}
 use Rattle.std.specs.declared.io.buffered.BufWriter.{BufWriter}
@@ -95,6 +95,20 @@ AreOneStream first second = (first ≡ Stream) × (second ≡ Stream)
 -- neither is
 abbrev pub AreFiles : Place → Place → Type 0
 AreFiles first second = (first ≡ Stream → ⊥) × (second ≡ Stream → ⊥)
+
+-- how many of these places are standard input
+abbrev pub streams : List Place → ℕ
+streams [] = 0
+streams (File path ∷ places) = streams places
+streams (Stream ∷ places) = suc (streams places)
+
+-- two of them are, or more
+abbrev pub HaveTwoStreams : List Place → Type 0
+HaveTwoStreams places = 1 < streams places
+
+-- none is
+abbrev pub AreAllFiles : List Place → Type 0
+AreAllFiles places = streams places ≡ 0
 
 -- whether keys are the lines of standard input
 abbrev pub are_lines : Keys → Bool

@@ -1,5 +1,5 @@
 -- What is told of a run on standard error.
-use Rattle.std.specs.Prelude.{◌≡◌, ◌⊎◌, ◌==◌, ℕ, List, [], ◌++◌, length, Option, Some, Bool, true, false, Result, Ok, Err, Vec, codes}
+use Rattle.std.specs.Prelude.{◌≡◌, ◌⊎◌, ◌==◌, ℕ, List, [], ◌++◌, length, map, Any, ◌&&◌, Option, Some, Bool, true, false, Result, Ok, Err, Vec, codes}
 use Rattle.std.specs.Io.KnownBytes.{Appends}
 use Rattle.zerotrie_files.specs.Disks.{Story}
 use Rattle.zerotrie_queries.specs.declared.file.OpenError.{OpenError}
@@ -7,14 +7,20 @@ use Rattle.zerotrie_queries.specs.Texts.{looks_like_text}
 use Rattle.zerotrie_making.specs.Made.{IsMade}
 use Rattle.zerotrie_making.specs.Made as made
 use Rattle.zerotrie_making.specs.declared.error.MakeError.{MakeError}
+use Rattle.zerotrie_making.specs.Combinations.{ExplainsMaps, IsMadeOfMaps}
+use Rattle.zerotrie_making.specs.declared.error.CombinationError.{CombinationError}
+use Rattle.zerotrie_making.specs.declared.plan.FileForm.{FileForm}
+use Rattle.zerotrie_making.specs.declared.plan.FileForm.TheVariants as form
 use Rattle.zerotrie_making.specs.declared.plan.Made.{Made}
+use Rattle.zerotrie_core.specs.declared.TrieKind.{TrieKind}
 use Rattle.zerotrie_run.specs.Statuses.{made_refusal}
-use Rattle.zerotrie_run.specs.Messages.{IsLine, IsLineOn, Says, TellsMade, TellsNoTrie, made_line, source_name, target_name, told_key, unit_of}
+use Rattle.zerotrie_run.specs.Messages.{IsLine, IsLineOn, Says, TellsMade, TellsNoTrie, TellsUnmade, kind_line, made_line, source_name, target_name, told_key, unit_of}
 use Rattle.zerotrie_run.specs.Runs.{IsRead, IsThere, IsUnopened, IsUnprinted, HasNumberToo}
 use Rattle.zerotrie_run.specs.Diffs.{IsFileOf, NotesNumbers}
 use Rattle.zerotrie_run.specs.declared.command.Diff.{Diff}
 use Rattle.zerotrie_run.specs.declared.diff.DiffError.{DiffError}
-use Rattle.zerotrie_run.specs.Combined.{ExplainsMaps, OfFiles, file_of, place_of}
+use Rattle.zerotrie_run.specs.Combined.{OfFiles, are_several, file_of, unmade_refusal}
+use Rattle.zerotrie_run.specs.Commands.{may_tell}
 use Rattle.zerotrie_run.specs.declared.status.Status.{Status}
 use Rattle.zerotrie_run.specs.declared.status.Status.TheVariants.{Done, Absent, Refused, Taken, BadUsage, BadInput, Unread, Unwritten, OutOfMemory, Closed}
 use Rattle.zerotrie_run.specs.declared.command.Build.{Build}
@@ -25,9 +31,7 @@ use Rattle.zerotrie_run.specs.declared.command.Summary.TheVariants.{Never, IfEmp
 use Rattle.zerotrie_run.specs.declared.command.TrieFile.{TrieFile}
 use Rattle.zerotrie_run.specs.declared.command.Question.{Question}
 use Rattle.zerotrie_run.specs.declared.command.Question.TheVariants.{Verify}
-use Rattle.zerotrie_run.specs.declared.command.Side.{Side}
-use Rattle.zerotrie_run.specs.declared.command.Side.TheVariants.{First, Second}
-use Rattle.zerotrie_run.specs.declared.messages.pairs.PairUnit.TheVariants.{Pair}
+use Rattle.zerotrie_run.specs.declared.command.Combine.{Combine}
 use Rattle.zerotrie_run.specs.declared.ask.AskError.{AskError}
 use Rattle.zerotrie_run.specs.declared.ask.AskError.TheVariants as ask
 use Rattle.zerotrie_run.specs.declared.build.BuildError.{BuildError}
@@ -58,7 +62,7 @@ abbrev pub IsPlaceOf : Command → List ℕ → Type 0
 IsPlaceOf (commands.Build build) name = (name ≡ source_name build.from) ⊎ (name ≡ target_name build.to)
 IsPlaceOf (commands.Ask file question) name = (name ≡ source_name file.place) ⊎ IsStream name
 IsPlaceOf (commands.Diff diff) name = (name ≡ source_name diff.old) ⊎ (name ≡ source_name diff.new) ⊎ IsStream name
-IsPlaceOf (commands.Combine c) name = (name ≡ source_name (place_of c First)) ⊎ (name ≡ source_name (place_of c Second)) ⊎ (name ≡ target_name c.to)
+IsPlaceOf (commands.Combine c) name = Any (λ place. name ≡ source_name place) c.from.now ⊎ (name ≡ target_name c.to)
 
 -- a line on such a place was told last
 abbrev pub PlaceTold : Command → (old new : Option (List ℕ)) → Type 0
@@ -105,6 +109,29 @@ abbrev pub TellsDone : Build → Option (List ℕ) → Option Story → (old new
 TellsDone build input files old new = (all : List ℕ) × IsRead build.from input files all × (file : Made) × IsMade build.plan all file
     × Appends old new (told_made (is_told build.summary file.keys) (target_name build.to) file.keys (length file.file.items))
 
+-- whether a file has a kind: an index has none
+abbrev pub has_kind : FileForm → Bool
+has_kind form.Sealed = true
+has_kind form.Tagged = true
+has_kind form.Bare = true
+has_kind form.Index = false
+
+-- the kind of a file is told or not
+abbrev pub told_kind : Bool → List ℕ → TrieKind → List ℕ
+told_kind true place kind = kind_line place kind
+told_kind false place kind = []
+
+-- what is told of a file that was made of others, by whether no kind is named for it and their tries have several: of which kind it is,
+-- unless it has none or nothing is to be told; and then how many keys it has, and how long it is, as the summary says
+abbrev pub combined_lines : Combine → Bool → Made → List ℕ
+combined_lines c several made = told_kind (several && (may_tell c.summary && has_kind c.combination.form)) (target_name c.to) made.kind
+    ++ told_made (is_told c.summary made.keys) (target_name c.to) made.keys (length made.file.items)
+
+-- what a combination made is told
+abbrev pub TellsCombined : Combine → Option (List ℕ) → Option Story → (old new : Option (List ℕ)) → Type 0
+TellsCombined c input files old new = (made : Made) × OfFiles c input files (λ maps. IsMadeOfMaps c.combination maps made
+    × Appends old new (combined_lines c (are_several c.combination.kind (map (λ m. m.0) maps)) made))
+
 -- a line tells why a file that was read has no trie, by its first fault
 abbrev pub TellsUnopened : TrieFile → Option (List ℕ) → Option Story → (old new : Option (List ℕ)) → Type 0
 TellsUnopened file input files old new = (held : List ℕ) × IsRead file.place input files held
@@ -117,7 +144,7 @@ TellsRefusal (commands.Build build) input files old new status = (all : List ℕ
     × (text : List ℕ) × IsLineOn (source_name build.from) text × TellsMade (unit_of build.plan.read.source) e text × ToldLast old new text
 TellsRefusal (commands.Ask file question) input files old new status = TellsUnopened file input files old new
 TellsRefusal (commands.Diff diff) input files old new status = (file : TrieFile) × IsFileOf diff file × TellsUnopened file input files old new
-TellsRefusal (commands.Combine c) input files old new status = (side : Side) × TellsUnopened (file_of c side) input files old new
+TellsRefusal (commands.Combine c) input files old new status = Any (λ place. TellsUnopened (file_of place) input files old new) c.from.now
 
 -- a line tells what is refused: a build, or pairs with a key that can't be printed
 abbrev pub TellsRefused : Command → Option (List ℕ) → Option Story → (old new : Option (List ℕ)) → Type 0
@@ -125,8 +152,9 @@ TellsRefused (commands.Build build) input files old new = TellsRefusal (commands
 TellsRefused (commands.Ask file question) input files old new = (key : List ℕ) × IsUnprinted file question input files key
     × (text : List ℕ) × IsLineOn (source_name file.place) text × Says text (told_key key) × ToldLast old new text
 TellsRefused (commands.Diff diff) input files old new = ⊥
-TellsRefused (commands.Combine c) input files old new = (e : MakeError) × OfFiles c input files (ExplainsMaps c e) × (made_refusal e ≡ Some Refused)
-    × (text : List ℕ) × IsLineOn (target_name c.to) text × TellsMade Pair e text × ToldLast old new text
+TellsRefused (commands.Combine c) input files old new =
+    (e : CombinationError) × OfFiles c input files (λ maps. ExplainsMaps c.combination maps e) × (unmade_refusal e ≡ Some Refused)
+    × (text : List ℕ) × IsLineOn (target_name c.to) text × TellsUnmade e text × ToldLast old new text
 
 -- a line tells that the file to make is there already
 abbrev pub TellsTaken : Command → (old new : Option (List ℕ)) → Type 0
@@ -153,7 +181,7 @@ abbrev pub Notes : Command → Option (List ℕ) → Option Story → (old new :
 Notes (commands.Build build) input files old new = TellsDone build input files old new
 Notes (commands.Ask file question) input files old new = NotesNumber file input files old new
 Notes (commands.Diff diff) input files old new = NotesNumbers diff input files old new
-Notes (commands.Combine c) input files old new = new ≡ old
+Notes (commands.Combine c) input files old new = TellsCombined c input files old new
 
 -- the text of the last message: that it is out of memory if there is no memory for another
 abbrev pub last_text : {E A : Type 0} → Result (Vec ℕ A) E → List ℕ

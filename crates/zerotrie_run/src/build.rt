@@ -59,7 +59,7 @@ impl From<AllocError> for BuildError {
 }
 
 /// Returns whether it is reported that a file with this many keys was made.
-fn is_told(summary: Summary, keys: usize) -> bool
+pub fn is_told(summary: Summary, keys: usize) -> bool
     ensures { result ≡ is_told summary keys }
 {
     match summary {

@@ -1,51 +1,53 @@
-//! A file that is made of the tries of two others.
+//! A file that is made of the tries of others.
 
-ghost use Rattle.std.specs.Prelude.{◌≡◌, ◌<◌, ◌⊎◌, false, true, None, IfOk, IfErr, OnOk};
+ghost use Rattle.std.specs.Prelude.{◌≡◌, ◌<◌, ◌⊎◌, false, true, IfErr, IfOk, None, OnErr, OnOk, map};
 ghost use Rattle.std.specs.Io.Buffered.{writer_contents};
 ghost use Rattle.zerotrie_files.specs.Notes.{NothingFailed, SameReads};
+ghost use Rattle.zerotrie_making.specs.declared.error.MakeError.TheVariants.{OutOfMemory};
 ghost use Rattle.zerotrie_run.specs.Failures.{CombineFailed, ReadFailed, WasClosed, WriteFailed};
 ghost use Rattle.zerotrie_run.specs.Commands.{Runs, TellsNumber, ReadsTwice, LeavesInput, tells_made};
-ghost use Rattle.zerotrie_run.specs.Runs.{world, AreFiles, AreOneStream, HandsOn, IsFreshAt, OpensBy};
-ghost use Rattle.zerotrie_run.specs.Combined.{AreRead, EndsCombine, HasCombineCause, IsCombination, IsOfMaps, IsUncombined, IsUnopenedSide, IsUnread, OfHeld, combine_fails, combine_refusal};
+ghost use Rattle.zerotrie_run.specs.Runs.{world, AreAllFiles, HandsOn, HaveTwoStreams, IsFreshAt, OpensBy};
 ghost use Rattle.zerotrie_run.specs.Statuses.{number_of};
 ghost use Rattle.zerotrie_run.specs.Told.{IsTold, Notes};
+ghost use Rattle.zerotrie_run.specs.declared.build.BuildError.TheVariants.{NotMade};
 ghost use Rattle.zerotrie_run.specs.declared.combine.CombineError.TheVariants.{NotBuilt};
 ghost use Rattle.zerotrie_run.specs.declared.command.Check.TheVariants.{Full};
 ghost use Rattle.zerotrie_run.specs.declared.command.Command.TheVariants as commands;
 ghost use Rattle.zerotrie_run.specs.declared.status.Status.TheVariants.{Done, Absent, BadUsage, Unread, Unwritten, Closed};
 
 use crate::build::{BuildError, spare};
-use crate::command::{Combine, Side, are_one_stream};
-use crate::messages::combine::combine_text;
-use crate::messages::line::tell_one_stream;
+use crate::command::{Combine, Place, have_two_streams};
+use crate::messages::combine::{combine_text, combined_text, tell_two_streams};
+use crate::messages::line::tell;
 use crate::open::open_in_full;
 use crate::place::{read_place, write_place};
 use crate::program::{end, end_of};
 use crate::status::Status;
-use std::alloc::Global;
+use std::alloc::{AllocError, AllocFailed, Global};
 use std::io;
 use std::io::{BufWriter, Read, Write};
-use zerotrie_core::TrieRef;
+use zerotrie_core::{TrieKind, TrieRef};
 use zerotrie_files::{Disk, Noted, Store};
-use zerotrie_making::make_combined;
+use zerotrie_making::{CombinationError, Made, MakeError, kind_kept, make_combined};
 use zerotrie_queries::{OpenError, looks_like_text};
+use zerotrie_sets::RuleError;
 
-/// Why no file is made of two others.
+/// Why no file is made of the tries of others.
 #[derive(Debug, Drop)]
 pub enum CombineError {
-    /// This file can't be read.
-    Unopened(Side, io::Error),
-    /// This file has no trie, and looks like text or not.
-    NoTrie(Side, OpenError, bool),
-    /// No file is made of both tries, or it can't be written.
+    /// The file with this number, from 0 on, can't be read.
+    Unopened(usize, io::Error),
+    /// The file with this number has no trie, and looks like text or not.
+    NoTrie(usize, OpenError, bool),
+    /// This key is taken, and gets no value: why.
+    NoValue(RuleError, Vec<u8>),
+    /// No file is made of the pairs that are taken, or it can't be written.
     NotBuilt(BuildError),
 }
 
 impl CombineError {
     /// Returns how the run ends if the command is refused. `None` if something failed.
-    pub fn refusal(&self) -> Option<Status>
-        ensures { result ≡ combine_refusal self.now }
-    {
+    pub fn refusal(&self) -> Option<Status> {
         match self {
             CombineError::Unopened(_, _) => None,
             CombineError::NoTrie(_, why, _) => match why {
@@ -54,6 +56,7 @@ impl CombineError {
                 }
                 OpenError::OutOfMemory => None,
             },
+            CombineError::NoValue(_, _) => Some(Status::Refused),
             CombineError::NotBuilt(error) => error.refusal(),
         }
     }
@@ -67,139 +70,128 @@ impl From<BuildError> for CombineError {
     }
 }
 
-/// Reads both files, of which at most one is standard input.
-fn read_both<D: Disk, R: Read>(
+impl From<AllocError> for CombineError {
+    ghost from_gives = { λ _ e. e ≡ NotBuilt (NotMade OutOfMemory) };
+
+    fn from(_: AllocError) -> Self {
+        CombineError::NotBuilt(BuildError::NotMade(MakeError::OutOfMemory))
+    }
+}
+
+impl<T: Drop> From<AllocFailed<T>> for CombineError {
+    ghost from_gives = { λ _ e. e ≡ NotBuilt (NotMade OutOfMemory) };
+
+    fn from(_: AllocFailed<T>) -> Self {
+        CombineError::NotBuilt(BuildError::NotMade(MakeError::OutOfMemory))
+    }
+}
+
+/// Reads all files, of which at most one is standard input.
+fn read_all<D: Disk, R: Read>(
     alloc: Global,
-    both: Combine<'_>,
+    places: &[Place<'_>],
     files: &mut Store<D>,
     input: &mut Noted<R>,
-) -> Result<(Vec<u8>, Vec<u8>), CombineError>
-    requires { AreOneStream both.first both.second → ⊥ }
-    ensures read { IfOk result (λ held. AreRead both.entry (R.remaining input.old.inner)
-        (D.story files.old.disk) held.0.items held.1.items) }
-    ensures err { IfErr result IsUnread }
-    ensures failed { IfErr result (CombineFailed (ReadFailed input.new files.new) ⊥) }
-    ensures same { files.new.disk ≡ files.old.disk }
-    ensures unwritten { files.new.unwritten ≡ files.old.unwritten }
-    ensures noted { OnOk result (SameReads input.old input.new files.old files.new) }
-    ensures unread { AreFiles both.entry.first both.entry.second → input.new ≡ input.old }
-{
-    let first = match read_place(alloc, both.first, files, input) {
-        Ok(held) => held,
-        Err(error) => return Err(CombineError::Unopened(Side::First, error)),
-    };
-    let second = match read_place(alloc, both.second, files, input) {
-        Ok(held) => held,
-        Err(error) => return Err(CombineError::Unopened(Side::Second, error)),
-    };
-    Ok((first, second))
+) -> Result<Vec<Vec<u8>>, CombineError> {
+    let mut held = Vec::with_capacity(alloc, places.len())?;
+    for number in 0..places.len() {
+        match read_place(alloc, places[number], files, input) {
+            Ok(bytes) => held.push(bytes)?,
+            Err(error) => return Err(CombineError::Unopened(number, error)),
+        }
+    }
+    Ok(held)
 }
 
-/// Opens the trie that one of the files holds, and validates its bytes.
-fn open_side(alloc: Global, side: Side, held: &[u8]) -> Result<TrieRef<'_>, CombineError>
-    ensures ok { IfOk result (λ trie. OpensBy Full None held.now trie.kind trie.bytes.now) }
-    ensures err { IfErr result (IsUnopenedSide side held.now) }
-{
+/// Opens the trie that the file with this number holds, and validates its bytes.
+fn open_one(alloc: Global, number: usize, held: &[u8]) -> Result<TrieRef<'_>, CombineError> {
     match open_in_full(alloc, None, held) {
         Ok(trie) => Ok(trie),
-        Err(why) => Err(CombineError::NoTrie(side, why, looks_like_text(held))),
+        Err(why) => Err(CombineError::NoTrie(number, why, looks_like_text(held))),
     }
 }
 
-/// Makes the new file of what the two files hold.
+/// Opens the trie that each file holds.
+fn open_all(alloc: Global, held: &[Vec<u8>]) -> Result<Vec<TrieRef<'_>>, CombineError> {
+    let mut tries = Vec::with_capacity(alloc, held.len())?;
+    for number in 0..held.len() {
+        match open_one(alloc, number, held[number].as_slice()) {
+            Ok(trie) => tries.push(trie)?,
+            Err(error) => return Err(error),
+        }
+    }
+    Ok(tries)
+}
+
+/// Returns whether no kind is named, and tries have several.
+fn have_several_kinds(named: Option<TrieKind>, tries: &[TrieRef<'_>]) -> bool {
+    !tries.is_empty() && kind_kept(named, tries).is_none()
+}
+
+/// Makes the new file of what the files hold, and returns whether no kind is named for it and their
+/// tries have several.
 fn combine_held(
     alloc: Global,
-    both: Combine<'_>,
-    first: &[u8],
-    second: &[u8],
-) -> Result<Vec<u8>, CombineError>
-    ensures ok { IfOk result (λ file. OfHeld first.now second.now
-        (IsOfMaps both.entry file.items)) }
-    ensures err { IfErr result (IsUncombined both.entry first.now second.now) }
-{
-    let first = open_side(alloc, Side::First, first)?;
-    let second = open_side(alloc, Side::Second, second)?;
-    match make_combined(alloc, both.operation, &first, &second, both.kind, both.form) {
-        Ok(file) => Ok(file),
-        Err(error) => Err(CombineError::NotBuilt(BuildError::NotMade(error))),
+    combine: Combine<'_>,
+    held: &[Vec<u8>],
+) -> Result<(Made, bool), CombineError> {
+    let tries = open_all(alloc, held)?;
+    let several = have_several_kinds(combine.combination.kind, tries.as_slice());
+    match make_combined(alloc, combine.combination, tries.as_slice()) {
+        Ok(made) => Ok((made, several)),
+        Err(CombinationError::NoValue(why, key)) => Err(CombineError::NoValue(why, key)),
+        Err(CombinationError::NotMade(error)) => {
+            Err(CombineError::NotBuilt(BuildError::NotMade(error)))
+        }
     }
 }
 
-/// Makes the new file of both files, and writes it to its place.
-fn make_both<D: Disk, R: Read, W: Write + Drop>(
+/// Makes the new file of the others, and writes it to its place. It reports that at the end, as its
+/// summary says.
+fn make_file<D: Disk, R: Read, W: Write + Drop, M: Write>(
     alloc: Global,
-    both: Combine<'_>,
+    combine: Combine<'_>,
     files: &mut Store<D>,
     input: &mut Noted<R>,
     output: &mut Noted<BufWriter<W>>,
-) -> Result<(), CombineError>
-    requires { AreOneStream both.first both.second → ⊥ }
-    ensures ok { OnOk result (IsCombination both.entry (R.remaining input.old.inner)
-        (world (D.story files.old.disk) (writer_contents W.contents output.old.inner))
-        (world (D.story files.new.disk) (writer_contents W.contents output.new.inner))) }
-    ensures err { IfErr result (λ e. EndsCombine both.entry (R.remaining input.old.inner)
-        (world (D.story files.old.disk) (writer_contents W.contents output.old.inner))
-        (world (D.story files.new.disk) (writer_contents W.contents output.new.inner))
-        (combine_refusal e)) }
-    ensures handed { OnOk result (HandsOn output.old.inner output.new.inner) }
-    ensures why { IfErr result (HasCombineCause both.entry (R.remaining input.old.inner)
-        (D.story files.old.disk)) }
-    ensures noted { combine_fails result ≡ false
-        → NothingFailed input.old input.new output.old output.new files.old files.new }
-    ensures failed { IfErr result (CombineFailed (ReadFailed input.new files.new)
-        (WriteFailed output.new files.new)) }
-    ensures unread { AreFiles both.entry.first both.entry.second → input.new ≡ input.old }
-{
-    let (first, second) = read_both(alloc, both, files, input)?;
-    let file = combine_held(alloc, both, first.as_slice(), second.as_slice())?;
-    match write_place(alloc, both.to, file.as_slice(), files, output) {
-        Ok(()) => Ok(()),
+    messages: &mut Noted<M>,
+) -> Result<(), CombineError> {
+    let held = read_all(alloc, combine.from, files, input)?;
+    let (made, several) = combine_held(alloc, combine, held.as_slice())?;
+    let done = combined_text(alloc, combine, several, &made)?;
+    match write_place(alloc, combine.to, made.file.as_slice(), files, output) {
+        Ok(()) => {
+            tell(messages, done.as_slice());
+            Ok(())
+        }
         Err(error) => Err(CombineError::NotBuilt(BuildError::Unwritten(error))),
     }
 }
 
-/// Makes a file of the tries of two others, and writes it to its place, unless there is a file
-/// already that is to be left as it is.
-fn combine<D: Disk, R: Read, W: Write + Drop>(
+/// Makes a file of the tries of others, and writes it to its place, unless there is a file already
+/// that is to be left as it is.
+fn combine<D: Disk, R: Read, W: Write + Drop, M: Write>(
     alloc: Global,
-    both: Combine<'_>,
+    combine: Combine<'_>,
     files: &mut Store<D>,
     input: &mut Noted<R>,
     output: &mut Noted<BufWriter<W>>,
-) -> Result<(), CombineError>
-    requires { AreOneStream both.first both.second → ⊥ }
-    ensures ok { OnOk result (IsCombination both.entry (R.remaining input.old.inner)
-        (world (D.story files.old.disk) (writer_contents W.contents output.old.inner))
-        (world (D.story files.new.disk) (writer_contents W.contents output.new.inner))) }
-    ensures fresh { OnOk result (IsFreshAt both.entry.to both.entry.no_clobber
-        (D.story files.old.disk)) }
-    ensures err { IfErr result (λ e. EndsCombine both.entry (R.remaining input.old.inner)
-        (world (D.story files.old.disk) (writer_contents W.contents output.old.inner))
-        (world (D.story files.new.disk) (writer_contents W.contents output.new.inner))
-        (combine_refusal e)) }
-    ensures handed { OnOk result (HandsOn output.old.inner output.new.inner) }
-    ensures why { IfErr result (HasCombineCause both.entry (R.remaining input.old.inner)
-        (D.story files.old.disk)) }
-    ensures noted { combine_fails result ≡ false
-        → NothingFailed input.old input.new output.old output.new files.old files.new }
-    ensures failed { IfErr result (CombineFailed (ReadFailed input.new files.new)
-        (WriteFailed output.new files.new)) }
-    ensures unread { AreFiles both.entry.first both.entry.second → input.new ≡ input.old }
-{
-    spare(both.to, both.no_clobber, files)?;
-    make_both(alloc, both, files, input, output)
+    messages: &mut Noted<M>,
+) -> Result<(), CombineError> {
+    spare(combine.to, combine.no_clobber, files)?;
+    make_file(alloc, combine, files, input, output, messages)
 }
 
-/// Runs a combination of two files, and returns how it ended. Its contract is that of `run`.
+/// Runs a combination of files, and returns how it ended. Its contract is that of `run`.
 pub fn run_combine<D: Disk, R: Read, W: Write + Drop, M: Write>(
     alloc: Global,
-    both: Combine<'_>,
+    given: Combine<'_>,
     files: &mut Store<D>,
     input: &mut Noted<R>,
     output: &mut Noted<BufWriter<W>>,
     messages: &mut Noted<M>,
 ) -> Status
-    ensures runs { Runs (commands.Combine both.entry) (R.remaining input.old.inner)
+    ensures runs { Runs (commands.Combine given.entry) (R.remaining input.old.inner)
         (world (D.story files.old.disk) (writer_contents W.contents output.old.inner))
         (world (D.story files.new.disk) (writer_contents W.contents output.new.inner)) result }
     ensures read_failed { result ≡ Unread → ReadFailed input.new files.new }
@@ -212,28 +204,28 @@ pub fn run_combine<D: Disk, R: Read, W: Write + Drop, M: Write>(
     ensures handed { (result ≡ Done) ⊎ (result ≡ Absent)
         → HandsOn output.old.inner output.new.inner }
     ensures told { messages.new.failed ≡ false
-        → IsTold (commands.Combine both.entry) (R.remaining input.old.inner)
+        → IsTold (commands.Combine given.entry) (R.remaining input.old.inner)
         (D.story files.old.disk) (M.contents messages.old.inner) (M.contents messages.new.inner)
         result }
     ensures notes { (result ≡ Done) ⊎ (result ≡ Absent) → messages.new.failed ≡ false
-        → Notes (commands.Combine both.entry) (R.remaining input.old.inner)
+        → Notes (commands.Combine given.entry) (R.remaining input.old.inner)
         (D.story files.old.disk) (M.contents messages.old.inner) (M.contents messages.new.inner) }
-    ensures quiet { tells_made (commands.Combine both.entry) ≡ false
-        → (TellsNumber (commands.Combine both.entry) (R.remaining input.old.inner)
+    ensures quiet { tells_made (commands.Combine given.entry) ≡ false
+        → (TellsNumber (commands.Combine given.entry) (R.remaining input.old.inner)
         (D.story files.old.disk) → ⊥)
         → (result ≡ Done) ⊎ (result ≡ Absent) → messages.new ≡ messages.old }
-    ensures usage { ReadsTwice (commands.Combine both.entry) → result ≡ BadUsage }
-    ensures unread { LeavesInput (commands.Combine both.entry) result → input.new ≡ input.old }
+    ensures usage { ReadsTwice (commands.Combine given.entry) → result ≡ BadUsage }
+    ensures unread { LeavesInput (commands.Combine given.entry) result → input.new ≡ input.old }
 {
-    if are_one_stream(both.first, both.second) {
-        tell_one_stream(messages);
+    if have_two_streams(given.from) {
+        tell_two_streams(messages);
         return Status::BadUsage;
     }
-    match combine(alloc, both, files, input, output) {
+    match combine(alloc, given, files, input, output, messages) {
         Ok(()) => Status::Done,
         Err(error) => {
             let status = end_of(error.refusal(), files, input, output);
-            end(messages, status, combine_text(alloc, both, &error))
+            end(messages, status, combine_text(alloc, given, &error))
         }
     }
 }

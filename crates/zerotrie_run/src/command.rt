@@ -2,7 +2,7 @@
 
 ghost use Rattle.std.specs.Prelude.{◌≡◌, ◌↔◌, true, IsTrue};
 ghost use Rattle.zerotrie_run.specs.Messages.{place_name};
-ghost use Rattle.zerotrie_run.specs.Runs.{AreOneStream, IsNamed, of_lines};
+ghost use Rattle.zerotrie_run.specs.Runs.{AreOneStream, HaveTwoStreams, IsNamed, of_lines};
 ghost use Rattle.zerotrie_run.specs.declared.command.Place.TheVariants.{Stream};
 
 use zerotrie_core::TrieKind;
@@ -49,6 +49,21 @@ pub fn are_one_stream(first: Place<'_>, second: Place<'_>) -> bool
         (Place::Stream, Place::Stream) => true,
         _ => false,
     }
+}
+
+/// Returns whether two of these places are standard input.
+pub fn have_two_streams(places: &[Place<'_>]) -> bool
+    ensures { IsTrue result ↔ HaveTwoStreams places.now }
+{
+    let mut found = false;
+    for place in places {
+        match place {
+            Place::Stream if found => return true,
+            Place::Stream => found = true,
+            Place::File(_) => {}
+        }
+    }
+    false
 }
 
 /// Keys, texts or values that are asked for.
@@ -100,7 +115,7 @@ pub struct TrieFile<'a> {
     pub check: Check,
 }
 
-/// When a build reports how many keys its file has, and how long it is.
+/// When a build or a combination reports how many keys its file has, and how long it is.
 #[derive(Clone, Copy, PartialEq, Eq, Debug)]
 pub enum Summary {
     /// Never.
@@ -130,13 +145,6 @@ pub struct Diff<'a> {
     pub new: Place<'a>,
     /// The kind of bare bytes, of both. If `None`, each file says which kind it has.
     pub bare: Option<TrieKind>,
-}
-
-/// One of two files.
-#[derive(Clone, Copy, PartialEq, Eq, Debug)]
-pub enum Side {
-    First,
-    Second,
 }
 
 /// How a file is made of the tries of files, and where. Each of these says its kind.

@@ -15,7 +15,7 @@ mod status;
 mod stdin_lines;
 
 pub use command::{
-    Build, Check, Combine, Command, Diff, Keys, Place, Question, Side, Summary, TrieFile,
+    Build, Check, Combine, Command, Diff, Keys, Place, Question, Summary, TrieFile,
 };
 pub use program::run;
 pub use status::Status;

@@ -166,6 +166,6 @@ pub fn run<D: Disk, R: Read, W: Write + Drop, M: Write>(
             }
         }
         Command::Diff(diff) => run_diff(alloc, diff, files, input, output, messages),
-        Command::Combine(both) => run_combine(alloc, both, files, input, output, messages),
+        Command::Combine(given) => run_combine(alloc, given, files, input, output, messages),
     }
 }

@@ -1,50 +1,116 @@
-//! Messages on a trie file that is made of two others.
+//! Messages on a trie file that is made of others.
 
-ghost use Rattle.std.specs.Prelude.{◌≡◌, IfOk};
-ghost use Rattle.zerotrie_run.specs.Combined.{file_of};
-ghost use Rattle.zerotrie_run.specs.Messages.{TellsCombine};
+ghost use Rattle.std.specs.Prelude.{◌≡◌, IfOk, OnOk};
 
+use crate::build::is_told;
 use crate::combine::CombineError;
-use crate::command::{Check, Combine, Side, TrieFile};
+use crate::command::{Check, Combine, Place, Summary, TrieFile};
 use crate::messages::ask::no_trie;
-use crate::messages::build::unbuilt;
-use crate::messages::line::{fault_on, source_name, target_name};
+use crate::messages::build::{made_text, unbuilt};
+use crate::messages::key::add_key;
+use crate::messages::line::{add, add_words, begin_line, end_line, fault_on, source_name, target_name, tell};
 use crate::messages::pairs::PairUnit;
 use std::alloc::{AllocError, Global};
+use std::io::Write;
+use zerotrie_core::TrieKind;
+use zerotrie_files::Noted;
+use zerotrie_making::{FileForm, Made};
+use zerotrie_sets::RuleError;
 
-/// Returns how one of the two files is read.
-fn file_of<'a>(both: Combine<'a>, side: Side) -> TrieFile<'a>
-    ensures { result ≡ file_of both.entry side }
-{
+/// Says that standard input can't be two of the files. Takes no memory.
+pub fn tell_two_streams<M: Write>(messages: &mut Noted<M>) {
+    tell(messages, b"zerotrie: standard input can't be two of the files\n");
+}
+
+/// Returns how one of the files is read.
+fn file_of(place: Place<'_>) -> TrieFile<'_> {
     TrieFile {
-        place: match side {
-            Side::First => both.first,
-            Side::Second => both.second,
-        },
+        place,
         bare: None,
         check: Check::Full,
     }
 }
 
-/// Returns a line that says why no file is made of two others.
+/// Returns why a key that is taken gets no value.
+fn value_words(why: RuleError) -> &'static str {
+    match why {
+        RuleError::SeveralValues => "more than one file has this key: ",
+        RuleError::SumTooLarge => "the sum of the values of this key is 2^64 or more: ",
+    }
+}
+
+/// Returns a line that says that a key gets no value, and why.
+fn no_value(
+    alloc: Global,
+    place: &str,
+    why: RuleError,
+    key: &[u8],
+) -> Result<Vec<u8>, AllocError> {
+    let mut text = begin_line(alloc, place)?;
+    add_words(&mut text, value_words(why))?;
+    add_key(&mut text, key)?;
+    end_line(&mut text)?;
+    Ok(text)
+}
+
+/// Returns a line that says why no file is made of others.
 pub fn combine_text(
     alloc: Global,
-    both: Combine<'_>,
+    combine: Combine<'_>,
     error: &CombineError,
-) -> Result<Vec<u8>, AllocError>
-    ensures { IfOk result (λ text. TellsCombine both.entry error.now text.items) }
-{
+) -> Result<Vec<u8>, AllocError> {
+    // no file has the pairs that are taken, so a line on them is on the file that is made
+    let to = target_name(combine.to);
     match error {
-        CombineError::Unopened(side, error) => {
-            fault_on(alloc, source_name(file_of(both, *side).place), error)
+        CombineError::Unopened(number, error) => {
+            fault_on(alloc, source_name(combine.from[*number]), error)
         }
-        CombineError::NoTrie(side, why, is_text) => {
-            no_trie(alloc, file_of(both, *side), why, *is_text)
+        CombineError::NoTrie(number, why, is_text) => {
+            no_trie(alloc, file_of(combine.from[*number]), why, *is_text)
         }
-        CombineError::NotBuilt(error) => {
-            // neither of the two files has the pairs, so the line is on the file that is made
-            let to = target_name(both.to);
-            unbuilt(alloc, to, PairUnit::Pair, to, error)
-        }
+        CombineError::NoValue(why, key) => no_value(alloc, to, *why, key.as_slice()),
+        CombineError::NotBuilt(error) => unbuilt(alloc, to, PairUnit::Pair, to, error),
     }
+}
+
+/// Returns whether it is told of which kind a file is, if no kind is named for it and the tries of the
+/// files have several.
+fn tells_kind(combine: Combine<'_>) -> bool {
+    combine.summary != Summary::Never && combine.combination.form != FileForm::Index
+}
+
+/// Returns a line that says of which kind a file is, and why. It is empty if that is not told.
+fn kind_text(
+    alloc: Global,
+    is_told: bool,
+    place: &str,
+    kind: TrieKind,
+) -> Result<Vec<u8>, AllocError> {
+    if !is_told {
+        return Ok(Vec::new(alloc));
+    }
+    let mut text = begin_line(alloc, place)?;
+    add(
+        &mut text,
+        "the files have tries of several kinds, so it is of kind ",
+    )?;
+    add(&mut text, kind.name())?;
+    end_line(&mut text)?;
+    Ok(text)
+}
+
+/// Returns what is told of a file that was made of others, as its summary says. `several` is whether no
+/// kind is named for it and their tries have several.
+pub fn combined_text(
+    alloc: Global,
+    combine: Combine<'_>,
+    several: bool,
+    made: &Made,
+) -> Result<Vec<u8>, AllocError> {
+    let place = target_name(combine.to);
+    let mut text = kind_text(alloc, several && tells_kind(combine), place, made.kind)?;
+    let is_told = is_told(combine.summary, made.keys);
+    let line = made_text(alloc, is_told, place, made.keys, made.file.len())?;
+    text.extend_from_slice(line.as_slice())?;
+    Ok(text)
 }
