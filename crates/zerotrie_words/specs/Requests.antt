@@ -1,7 +1,7 @@
 -- The command that the words of a command line ask for.
-use Rattle.std.specs.Prelude.{◌≡◌, ◌≢◌, ◌⊎◌, ℕ, List, [], Option, Some, None, Bool, true, false, AllZip, codes, length, nat_lt, if◌then◌else◌}
+use Rattle.std.specs.Prelude.{◌≡◌, ◌≢◌, ◌⊎◌, ℕ, List, [], Option, Some, None, Bool, true, false, codes, length, nat_lt, if◌then◌else◌}
 use Rattle.std.specs.Borrow.{Bor}
-use Rattle.std.specs.List.{slice_get}
+use Rattle.std.specs.List.{AllZip, slice_get}
 use Rattle.std.specs.Option.{option_map}
 use Rattle.clap.specs.declared.parser.matches.ArgMatches.{ArgMatches}
 use Rattle.zerotrie_sets.specs.declared.selection.Rule.{Rule}
@@ -46,9 +46,9 @@ IsRule None rule = rule ≡ First
 IsRule (Some word) rule = word ≡ rule_word rule
 
 -- The combination that they ask for, of the tries in these places. What it made is told as by a build.
-pub record IsCombination (matches : ArgMatches) (selection : Selection) (places : List Place) (to_terminal : Bool) (c : Combine) : Type 0 where
+pub record IsCombination (matches : ArgMatches) (which : Selection) (places : List Place) (to_terminal : Bool) (c : Combine) : Type 0 where
   pub from : c.from.now ≡ places
-  pub selection : c.combination.selection ≡ selection
+  pub selection : c.combination.selection ≡ which
   pub rule : IsRule (word_of matches (codes "values")) c.combination.rule
   pub to : IsTarget (word_of matches (codes "output")) c.to
   pub kind : IsKind (word_of matches (codes "kind")) c.combination.kind
