@@ -18,7 +18,7 @@ pub one_more : (words : List (Bor (List ℕ))) (i : ℕ) (d : Bor (List ℕ)) (p
     → IsSource (Some (get_or words i d).now) place → AreSoFar words i places → AreSoFar words (suc i) (places ++ place ∷ [])
 one_more words i d places place within is before = λ rest others.
     let all : AreSources (texts (drop i words)) (place ∷ rest) =
-        subst (λ (l : List (Bor (List ℕ))). AreSources (texts l) (place ∷ rest)) (sym (drop-cons words i d within)) (is, others) in
+    subst (λ (l : List (Bor (List ℕ))). AreSources (texts l) (place ∷ rest)) (sym (drop-cons words i d within)) (is, others) in
     subst (λ (l : List Place). AreSources (texts words) l) (sym (append_assoc places (place ∷ []) rest)) (before (place ∷ rest) all)
 
 pub are_all : (words : List (Bor (List ℕ))) (i : ℕ) (places : List Place) → drop i words ≡ [] → AreSoFar words i places → AreSources (texts words) places

@@ -3,11 +3,12 @@
 ghost use Rattle.std.specs.Prelude.{◌≡◌, IfErr, IfNone, IfOk, IfSome, codes, map};
 ghost use Rattle.zerotrie_sets.specs.declared.selection.Rule.{Rule};
 ghost use Rattle.zerotrie_words.specs.Refusals.{IsSaid, NamesNone};
-ghost use Rattle.zerotrie_words.specs.Requests.{AreSources, IsCombination, IsNoCombination, IsRule, rule_word};
+ghost use Rattle.zerotrie_words.specs.Requests.{ArePlaces, AreSources, IsCombination, IsNoCombination, IsRule, rule_word};
 ghost use Rattle.zerotrie_words.specs.Words.{files_of, word_of};
 
 use crate::build::{content_in, summary_in, target_in};
 use crate::names::source_of;
+use crate::task::Task;
 use clap::ArgMatches;
 use std::alloc::{AllocError, Global};
 use zerotrie_making::Combination;
@@ -25,13 +26,27 @@ fn sources_of<'a>(alloc: Global, words: &[&'a str]) -> Result<Vec<Place<'a>>, Al
     Ok(places)
 }
 
-/// Returns the places of the tries that are combined.
-pub fn sources_in<'a>(alloc: Global, matches: &ArgMatches<'a>) -> Result<Vec<Place<'a>>, AllocError>
+/// Returns the places of all files that are named.
+fn sources_in<'a>(alloc: Global, matches: &ArgMatches<'a>) -> Result<Vec<Place<'a>>, AllocError>
     ensures { IfOk result (λ places. AreSources (files_of matches.now) places.items) }
 {
     match matches.get_strs("FILE") {
         Some(words) => sources_of(alloc, words),
         None => Ok(Vec::new(alloc)),
+    }
+}
+
+/// Returns the places of the tries that a task combines.
+pub fn places_in<'a>(
+    alloc: Global,
+    matches: &ArgMatches<'a>,
+    task: Task,
+) -> Result<Vec<Place<'a>>, AllocError>
+    ensures { IfOk result (λ places. ArePlaces matches.now task places.items) }
+{
+    match task {
+        Task::Combine(_) => sources_in(alloc, matches),
+        Task::Build | Task::Ask(_) | Task::Diff => Ok(Vec::new(alloc)),
     }
 }
 

@@ -12,7 +12,7 @@ ghost use Rattle.zerotrie_words.specs.declared.arguments.Subcommand.{Subcommand}
 
 use crate::arguments::{Subcommand, program};
 use crate::build::build_in;
-use crate::combine::{combine_in, sources_in};
+use crate::combine::{combine_in, places_in};
 use crate::completions::script_for;
 use crate::diff::diff_in;
 use crate::keys::words_in;
@@ -128,10 +128,7 @@ impl<'a> Request<'a> {
             Task::Ask(topic) => words_in(alloc, &matches, topic)?,
             Task::Build | Task::Diff | Task::Combine(_) => None,
         };
-        let places = match task {
-            Task::Combine(_) => sources_in(alloc, &matches)?,
-            Task::Build | Task::Ask(_) | Task::Diff => Vec::new(alloc),
-        };
+        let places = places_in(alloc, &matches, task)?;
         Ok(Request {
             task,
             matches,
