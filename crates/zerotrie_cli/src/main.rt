@@ -93,7 +93,7 @@ fn lead_to_one_file(rt: &HostRuntime, path: &str, other: &str) -> bool {
 fn goes_to_terminal(rt: &HostRuntime, command: &Command<'_>) -> bool {
     match command {
         Command::Build(build) => build.to == Place::Stream && rt.stdout().is_terminal(),
-        Command::Combine(both) => both.to == Place::Stream && rt.stdout().is_terminal(),
+        Command::Combine(combine) => combine.to == Place::Stream && rt.stdout().is_terminal(),
         Command::Ask(_, _) | Command::Diff(_) => false,
     }
 }

@@ -1,3 +1,4 @@
 mod Rules
 mod SearchLemmas
 mod ReadLemmas
+mod PlaceLemmas

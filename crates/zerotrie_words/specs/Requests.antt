@@ -1,13 +1,12 @@
 -- The command that the words of a command line ask for.
-use Rattle.std.specs.Prelude.{◌≡◌, ◌≢◌, ◌⊎◌, ℕ, List, Option, Some, None, Bool, true, false, codes, length, nat_lt, if◌then◌else◌}
+use Rattle.std.specs.Prelude.{◌≡◌, ◌≢◌, ◌⊎◌, ℕ, List, [], Option, Some, None, Bool, true, false, codes, length, nat_lt, if◌then◌else◌}
 use Rattle.std.specs.Borrow.{Bor}
-use Rattle.std.specs.List.{slice_get}
+use Rattle.std.specs.List.{AllZip, slice_get}
 use Rattle.std.specs.Option.{option_map}
 use Rattle.clap.specs.declared.parser.matches.ArgMatches.{ArgMatches}
-use Rattle.zerotrie_sets.specs.declared.combined.Keep.{Keep}
-use Rattle.zerotrie_sets.specs.declared.combined.Keep.TheVariants.{First, Last}
-use Rattle.zerotrie_sets.specs.declared.combined.Operation.{Operation}
-use Rattle.zerotrie_sets.specs.declared.combined.Operation.TheVariants.{Union, Intersection, Difference, SymmetricDifference}
+use Rattle.zerotrie_sets.specs.declared.selection.Rule.{Rule}
+use Rattle.zerotrie_sets.specs.declared.selection.Rule.TheVariants.{First, Last, Sum, Min, Max, Refuse}
+use Rattle.zerotrie_sets.specs.declared.selection.Selection.{Selection}
 use Rattle.zerotrie_run.specs.declared.command.Build.{Build}
 use Rattle.zerotrie_run.specs.declared.command.Combine.{Combine}
 use Rattle.zerotrie_run.specs.declared.command.Command.{Command}
@@ -16,7 +15,7 @@ use Rattle.zerotrie_run.specs.declared.command.Diff.{Diff}
 use Rattle.zerotrie_run.specs.declared.command.Place.{Place}
 use Rattle.zerotrie_run.specs.declared.command.Place.TheVariants.{File, Stream}
 use Rattle.zerotrie_words.specs.Diffs.{IsDiff}
-use Rattle.zerotrie_words.specs.Refusals.{IsNoBuild, IsNoContent, IsNoKind, IsNoQuestion, IsSaid, NamesNone}
+use Rattle.zerotrie_words.specs.Refusals.{IsNoBuild, IsNoContent, IsNoKind, IsNoProgress, IsNoQuestion, IsSaid, NamesNone}
 use Rattle.zerotrie_words.specs.Words.{AreTogether, IsAsk, IsFlag, IsForm, IsKind, IsPlan, IsSource, IsSummary, IsTarget, files_of, flag_of, given_words, word_of}
 use Rattle.zerotrie_words.specs.declared.reply.Reply.{Reply}
 use Rattle.zerotrie_words.specs.declared.reply.Reply.TheVariants as reply
@@ -32,32 +31,31 @@ pub record IsBuild (matches : ArgMatches) (to_terminal : Bool) (build : Build) :
   pub no_clobber : IsFlag (flag_of matches (codes "no-clobber")) build.no_clobber
   pub summary : IsSummary to_terminal (flag_of matches (codes "progress")) (flag_of matches (codes "quiet")) build.summary
 
--- which value counts of a key that both tries have, by its word
-abbrev pub keep_word : Keep → List ℕ
-keep_word First = codes "first"
-keep_word Last = codes "last"
+-- which value a key gets that several tries have, by its word
+abbrev pub rule_word : Rule → List ℕ
+rule_word First = codes "first"
+rule_word Last = codes "last"
+rule_word Sum = codes "sum"
+rule_word Min = codes "min"
+rule_word Max = codes "max"
+rule_word Refuse = codes "refuse"
 
--- an operation that takes this value
-abbrev pub keeping : Keep → Operation → Operation
-keeping keep (Union before) = Union keep
-keeping keep (Intersection before) = Intersection keep
-keeping keep Difference = Difference
-keeping keep SymmetricDifference = SymmetricDifference
+-- the rule of a word; without one it is that of the first
+abbrev pub IsRule : Option (List ℕ) → Rule → Type 0
+IsRule None rule = rule ≡ First
+IsRule (Some word) rule = word ≡ rule_word rule
 
-abbrev pub IsKeeping : Option (List ℕ) → (operation made : Operation) → Type 0
-IsKeeping None operation made = made ≡ operation
-IsKeeping (Some word) operation made = (keep : Keep) × (word ≡ keep_word keep) × (made ≡ keeping keep operation)
-
--- The combination that they ask for.
-pub record IsCombination (matches : ArgMatches) (operation : Operation) (both : Combine) : Type 0 where
-  pub made : IsKeeping (word_of matches (codes "values")) operation both.operation
-  pub first : IsSource (word_of matches (codes "A")) both.first
-  pub second : IsSource (word_of matches (codes "B")) both.second
-  pub to : IsTarget (word_of matches (codes "output")) both.to
-  pub kind : IsKind (word_of matches (codes "kind")) both.kind
-  pub form : IsForm (flag_of matches (codes "tagged")) (flag_of matches (codes "bare")) (flag_of matches (codes "index")) both.form
-  pub together : AreTogether both.form both.kind
-  pub no_clobber : IsFlag (flag_of matches (codes "no-clobber")) both.no_clobber
+-- The combination that they ask for, of the tries in these places. What it made is told as by a build.
+pub record IsCombination (matches : ArgMatches) (which : Selection) (places : List Place) (to_terminal : Bool) (c : Combine) : Type 0 where
+  pub from : c.from.now ≡ places
+  pub selection : c.combination.selection ≡ which
+  pub rule : IsRule (word_of matches (codes "values")) c.combination.rule
+  pub to : IsTarget (word_of matches (codes "output")) c.to
+  pub kind : IsKind (word_of matches (codes "kind")) c.combination.kind
+  pub form : IsForm (flag_of matches (codes "tagged")) (flag_of matches (codes "bare")) (flag_of matches (codes "index")) c.combination.form
+  pub together : AreTogether c.combination.form c.combination.kind
+  pub no_clobber : IsFlag (flag_of matches (codes "no-clobber")) c.no_clobber
+  pub summary : IsSummary to_terminal (flag_of matches (codes "progress")) (flag_of matches (codes "quiet")) c.summary
 
 -- two places are not the file of one path
 abbrev pub AreApart : Place → Place → Type 0
@@ -75,7 +73,18 @@ abbrev pub keys_by : ArgMatches → Task → Option (List (List ℕ))
 keys_by matches task.Build = None
 keys_by matches (task.Ask topic) = given_words matches topic
 keys_by matches task.Diff = None
-keys_by matches (task.Combine operation) = None
+keys_by matches (task.Combine selection) = None
+
+-- the places that words name, in their order
+abbrev pub AreSources : List (List ℕ) → List Place → Type 0
+AreSources words places = AllZip (λ word place. IsSource (Some word) place) words places
+
+-- the places of the tries that a task combines
+abbrev pub ArePlaces : ArgMatches → Task → List Place → Type 0
+ArePlaces matches task.Build places = places ≡ []
+ArePlaces matches (task.Ask topic) places = places ≡ []
+ArePlaces matches task.Diff places = places ≡ []
+ArePlaces matches (task.Combine selection) places = AreSources (files_of matches) places
 
 -- how many files a task is done for, one after the other
 abbrev pub file_count : ArgMatches → Task → ℕ
@@ -90,14 +99,14 @@ file_count matches (task.Ask topic.Stats) = length (files_of matches)
 file_count matches (task.Ask topic.Inspect) = 1
 file_count matches (task.Ask topic.Code) = 1
 file_count matches task.Diff = 1
-file_count matches (task.Combine operation) = 1
+file_count matches (task.Combine selection) = 1
 
 -- the command of a task for the file with this number: a build does not replace its own input
-abbrev pub IsCommand : ArgMatches → Option (List (List ℕ)) → Bool → ℕ → Task → Command → Type 0
-IsCommand matches texts to_terminal n task.Build c = (build : Build) × IsBuild matches to_terminal build × AreApart build.from build.to × (c ≡ command.Build build)
-IsCommand matches texts to_terminal n (task.Ask topic) c = IsAsk matches topic n texts c
-IsCommand matches texts to_terminal n task.Diff c = (diff : Diff) × IsDiff matches diff × (c ≡ command.Diff diff)
-IsCommand matches texts to_terminal n (task.Combine operation) c = (both : Combine) × IsCombination matches operation both × (c ≡ command.Combine both)
+abbrev pub IsCommand : ArgMatches → Option (List (List ℕ)) → List Place → Bool → ℕ → Task → Command → Type 0
+IsCommand matches texts places to_terminal n task.Build c = (build : Build) × IsBuild matches to_terminal build × AreApart build.from build.to × (c ≡ command.Build build)
+IsCommand matches texts places to_terminal n (task.Ask topic) c = IsAsk matches topic n texts c
+IsCommand matches texts places to_terminal n task.Diff c = (diff : Diff) × IsDiff matches diff × (c ≡ command.Diff diff)
+IsCommand matches texts places to_terminal n (task.Combine selection) c = (of : Combine) × IsCombination matches selection places to_terminal of × (c ≡ command.Combine of)
 
 -- the name in front of what is printed of one of several files, unless that is JSON
 abbrev pub heading : (json : Bool) → List (List ℕ) → ℕ → Option (List ℕ)
@@ -120,21 +129,25 @@ IsHeading (task.Ask topic.Stats) matches n name = IsReportHeading matches n name
 IsHeading (task.Ask topic.Inspect) matches n name = name ≡ None
 IsHeading (task.Ask topic.Code) matches n name = name ≡ None
 IsHeading task.Diff matches n name = name ≡ None
-IsHeading (task.Combine operation) matches n name = name ≡ None
+IsHeading (task.Combine selection) matches n name = name ≡ None
 
 -- whether nothing is printed of what a task finds: by the flag of a comparison
 abbrev pub IsQuiet : Task → ArgMatches → Bool → Type 0
 IsQuiet task.Build matches quiet = quiet ≡ false
 IsQuiet (task.Ask topic) matches quiet = quiet ≡ false
 IsQuiet task.Diff matches quiet = IsFlag (flag_of matches (codes "quiet")) quiet
-IsQuiet (task.Combine operation) matches quiet = quiet ≡ false
+IsQuiet (task.Combine selection) matches quiet = quiet ≡ false
+
+-- the words are no combination
+abbrev pub IsNoCombination : ArgMatches → Type 0
+IsNoCombination matches = IsNoContent matches ⊎ (NamesNone rule_word (word_of matches (codes "values")) ⊎ IsNoProgress (flag_of matches (codes "progress")) (flag_of matches (codes "quiet")))
 
 -- the words of a task are no command, or a build would replace its own input
 abbrev pub IsNoCommand : ArgMatches → Option (List (List ℕ)) → Task → Type 0
 IsNoCommand matches texts task.Build = IsNoBuild matches ⊎ ((from : Place) × (to : Place) × IsSource (word_of matches (codes "IN")) from × IsTarget (word_of matches (codes "output")) to × AreOneFile from to)
 IsNoCommand matches texts (task.Ask topic) = IsNoKind (word_of matches (codes "bare")) ⊎ IsNoQuestion matches topic texts
 IsNoCommand matches texts task.Diff = IsNoKind (word_of matches (codes "bare"))
-IsNoCommand matches texts (task.Combine operation) = IsNoContent matches ⊎ NamesNone keep_word (word_of matches (codes "values"))
+IsNoCommand matches texts (task.Combine selection) = IsNoCombination matches
 
 -- a reply names the path that two places have in common
 abbrev pub NamesOneFile : Place → Place → Reply → Type 0

@@ -5,8 +5,7 @@ use Rattle.clap.specs.Matches.{found_of, subcommand_name_of}
 use Rattle.clap.specs.Simple.{subcommand_rows_of}
 use Rattle.clap.specs.Walk.{rows_of}
 use Rattle.clap.specs.declared.parser.matches.ArgMatches.{ArgMatches}
-use Rattle.zerotrie_sets.specs.declared.combined.Keep.TheVariants as keep
-use Rattle.zerotrie_sets.specs.declared.combined.Operation.TheVariants as operation
+use Rattle.zerotrie_sets.specs.declared.selection.Selection.TheVariants.{Union, Intersection, Difference, SymmetricDifference}
 use Rattle.zerotrie_words.specs.declared.task.Task.{Task}
 use Rattle.zerotrie_words.specs.declared.task.Task.TheVariants as task
 use Rattle.zerotrie_words.specs.declared.task.Topic.TheVariants as topic
@@ -24,12 +23,10 @@ task_word (task.Ask topic.Verify) = Some (codes "verify")
 task_word (task.Ask topic.Stats) = Some (codes "stats")
 task_word (task.Ask topic.Inspect) = Some (codes "inspect")
 task_word (task.Ask topic.Code) = Some (codes "code")
-task_word (task.Combine (operation.Union keep.First)) = Some (codes "union")
-task_word (task.Combine (operation.Union keep.Last)) = None
-task_word (task.Combine (operation.Intersection keep.First)) = Some (codes "intersect")
-task_word (task.Combine (operation.Intersection keep.Last)) = None
-task_word (task.Combine operation.Difference) = Some (codes "minus")
-task_word (task.Combine operation.SymmetricDifference) = None
+task_word (task.Combine Union) = Some (codes "union")
+task_word (task.Combine Intersection) = Some (codes "intersect")
+task_word (task.Combine Difference) = Some (codes "minus")
+task_word (task.Combine SymmetricDifference) = None
 
 -- what clap found is no command of a task
 abbrev pub NamesNoTask : ArgMatches → Type 0

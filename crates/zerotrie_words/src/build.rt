@@ -203,9 +203,9 @@ pub fn target_in<'a>(matches: &ArgMatches<'a>) -> Place<'a>
     }
 }
 
-/// Returns when a build reports what it made: always if that is asked for or messages go to a
-/// terminal, never if it is to be quiet, and else if there are no keys.
-fn summary_in(matches: &ArgMatches<'_>, to_terminal: bool) -> Result<Summary, &'static str>
+/// Returns when it is reported what was made: always if that is asked for or messages go to a
+/// terminal, never if the command is to be quiet, and else if there are no keys.
+pub fn summary_in(matches: &ArgMatches<'_>, to_terminal: bool) -> Result<Summary, &'static str>
     ensures summary { IfOk result (IsSummary to_terminal (flag_of matches.now (codes "progress"))
         (flag_of matches.now (codes "quiet"))) }
     ensures refused { IfErr result (λ _. IsNoProgress (flag_of matches.now (codes "progress"))

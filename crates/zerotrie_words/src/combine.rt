@@ -1,76 +1,111 @@
-//! The combination of two tries that the command line asks for.
+//! The combination of tries that the command line asks for.
 
-ghost use Rattle.std.specs.Prelude.{◌≡◌, ◌⊎◌, IfErr, IfNone, IfOk, IfSome, codes};
-ghost use Rattle.zerotrie_sets.specs.declared.combined.Keep.{Keep};
-ghost use Rattle.zerotrie_words.specs.Refusals.{IsNoContent, IsSaid, NamesNone};
-ghost use Rattle.zerotrie_words.specs.Requests.{IsCombination, IsKeeping, keep_word, keeping};
-ghost use Rattle.zerotrie_words.specs.Words.{word_of};
+ghost use Rattle.std.specs.Prelude.{◌≡◌, IfErr, IfNone, IfOk, IfSome, codes, map};
+ghost use Rattle.zerotrie_sets.specs.declared.selection.Rule.{Rule};
+ghost use Rattle.zerotrie_words.specs.Refusals.{IsSaid, NamesNone};
+ghost use Rattle.zerotrie_words.specs.Requests.{ArePlaces, AreSources, IsCombination, IsNoCombination, IsRule, rule_word};
+ghost use Rattle.zerotrie_words.specs.Words.{files_of, word_of};
 
-use crate::build::{content_in, target_in};
-use crate::names::source_in;
+use crate::build::{content_in, summary_in, target_in};
+use crate::names::source_of;
+use crate::task::Task;
 use clap::ArgMatches;
-use zerotrie_run::Combine;
-use zerotrie_sets::{Keep, Operation};
+use std::alloc::{AllocError, Global};
+use zerotrie_making::Combination;
+use zerotrie_run::{Combine, Place};
+use zerotrie_sets::{Rule, Selection};
 
-/// Returns which value counts by this name, or `None` if none has it.
-fn keep_named(name: &str) -> Option<Keep>
-    ensures some { IfSome result (λ keep. name.now ≡ keep_word keep) }
-    ensures none { IfNone result ((keep : Keep) → name.now ≡ keep_word keep → ⊥) }
+/// Returns the places that words name.
+fn sources_of<'a>(alloc: Global, words: &[&'a str]) -> Result<Vec<Place<'a>>, AllocError>
+    ensures { IfOk result (λ places. AreSources (map (λ word. word.now) words.now) places.items) }
+{
+    let mut places = Vec::new(alloc);
+    for word in words {
+        places.push(source_of(Some(*word)))?;
+    }
+    Ok(places)
+}
+
+/// Returns the places of all files that are named.
+fn sources_in<'a>(alloc: Global, matches: &ArgMatches<'a>) -> Result<Vec<Place<'a>>, AllocError>
+    ensures { IfOk result (λ places. AreSources (files_of matches.now) places.items) }
+{
+    match matches.get_strs("FILE") {
+        Some(words) => sources_of(alloc, words),
+        None => Ok(Vec::new(alloc)),
+    }
+}
+
+/// Returns the places of the tries that a task combines.
+pub fn places_in<'a>(
+    alloc: Global,
+    matches: &ArgMatches<'a>,
+    task: Task,
+) -> Result<Vec<Place<'a>>, AllocError>
+    ensures { IfOk result (λ places. ArePlaces matches.now task places.items) }
+{
+    match task {
+        Task::Combine(_) => sources_in(alloc, matches),
+        Task::Build | Task::Ask(_) | Task::Diff => Ok(Vec::new(alloc)),
+    }
+}
+
+/// Returns the rule with this name, or `None` if no rule has it.
+fn rule_named(name: &str) -> Option<Rule>
+    ensures some { IfSome result (λ rule. name.now ≡ rule_word rule) }
+    ensures none { IfNone result ((rule : Rule) → name.now ≡ rule_word rule → ⊥) }
 {
     match name {
-        "first" => Some(Keep::First),
-        "last" => Some(Keep::Last),
+        "first" => Some(Rule::First),
+        "last" => Some(Rule::Last),
+        "sum" => Some(Rule::Sum),
+        "min" => Some(Rule::Min),
+        "max" => Some(Rule::Max),
+        "refuse" => Some(Rule::Refuse),
         _ => None,
     }
 }
 
-/// Returns the operation that takes this value of a key that both tries have.
-fn keeping(keep: Keep, operation: Operation) -> Operation
-    ensures { result ≡ keeping keep operation }
-{
-    match operation {
-        Operation::Union(_) => Operation::Union(keep),
-        Operation::Intersection(_) => Operation::Intersection(keep),
-        Operation::Difference | Operation::SymmetricDifference => operation,
-    }
-}
-
-/// Returns the operation, with the value that is asked for. It is an error, with the message, if the
-/// word is none of a value.
-fn operation_in(matches: &ArgMatches<'_>, operation: Operation) -> Result<Operation, &'static str>
-    ensures made { IfOk result (IsKeeping (word_of matches.now (codes "values")) operation) }
+/// Returns which value a key gets that several tries have. `minus` has no such key, and no word for it.
+fn rule_in(matches: &ArgMatches<'_>) -> Result<Rule, &'static str>
+    ensures rule { IfOk result (IsRule (word_of matches.now (codes "values"))) }
     ensures refused { IfErr result (λ _.
-        NamesNone keep_word (word_of matches.now (codes "values"))) }
+        NamesNone rule_word (word_of matches.now (codes "values"))) }
     ensures said { IfErr result IsSaid }
 {
-    let Some(name) = matches.get_str("values") else {
-        return Ok(operation);
-    };
-    match keep_named(name) {
-        Some(keep) => Ok(keeping(keep, operation)),
-        None => Err("--values asks for first or last"),
+    match matches.get_str("values") {
+        Some(name) => {
+            rule_named(name).ok_or("--values asks for refuse, first, last, sum, min or max")
+        }
+        None => Ok(Rule::First),
     }
 }
 
-/// Returns the combination that is asked for. It is an error, with the message, if an option has a
-/// wrong word.
-pub fn combine_in<'a>(
+/// Returns the combination that is asked for, of the tries in these places. It is an error, with the
+/// message, if an option has a wrong word, or options exclude each other.
+pub fn combine_in<'w, 'a: 'w>(
     matches: &ArgMatches<'a>,
-    operation: Operation,
-) -> Result<Combine<'a>, &'static str>
-    ensures combination { IfOk result (IsCombination matches.now operation) }
-    ensures refused { IfErr result (λ _. IsNoContent matches.now
-        ⊎ NamesNone keep_word (word_of matches.now (codes "values"))) }
+    selection: Selection,
+    places: &'w [Place<'a>],
+    to_terminal: bool,
+) -> Result<Combine<'w>, &'static str>
+    ensures combination { IfOk result
+        (IsCombination matches.now selection places.now to_terminal) }
+    ensures refused { IfErr result (λ _. IsNoCombination matches.now) }
     ensures said { IfErr result IsSaid }
 {
     let (kind, form) = content_in(matches)?;
+    let rule = rule_in(matches)?;
     Ok(Combine {
-        operation: operation_in(matches, operation)?,
-        first: source_in(matches, "A"),
-        second: source_in(matches, "B"),
+        from: places,
         to: target_in(matches),
-        kind,
-        form,
+        combination: Combination {
+            selection,
+            rule,
+            kind,
+            form,
+        },
         no_clobber: matches.get_flag("no-clobber"),
+        summary: summary_in(matches, to_terminal)?,
     })
 }

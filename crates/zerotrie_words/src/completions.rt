@@ -14,7 +14,7 @@ use std::alloc::{AllocError, Global};
 pub const SHELLS: &[&str] = &["bash", "zsh", "fish"];
 
 /// The names of places that are files.
-const FILES: &[&str] = &["FILE", "IN", "OUT", "OLD", "NEW", "A", "B"];
+const FILES: &[&str] = &["FILE", "IN", "OUT", "OLD", "NEW"];
 
 /// What a shell offers for a word.
 enum Offer {

@@ -5,14 +5,14 @@ ghost use Rattle.zerotrie_run.specs.declared.status.Status.TheVariants.{BadUsage
 ghost use Rattle.zerotrie_words.specs.Arguments.{program_by};
 ghost use Rattle.zerotrie_words.specs.Reads.{IsFaultSaid, IsFoundIn, IsNoRequest, IsRequest};
 ghost use Rattle.zerotrie_words.specs.Replies.{status_of};
-ghost use Rattle.zerotrie_words.specs.Requests.{AreApart, AreOneFile, IsCommand, IsHeading, IsNoCommand, IsQuiet, IsRefusal, NamesOneFile, file_count, keys_by};
+ghost use Rattle.zerotrie_words.specs.Requests.{AreApart, AreOneFile, ArePlaces, IsCommand, IsHeading, IsNoCommand, IsQuiet, IsRefusal, NamesOneFile, file_count, keys_by};
 ghost use Rattle.zerotrie_words.specs.Tasks.{AsksForPage};
 ghost use Rattle.zerotrie_words.specs.Words.{texts_of};
 ghost use Rattle.zerotrie_words.specs.declared.arguments.Subcommand.{Subcommand};
 
 use crate::arguments::{Subcommand, program};
 use crate::build::build_in;
-use crate::combine::combine_in;
+use crate::combine::{combine_in, places_in};
 use crate::completions::script_for;
 use crate::diff::diff_in;
 use crate::keys::words_in;
@@ -32,6 +32,8 @@ pub struct Request<'a> {
     matches: ArgMatches<'a>,
     /// The words that are keys or texts.
     keys: Option<Vec<&'a [u8]>>,
+    /// The places of the tries that are combined.
+    places: Vec<Place<'a>>,
 }
 
 /// Returns what clap finds in words, by rows of commands, or what is said in place of it.
@@ -90,6 +92,7 @@ impl<'a> Request<'a> {
     /// if an allocation fails.
     pub fn read(alloc: Global, words: &'a [String]) -> Result<Self, Reply<'a>>
         ensures keys { IfOk result (λ r. texts_of r.keys ≡ keys_by r.matches r.task) }
+        ensures places { IfOk result (λ r. ArePlaces r.matches r.task r.places.items) }
         ensures request { IfOk result (λ r. (rows : List (List Subcommand))
             × IsRequest (program_by rows) (map (λ word. string_bytes word) words.now)
             r.task r.matches) }
@@ -106,6 +109,7 @@ impl<'a> Request<'a> {
         words: &'a [String],
     ) -> Result<Self, Reply<'a>>
         ensures keys { IfOk result (λ r. texts_of r.keys ≡ keys_by r.matches r.task) }
+        ensures places { IfOk result (λ r. ArePlaces r.matches r.task r.places.items) }
         ensures request { IfOk result (λ r. IsRequest
             (program_by (map (λ part. part.now) rows.now))
             (map (λ word. string_bytes word) words.now) r.task r.matches) }
@@ -124,10 +128,12 @@ impl<'a> Request<'a> {
             Task::Ask(topic) => words_in(alloc, &matches, topic)?,
             Task::Build | Task::Diff | Task::Combine(_) => None,
         };
+        let places = places_in(alloc, &matches, task)?;
         Ok(Request {
             task,
             matches,
             keys,
+            places,
         })
     }
 
@@ -163,13 +169,14 @@ impl<'a> Request<'a> {
         }
     }
 
-    /// Returns the command that the words ask for, for the file with this number. A build reports what
-    /// it made always if messages go to a terminal, but not if it is to be quiet. It is an error if an
+    /// Returns the command that the words ask for, for the file with this number. What is made is
+    /// reported always if messages go to a terminal, but not if it is to be quiet. It is an error if an
     /// option has a wrong word, if options exclude each other, or if a build would replace its own
     /// input.
     pub fn command(&self, file: usize, to_terminal: bool) -> Result<Command<'_>, Reply<'a>>
         ensures command { IfOk result
-            (IsCommand self.now.matches (texts_of self.now.keys) to_terminal file self.now.task) }
+            (IsCommand self.now.matches (texts_of self.now.keys) self.now.places.items to_terminal
+            file self.now.task) }
         ensures refused { IfErr result (λ _.
             IsNoCommand self.now.matches (texts_of self.now.keys) self.now.task) }
         ensures status { IfErr result (λ reply. status_of reply ≡ BadUsage) }
@@ -182,8 +189,10 @@ impl<'a> Request<'a> {
             }
             Task::Ask(topic) => Ok(ask_in(&self.matches, topic, file, &self.keys)?),
             Task::Diff => Ok(Command::Diff(diff_in(&self.matches)?)),
-            Task::Combine(operation) => {
-                Ok(Command::Combine(combine_in(&self.matches, operation)?))
+            Task::Combine(selection) => {
+                let places = self.places.as_slice();
+                let combine = combine_in(&self.matches, selection, places, to_terminal)?;
+                Ok(Command::Combine(combine))
             }
         }
     }

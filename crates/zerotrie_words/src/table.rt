@@ -12,9 +12,8 @@ const OUTPUTS: &[&str] = &["tsv", "csv", "keys", "values", "json", "jsonl"];
 
 const ENDS: &[&str] = &["crlf", "lf"];
 
+/// What can become of a key that several pairs have.
 const CHOICES: &[&str] = &["refuse", "first", "last", "sum", "min", "max"];
-
-const KEPT: &[&str] = &["first", "last"];
 
 const LANGUAGES: &[&str] = &["rust", "c", "rattle", "js"];
 
@@ -135,17 +134,29 @@ const NO_CLOBBER: Argument = Argument {
     help: "Refuse the build if OUT is there already",
 };
 
+const PROGRESS: Argument = Argument {
+    name: "progress",
+    form: Form::Flag(Some('p')),
+    help: "Report what was made on standard error, even if it is no terminal",
+};
+
+const QUIET: Argument = Argument {
+    name: "quiet",
+    form: Form::Flag(Some('q')),
+    help: "Report nothing but errors, even on a terminal",
+};
+
 const KIND: Argument = Argument {
     name: "kind",
     form: Form::OneOf("K", Some('k'), KINDS_OR_AUTO, Otherwise::Is("auto")),
     help: "The kind of the trie: auto is simple for fewer than 512 ASCII keys, else hash",
 };
 
-/// The kind of what is made of two tries.
-const KIND_OF_BOTH: Argument = Argument {
+/// The kind of what is made of several tries.
+const KIND_OF_ALL: Argument = Argument {
     name: "kind",
     form: Form::OneOf("K", Some('k'), KINDS_OR_AUTO, Otherwise::Is("auto")),
-    help: "The kind of OUT: auto is that of A and B, or as build takes it if these differ",
+    help: "The kind of OUT: auto is that of the FILEs, or as build takes it if theirs differ",
 };
 
 const TAGGED: Argument = Argument {
@@ -166,48 +177,44 @@ const INDEX: Argument = Argument {
     help: "Make an index in place of a trie, only for get and verify",
 };
 
-/// The first of two tries.
-const A: Argument = Argument {
-    name: "A",
-    form: Form::Place,
-    help: "A trie that is sealed or tagged, or - for standard input",
-};
-
-const B: Argument = Argument {
-    name: "B",
-    form: Form::Place,
-    help: "Another, whose kind may differ",
+/// The files of tries that are combined.
+const COMBINED: Argument = Argument {
+    name: "FILE",
+    form: Form::Words,
+    help: "Tries that are sealed or tagged, of any kinds; - is standard input",
 };
 
 const VALUES: Argument = Argument {
     name: "values",
-    form: Form::OneOf("V", None, KEPT, Otherwise::Is("first")),
-    help: "Which value counts of a key that both have: that in A, or that in B",
+    form: Form::OneOf("V", None, CHOICES, Otherwise::Is("first")),
+    help: "The value of a key that several FILEs have, or an error",
 };
 
-/// What a command has that makes a file of the keys of two tries.
-const BOTH: &[Argument] = &[
-    A,
-    B,
+/// What a command has that makes a file of keys of any of several tries.
+const OF_ANY: &[Argument] = &[
+    COMBINED,
     OUTPUT,
     NO_CLOBBER,
     VALUES,
-    KIND_OF_BOTH,
+    KIND_OF_ALL,
     TAGGED,
     BARE_OUTPUT,
     INDEX,
+    PROGRESS,
+    QUIET,
 ];
 
-/// What a command has that makes a file of keys of one of two tries.
-const ONE_OF_BOTH: &[Argument] = &[
-    A,
-    B,
+/// What a command has that makes a file of keys of the first of several tries.
+const OF_FIRST: &[Argument] = &[
+    COMBINED,
     OUTPUT,
     NO_CLOBBER,
-    KIND_OF_BOTH,
+    KIND_OF_ALL,
     TAGGED,
     BARE_OUTPUT,
     INDEX,
+    PROGRESS,
+    QUIET,
 ];
 
 /// What a status says, in the help of the program.
@@ -273,16 +280,8 @@ const LOOK_UPS: &[Subcommand] = &[
             TAGGED,
             BARE_OUTPUT,
             INDEX,
-            Argument {
-                name: "progress",
-                form: Form::Flag(Some('p')),
-                help: "Report what was made on standard error, even if it is no terminal",
-            },
-            Argument {
-                name: "quiet",
-                form: Form::Flag(Some('q')),
-                help: "Report nothing but errors, even on a terminal",
-            },
+            PROGRESS,
+            QUIET,
         ],
     },
     Subcommand {
@@ -538,33 +537,33 @@ const REPORTS: &[Subcommand] = &[
     },
 ];
 
-/// The commands that make a trie of two others.
+/// The commands that make a trie of others.
 const COMBINATIONS: &[Subcommand] = &[
     Subcommand {
         name: "union",
-        about: "Make a trie of the pairs of two others",
-        help: "Example: zerotrie union new.trie old.trie -o all.trie\n\
-            OUT may be A or B. Any number of tries are united by list and build,\n\
-            which has more rules for values: --duplicates.\n\
-            Two tries of kind ignore are combined in any case, as A has the keys.\n\
-            Status: 1 if the build is refused, 2 if A or B is no trie.",
-        arguments: BOTH,
+        about: "Make a trie of the pairs of all FILEs",
+        help: "Example: zerotrie union new.trie old.trie more.trie -o all.trie\n\
+            A key that several FILEs have gets the value that --values takes of theirs,\n\
+            in the order of the FILEs. OUT may be one of these. If all are of kind\n\
+            ignore, a key is the same in any case, and stays as the first FILE has it.\n\
+            Status: 1 if the build is refused, 2 if a FILE is no trie.",
+        arguments: OF_ANY,
     },
     Subcommand {
         name: "intersect",
-        about: "Make a trie of the keys that two others have",
-        help: "Example: zerotrie intersect names.trie wanted.trie -o found.trie\n\
-            OUT may be A or B.\n\
-            Status: 1 if the build is refused, 2 if A or B is no trie.",
-        arguments: BOTH,
+        about: "Make a trie of the keys that each FILE has",
+        help: "Example: zerotrie intersect names.trie known.trie wanted.trie -o found.trie\n\
+            Values, OUT and kind ignore are as in union.\n\
+            Status: 1 if the build is refused, 2 if a FILE is no trie.",
+        arguments: OF_ANY,
     },
     Subcommand {
         name: "minus",
-        about: "Make a trie of the keys of one that another has not",
-        help: "Example: zerotrie minus names.trie old.trie -o new.trie\n\
-            The keys are those of A that B has not. OUT may be A or B.\n\
-            Status: 1 if the build is refused, 2 if A or B is no trie.",
-        arguments: ONE_OF_BOTH,
+        about: "Make a trie of the pairs of the first FILE whose keys no other has",
+        help: "Example: zerotrie minus names.trie old.trie gone.trie -o new.trie\n\
+            OUT may be one of the FILEs.\n\
+            Status: 1 if the build is refused, 2 if a FILE is no trie.",
+        arguments: OF_FIRST,
     },
 ];
 

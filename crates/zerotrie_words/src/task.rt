@@ -5,7 +5,7 @@ ghost use Rattle.zerotrie_words.specs.Tasks.{IsTaskOf, NamesNoTask, task_word};
 ghost use Rattle.zerotrie_words.specs.declared.task.Task.{Task};
 
 use clap::ArgMatches;
-use zerotrie_sets::{Keep, Operation};
+use zerotrie_sets::Selection;
 
 /// What a trie is asked, each by the command of its name.
 #[derive(Clone, Copy)]
@@ -30,8 +30,8 @@ pub enum Task {
     Ask(Topic),
     /// It compares two tries.
     Diff,
-    /// It makes a trie of two others.
-    Combine(Operation),
+    /// It makes a trie of others.
+    Combine(Selection),
 }
 
 impl Task {
@@ -52,9 +52,9 @@ impl Task {
             "stats" => Some(Task::Ask(Topic::Stats)),
             "inspect" => Some(Task::Ask(Topic::Inspect)),
             "code" => Some(Task::Ask(Topic::Code)),
-            "union" => Some(Task::Combine(Operation::Union(Keep::First))),
-            "intersect" => Some(Task::Combine(Operation::Intersection(Keep::First))),
-            "minus" => Some(Task::Combine(Operation::Difference)),
+            "union" => Some(Task::Combine(Selection::Union)),
+            "intersect" => Some(Task::Combine(Selection::Intersection)),
+            "minus" => Some(Task::Combine(Selection::Difference)),
             _ => None,
         }
     }

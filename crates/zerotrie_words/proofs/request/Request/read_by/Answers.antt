@@ -33,3 +33,8 @@ pub returns-clause-request : goal.returns-clause-request
 returns-clause-request c =
     request_of (program_by (map (λ part. part.now) c.args.rows.now)) (map (λ word. string_bytes word) c.args.words.now) _ _ c.in_ok-matches.matches
     c.in_ok-matches.ensures.found (search rules)
+
+pub returns-in_err-places-clause-refused : goal.returns-in_err-places-clause-refused
+returns-in_err-places-clause-refused c =
+    memory_refused (program_by (map (λ part. part.now) c.args.rows.now)) (map (λ word. string_bytes word) c.args.words.now)
+    c.from_residual-in_err-places.result c.from_residual-in_err-places.ensures.1
