@@ -1,45 +1,44 @@
 -- What is opened of a file that was made of others, and when none is made.
-use Rattle.std.proofs.Common.{◌≡◌, ◌⊎◌, ◌<◌, ◌≤◌, ℕ, zero, suc, List, [], ◌∷◌, Some, All, false, length, get_or, refl, subst, arith, inl, inr}
+use Rattle.std.proofs.Common.{◌≡◌, ◌⊎◌, ◌≤◌, ℕ, List, [], ◌∷◌, Some, All, false, refl, subst, arith, inl, inr}
 use Rattle.std.specs.Prelude.{Any}
 use Rattle.std.specs.List.{AllZip}
 use Rattle.zerotrie_sealed.specs.Laws.{OneTrie}
 use Rattle.zerotrie_files.specs.Disks.{Story}
-use Rattle.zerotrie_making.specs.Combinations.{Meant, ExplainsMaps, IsMadeOfMaps, plan_of}
+use Rattle.zerotrie_making.specs.Combinations.{Meant, ExplainsMaps, IsMadeOfMaps, OfTaken, plan_of}
 use Rattle.zerotrie_making.specs.Plans.{kind_for}
 use Rattle.zerotrie_run.specs.Combined.{AreRead, HasMap, OfFiles, RunsCombine, file_of}
 use Rattle.zerotrie_run.specs.CombinedLaws.{CombinedOpens, CombineRefusedExactly, HaveTries}
-use Rattle.zerotrie_run.specs.Laws.{HasTrie}
+use Rattle.zerotrie_run.specs.Laws.{HasTrie, IsNamedAsMade, OpensAsMade}
 use Rattle.zerotrie_run.specs.Runs.{World, IsRead, IsUnopened, HasNoTrie}
 use Rattle.zerotrie_run.specs.Statuses.{number_of}
 use Rattle.zerotrie_run.specs.declared.command.Combine.{Combine}
 use Rattle.zerotrie_run.specs.declared.command.Place.{Place}
 use Rattle.zerotrie_run.specs.declared.status.Status.{Status}
 use Rattle.zerotrie_run.specs.declared.status.Status.TheVariants.{Done, Absent, Refused, Taken, BadUsage, BadInput, Unread, Unwritten, OutOfMemory, Closed}
+use Rattle.zerotrie_run.proofs.CombinedLemmas.{all_cons}
 use Rattle.zerotrie_run.proofs.FileLemmas.{opened}
 use Rattle.zerotrie_run.proofs.MadeLemmas.{read_back, built_means, opens_made}
 use Rattle.zerotrie_run.proofs.RefusedLemmas.{read_once}
 
 pub combined_opens : OneTrie → CombinedOpens
 combined_opens one c input before after held files known same made file stdin away at =
-    let maps = made.of.2 in
-    let taken = made.of.4 in
+    let maps = made.of.2.0 in
+    let taken = made.of.2.2 in
     let pairs = taken.pairs in
     let f = taken.fact.is in
     let kind = kind_for (plan_of c.combination maps).kind pairs in
     let back : (got : List ℕ) → IsRead file.place stdin after.files got → got ≡ made.made.file.items =
-    λ got read. read_back c.to stdin made.made.file.items got before after held files known same away made.written (subst (λ p. IsRead p stdin after.files got) at read) in (
-      made.of.0,
-      made.of.1,
-      maps,
-      made.of.3,
-      record {
-        pairs = pairs;
-        taken = taken.taken;
-        valued = taken.valued;
-        fact = λ as_made. opens_made one c.combination.form kind pairs f.bytes made.made.file.items file stdin after.files back f.is
-            (built_means c.combination.form kind false pairs f.bytes file.bare f.build as_made) as_made;
-      },
-    )
+    λ got read. read_back c.to stdin made.made.file.items got before after held files known same away made.written (subst (λ p. IsRead p stdin after.files got) at read) in
+    let opens : OfTaken c.combination maps (λ taking. IsNamedAsMade c.combination.form (kind_for (plan_of c.combination maps).kind taking) file.bare
+    → OpensAsMade file stdin after.files c.combination.form (kind_for (plan_of c.combination maps).kind taking) taking made.made.file.items) =
+    record {
+      pairs = pairs;
+      taken = taken.taken;
+      valued = taken.valued;
+      fact = λ as_made. opens_made one c.combination.form kind pairs f.bytes made.made.file.items file stdin after.files back f.is
+          (built_means c.combination.form kind false pairs f.bytes file.bare f.build as_made) as_made;
+    } in
+    (made.of.0, made.of.1, (maps, made.of.2.1, opens))
 
 -- what the files hold are tries
 zip_tries : (places : List Place) (input : List ℕ) (files : Story) (held : List (List ℕ)) (maps : List Meant) → AreRead places (Some input) (Some files) held → AllZip HasMap held maps
@@ -47,14 +46,11 @@ zip_tries : (places : List Place) (input : List ℕ) (files : Story) (held : Lis
 zip_tries [] input files held maps read has = λ k d below. absurd (omega (arith, below))
 zip_tries (p ∷ places) input files [] maps read has = absurd read
 zip_tries (p ∷ places) input files (b ∷ held) [] read has = absurd has
-zip_tries (p ∷ places) input files (b ∷ held) (m ∷ maps) read has = λ k d below. each k d below
-  where
-    each : (k : ℕ) (d : Place) → k < length (p ∷ places) → HasTrie (file_of (get_or (p ∷ places) k d)) input files
-    each zero d below = (b, read.0, m.0, has.0.0, (has.0.1, (m.1, has.0.2)))
-    each (suc k) d below = zip_tries places input files held maps read.1 has.1 k d (omega (arith, below))
+zip_tries (p ∷ places) input files (b ∷ held) (m ∷ maps) read has =
+    all_cons (λ place. HasTrie (file_of place) input files) p places (b, read.0, m.0, has.0.0, (has.0.1, (m.1, has.0.2))) (zip_tries places input files held maps read.1 has.1)
 
 have_tries : (c : Combine) (input : List ℕ) (files : Story) (Fact : List Meant → Type 0) → OfFiles c (Some input) (Some files) Fact → HaveTries c input files
-have_tries c input files Fact h = zip_tries c.from.now input files h.0 h.2 h.1 h.3
+have_tries c input files Fact h = zip_tries c.from.now input files h.0 h.2.0 h.1 h.2.1
 
 -- one that has none has no trie
 not_both : OneTrie → (place : Place) (input : List ℕ) (files : Story) → HasNoTrie (file_of place) (Some input) (Some files) → HasTrie (file_of place) input files → ⊥

@@ -58,6 +58,12 @@ zip_at R (z ∷ xs) (w ∷ ys) (suc k) y a is = zip_at R xs ys k y a.1 is
 any_of : {A : Type 0} (P : A → Type 0) (xs : List A) (k : ℕ) (x : A) → slice_get xs k ≡ Some x → P x → Any P xs
 any_of P xs k x is h = (k, x, slice_get_within xs k x is, get_or_from_slice_get xs k x x is, h)
 
+-- a number below theirs is that of a file
+pub numbered_at : (places : List Place) (i : ℕ) → i < length places → (place : Place) × IsNumbered places i place
+numbered_at [] i inside = absurd (omega (arith, inside))
+numbered_at (p ∷ places) zero inside = (p, refl)
+numbered_at (p ∷ places) (suc i) inside = numbered_at places i (omega (arith, inside))
+
 -- one file has a number
 pub same_file : (places : List Place) (number : ℕ) (place other : Place) → IsNumbered places number place → IsNumbered places number other → place ≡ other
 same_file places number place other is also = cc
@@ -86,7 +92,7 @@ record AreOpened (held : List (List ℕ)) (tries : List TrieRef) : Type 0 where
   has : AllZip HasMap held maps
   kinds : map (λ m. m.0) maps ≡ map (λ trie. trie.kind) tries
 
-abbrev OpensTrie : Vec ℕ Global → TrieRef → Type 0
+abbrev pub OpensTrie : Vec ℕ Global → TrieRef → Type 0
 OpensTrie bytes trie = OpensBy Full None bytes.items trie.kind trie.bytes.now
 
 are_opened : (held : List (Vec ℕ Global)) (tries : List TrieRef) → AllZip OpensTrie held tries → AreOpened (map bytes_in held) tries

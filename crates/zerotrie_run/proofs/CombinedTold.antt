@@ -12,9 +12,10 @@ use Rattle.zerotrie_making.specs.declared.error.CombinationError.TheVariants as 
 use Rattle.zerotrie_making.specs.declared.error.MakeError.{MakeError}
 use Rattle.zerotrie_making.specs.declared.error.MakeError.TheVariants as made
 use Rattle.zerotrie_making.specs.declared.plan.Made.{Made}
+use Rattle.zerotrie_sets.specs.declared.selection.RuleError.{RuleError}
 use Rattle.zerotrie_run.specs.Commands.{may_tell}
 use Rattle.zerotrie_run.specs.Statuses.{failure}
-use Rattle.zerotrie_run.specs.Messages.{IsLineOn, TellsBuild, TellsCombine, TellsNoTrie, TellsUnmade, source_name, target_name}
+use Rattle.zerotrie_run.specs.Messages.{IsLineOn, Says, TellsBuild, TellsCombine, TellsNoTrie, TellsUnmade, source_name, target_name, told_key, value_words}
 use Rattle.zerotrie_run.specs.Combined.{HasCombineCause, IsNumbered, OfFiles, combine_refusal, file_of, unmade_refusal}
 use Rattle.zerotrie_run.specs.Told.{TellsMore, TellsUnopened, IsPlaceOf, IsTold, combined_lines, ended, has_kind, is_told, last_text, told_kind, told_made}
 use Rattle.zerotrie_run.specs.declared.status.Status.{Status}
@@ -91,6 +92,14 @@ pub combine_told : (command : Command) (o : Combine) (input : Option (List ℕ))
     → IsTold command input files a c result
 combine_told command o input files a b c read write closed e status result r at cause is tells more ends (inl silent) = rw silent tt
 combine_told command o input files a b c read write closed e status result r at cause is tells more ends (inr h) = rw (at, ends) (told_by o input files a b c read write closed e status r cause is tells more h)
+
+-- a line that says a key and why it gets no value tells that
+pub tells_no_value : (r : Result (Vec ℕ Global) AllocError) (o : Combine) (error : CombineError) (why : RuleError) (key : Vec ℕ Global) (place bytes : List ℕ) → error ≡ NoValue why key → place ≡ target_name o.to
+    → bytes ≡ key.items → IfOk r (λ text. IsLineOn place text.items) → IfOk r (λ text. Says text.items (value_words why)) → IfOk r (λ text. Says text.items (told_key bytes))
+    → IfOk r (λ text. TellsCombine o error text.items)
+tells_no_value (Ok text) o error why key place bytes is at same line says keyed =
+    rw is (subst (λ name. IsLineOn name text.items) at line, (says, subst (λ b. Says text.items (told_key b)) same keyed))
+tells_no_value (Err e) o error why key place bytes is at same line says keyed = tt
 
 -- ---- what is told of a file that was made
 

@@ -47,16 +47,19 @@ file_read (File path) remaining old now files bytes is h = h
 file_read Stream remaining old now files bytes is h = absurd (is refl)
 
 -- a place that is read behind others holds what it held at the beginning: no two are standard input
-pub read_next : {R : Type 0} (places : List Place) (i : ℕ) (d : Place) (remaining : R → Option (List ℕ)) (old now : Watched R) (files : Option Story) (bytes : List ℕ) → i < length places
-    → (HaveTwoStreams places → ⊥) → (streams (drop i places) ≡ streams places → now ≡ old) → IsRead (get_or places i d) (remaining now.inner) files bytes
+pub read_next : {R : Type 0} (places : List Place) (i : ℕ) (d : Place) (remaining : R → Option (List ℕ)) (old now : Watched R) (files left : Option Story) (bytes : List ℕ) → i < length places
+    → (HaveTwoStreams places → ⊥) → (streams (drop i places) ≡ streams places → now ≡ old) → left ≡ files → IsRead (get_or places i d) (remaining now.inner) left bytes
     → IsRead (get_or places i d) (remaining old.inner) files bytes
-read_next {R} places i d remaining old now files bytes inside apart same h = elim (next_place places i d inside) [
-  | inl file ↦ file_read (get_or places i d) remaining old now files bytes file.0 h
-  | inr stream ↦
-      let fewer = fewer_left places i in
-      let most = at_most_one (streams places) apart in
-      subst (λ input. IsRead (get_or places i d) (remaining input.inner) files bytes) (same (omega (arith, fewer, most, stream.1))) h
-]
+read_next {R} places i d remaining old now files left bytes inside apart same kept read =
+    let h = subst (λ story. IsRead (get_or places i d) (remaining now.inner) story bytes) kept read in
+    elim (next_place places i d inside) [
+      | inl file ↦ file_read (get_or places i d) remaining old now files bytes file.0 h
+      | inr stream ↦
+          let fewer = fewer_left places i in
+          let most = at_most_one (streams places) apart in
+          let more = stream.1 in
+          subst (λ input. IsRead (get_or places i d) (remaining input.inner) files bytes) (same (omega (arith, fewer, most, more))) h
+    ]
 
 -- the input is what it was if no place before was standard input
 pub still_same : {R : Type 0} (places : List Place) (i : ℕ) (d : Place) (old now next : Watched R) → i < length places
@@ -67,7 +70,7 @@ still_same places i d old now next inside same touched left = elim (next_place p
     | inl is ↦ absurd (file.0 is)
     | inr kept ↦ kept ∙ same (file.1 ∙ left)
   ]
-  | inr stream ↦ let fewer = fewer_left places i in absurd (omega (arith, fewer, stream.1, left))
+  | inr stream ↦ let fewer = fewer_left places i in let more = stream.1 in absurd (omega (arith, fewer, more, left))
 ]
 
 -- no place behind is standard input if none is
