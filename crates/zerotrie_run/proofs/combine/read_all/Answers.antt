@@ -26,7 +26,7 @@ loop-number-preserved g c =
     let remaining = g.R.Read.remaining in
     let story = g.D.Disk.story in
     let read = read_next places l.number _ remaining c.args.input.now l.input (story c.args.files.now.disk) (story l.files.disk) c.in-Ok.bytes.items inside c.requires l.invariant.left
-        (ap story l.invariant.same) c.in-Ok.ensures.read in
+    (ap story l.invariant.same) c.in-Ok.ensures.read in
     let noted = c.in-Ok.ensures.noted in
     record {
       read = read_more (remaining c.args.input.now.inner) (story c.args.files.now.disk) places l.number _ l.held.items c.push.new.self.items c.in-Ok.bytes inside l.invariant.read read
