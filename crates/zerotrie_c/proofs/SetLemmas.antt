@@ -3,6 +3,7 @@ use Rattle.std.proofs.Common.{◌≡◌, ℕ, ◌+◌, ◌<◌, inl, inr, zero, 
 use Rattle.std.specs.Prelude.{Any, zip}
 use Rattle.std.proofs.Math.Seq.{take-suc, drop-append_seam, take-append_seam}
 use Rattle.std.proofs.lemmas.List.{drop-take, append-nil}
+use Rattle.std.specs.List.{AllZip}
 use Rattle.zerotrie_core.specs.Kinds.{kind_of as kind_that_is}
 use Rattle.zerotrie_core.specs.Maps.{Pairs, Ascends}
 use Rattle.zerotrie_core.specs.Texts.{Means}
@@ -18,13 +19,13 @@ use Rattle.zerotrie_sets.specs.declared.selection.RuleError.{RuleError}
 use Rattle.zerotrie_c.specs.Builds.{given_flat}
 use Rattle.zerotrie_c.specs.Keys.{keys_from}
 use Rattle.zerotrie_c.specs.Listed.{joined, ends_from, values_of, IsFlat}
-use Rattle.zerotrie_c.specs.Sets.{Alike, IsMeant, IsNoTrie, IsTrieOf, AreOfTrie}
+use Rattle.zerotrie_c.specs.Sets.{IsMeant, IsNoTrie, IsTrieOf, AreOfTrie}
 use Rattle.zerotrie_c.specs.declared.sets.Source.{Source}
 use Rattle.zerotrie_c.proofs.EntryLemmas.{any_here, any_there, any_head}
 
 -- ---- lists that are alike
 
-alike_more : {A B : Type 0} (R : A → B → Type 0) (xs : List A) (ys : List B) (x : A) (y : B) → Alike R xs ys → R x y → Alike R (xs ++ x ∷ []) (ys ++ y ∷ [])
+alike_more : {A B : Type 0} (R : A → B → Type 0) (xs : List A) (ys : List B) (x : A) (y : B) → AllZip R xs ys → R x y → AllZip R (xs ++ x ∷ []) (ys ++ y ∷ [])
 alike_more R [] [] x y a r = (r, tt)
 alike_more R [] (w ∷ ys) x y a r = absurd a
 alike_more R (z ∷ xs) [] x y a r = absurd a
@@ -32,10 +33,10 @@ alike_more R (z ∷ xs) (w ∷ ys) x y a r = (a.0, alike_more R xs ys x y a.1 r)
 
 -- one element more of those before a place
 pub alike_next : {A B : Type 0} (R : A → B → Type 0) (xs : List A) (i : ℕ) (d : A) (ys : List B) (y : B) → i < length xs
-    → Alike R (take i xs) ys → R (get_or xs i d) y → Alike R (take (i + 1) xs) (ys ++ y ∷ [])
+    → AllZip R (take i xs) ys → R (get_or xs i d) y → AllZip R (take (i + 1) xs) (ys ++ y ∷ [])
 alike_next R xs i d ys y inside a r =
     let e : i + 1 ≡ suc i = omega arith in
-    subst (λ zs. Alike R zs (ys ++ y ∷ [])) (sym (ap (λ n. take n xs) e ∙ take-suc xs i d inside)) (alike_more R (take i xs) ys (get_or xs i d) y a r)
+    subst (λ zs. AllZip R zs (ys ++ y ∷ [])) (sym (ap (λ n. take n xs) e ∙ take-suc xs i d inside)) (alike_more R (take i xs) ys (get_or xs i d) y a r)
 
 -- one of a list
 pub any_at : {A : Type 0} (P : A → Type 0) (xs : List A) (i : ℕ) (d : A) → i < length xs → P (get_or xs i d) → Any P xs
@@ -48,7 +49,7 @@ ascend_more [] pairs all one = (one, tt)
 ascend_more (first ∷ lists) pairs all one = (all.0, ascend_more lists pairs all.1 one)
 
 -- the pairs of the tries are those of the sources
-pub all_meant : (sources : List Source) (tries : List TrieRef) (lists : List Pairs) → Alike IsTrieOf sources tries → Alike AreOfTrie tries lists → Alike IsMeant sources lists
+pub all_meant : (sources : List Source) (tries : List TrieRef) (lists : List Pairs) → AllZip IsTrieOf sources tries → AllZip AreOfTrie tries lists → AllZip IsMeant sources lists
 all_meant [] [] [] a b = tt
 all_meant [] [] (l ∷ lists) a b = absurd b
 all_meant [] (t ∷ tries) lists a b = absurd a
@@ -60,7 +61,7 @@ all_meant (s ∷ sources) (t ∷ tries) (l ∷ lists) a b = (
 )
 
 -- one that is no trie is that of a source
-pub some_source : (sources : List Source) (tries : List TrieRef) → Alike IsTrieOf sources tries → Any (λ t. IsWellFormed (kind_that_is t.kind) t.bytes.now → ⊥) tries → Any IsNoTrie sources
+pub some_source : (sources : List Source) (tries : List TrieRef) → AllZip IsTrieOf sources tries → Any (λ t. IsWellFormed (kind_that_is t.kind) t.bytes.now → ⊥) tries → Any IsNoTrie sources
 some_source [] [] a any = absurd (omega (arith, any.2))
 some_source [] (t ∷ tries) a any = absurd a
 some_source (s ∷ sources) [] a any = absurd a

@@ -1,6 +1,7 @@
 -- Unions, intersections and differences of tries, as C asks for them and is told of them.
 use Rattle.std.specs.Prelude.{◌≡◌, ◌==◌, ◌⊎◌, ◌++◌, ℕ, List, [], ◌∷◌, length, Option, Some, None, Any, if◌then◌else◌}
 use Rattle.std.specs.FinMap.{entries}
+use Rattle.std.specs.List.{AllZip}
 use Rattle.std.specs.Option.{option_zip}
 use Rattle.zerotrie_core.specs.Kind.{Kind}
 use Rattle.zerotrie_core.specs.Kinds.{kind_of as kind_that_is}
@@ -45,13 +46,6 @@ rule_with number =
 abbrev pub plan_with : ℕ → ℕ → Option (Selection × SetRule)
 plan_with selection rule = option_zip (selection_with selection) (rule_with rule)
 
--- two lists have as many elements, and the relation holds of each two at one place
-abbrev pub Alike : {A B : Type 0} → (A → B → Type 0) → List A → List B → Type 0
-Alike R [] [] = Unit {0}
-Alike R [] (y ∷ ys) = ⊥
-Alike R (x ∷ xs) [] = ⊥
-Alike R (x ∷ xs) (y ∷ ys) = R x y × Alike R xs ys
-
 -- the number is that of a kind, of which the bytes are a trie of these pairs
 abbrev pub IsMeant : Source → Pairs → Type 0
 IsMeant source pairs = (k : Kind) × (m : Map) × (kind_of source.kind ≡ Some k) × Means k source.nodes.now m × (pairs ≡ entries m)
@@ -65,12 +59,12 @@ IsNoTrie source = (k : Kind) × (kind_of source.kind ≡ Some k) × (IsWellForme
 abbrev pub IsSetError : Selection → SetRule → List Source → SetError → Type 0
 IsSetError selection rule sources UnknownKind = Any (λ source. kind_of source.kind ≡ None) sources
 IsSetError selection rule sources Malformed = Any IsNoTrie sources
-IsSetError selection rule sources (Rule e) = (lists : List Pairs) × Alike IsMeant sources lists × IsSelectionError selection rule lists e
+IsSetError selection rule sources (Rule e) = (lists : List Pairs) × AllZip IsMeant sources lists × IsSelectionError selection rule lists e
 IsSetError selection rule sources OutOfMemory = Unit {0}
 
 -- the pairs are what is selected of the maps of the tries, and no key that is taken is an error
 abbrev pub AreSelected : Selection → SetRule → List Source → Pairs → Type 0
-AreSelected selection rule sources pairs = (lists : List Pairs) × Alike IsMeant sources lists × IsSelection selection rule lists pairs
+AreSelected selection rule sources pairs = (lists : List Pairs) × AllZip IsMeant sources lists × IsSelection selection rule lists pairs
     × ((e : RuleError) → IsSelectionError selection rule lists e → ⊥)
 
 -- the numbers of what a combination alone comes to: no selection, or no rule, has the number; the sum of the values of

@@ -12,7 +12,8 @@ ghost use Rattle.zerotrie_sets.specs.declared.selection.RuleError.{RuleError};
 ghost use Rattle.zerotrie_c.specs.Listed.{IsFlat};
 ghost use Rattle.zerotrie_c.specs.Numbers.{kind_of};
 ghost use Rattle.zerotrie_c.specs.Statuses.{unknown_kind};
-ghost use Rattle.zerotrie_c.specs.Sets.{unknown_selection, selection_with, rule_with, plan_with, set_status_of, Alike, IsTrieOf, AreOfTrie, AreAdded, AreSelected, IsSetError, IsCombineTold};
+ghost use Rattle.std.specs.List.{AllZip};
+ghost use Rattle.zerotrie_c.specs.Sets.{unknown_selection, selection_with, rule_with, plan_with, set_status_of, IsTrieOf, AreOfTrie, AreAdded, AreSelected, IsSetError, IsCombineTold};
 ghost use Rattle.zerotrie_c.specs.declared.sets.SetError.TheVariants as error;
 
 use crate::builds::{bytes_of_sorted, hand_out_trie};
@@ -116,7 +117,7 @@ pub fn set_status_of(error: SetError) -> u32
 
 /// Returns the tries of kinds that are known.
 fn tries_of<'a>(alloc: Global, sources: &[Source<'a>]) -> Result<Vec<TrieRef<'a>>, SetError>
-    ensures ok { IfOk result (λ tries. Alike IsTrieOf sources.now tries.items) }
+    ensures ok { IfOk result (λ tries. AllZip IsTrieOf sources.now tries.items) }
     ensures err { IfErr result (λ e. (e ≡ error.OutOfMemory) ⊎ ((e ≡ error.UnknownKind)
         × Any (λ source. kind_of source.kind ≡ None) sources.now)) }
 {
@@ -150,7 +151,7 @@ fn streams_of<'t>(
     tries: &'t [TrieRef<'_>],
 ) -> Result<Vec<SortedTrie<'t, 't>>, SetError>
     ensures lists { IfOk result (λ streams.
-        Alike AreOfTrie tries.now (map {B = Pairs} (λ s. s.left.pairs) streams.items)) }
+        AllZip AreOfTrie tries.now (map {B = Pairs} (λ s. s.left.pairs) streams.items)) }
     ensures ascend { IfOk result (λ streams.
         EachAscends (map {B = Pairs} (λ s. s.left.pairs) streams.items)) }
     ensures err { IfErr result (λ e. (e ≡ error.OutOfMemory) ⊎ ((e ≡ error.Malformed)

@@ -1,19 +1,33 @@
 -- Pairs whose keys are looked up in a second map are a combination of both.
-use Rattle.std.proofs.Common.{◌≡◌, ℕ, List, [], ◌∷◌, Bool, true, false, Option, Some, None, refl, sym, ap, ◌∙◌, subst, cond}
+use Rattle.std.proofs.Common.{◌≡◌, ℕ, ◌<◌, ◌^◌, List, [], ◌∷◌, Bool, true, false, Option, Some, None, refl, sym, ap, ◌∙◌, subst, cond, arith}
 use Rattle.std.specs.Ordering.{nat_cmp, is_eq}
 use Rattle.std.specs.FinMap.{entries, slice_cmp-IsAntisymmetric, nat_cmp-IsAntisymmetric}
 use Rattle.std.specs.declared.cmp.Ordering.{Ordering}
 use Rattle.std.specs.declared.cmp.Ordering.TheVariants.{Less, Equal, Greater}
 use Rattle.std.specs.Cmp.{tied_itself}
 use Rattle.std.specs.Cmp.Lexicographic.{slice_cmp, nat_list_cmp_total}
+use Rattle.std.specs.List.{AllByRecursion}
+use Rattle.std.proofs.lemmas.List.Elements.{recursion_from_All}
+use Rattle.zerotrie_base.proofs.CanonicalLemmas.Fitting.{fits_meant}
 use Rattle.zerotrie_base.proofs.MapLemmas.Alike.{value_at-find}
 use Rattle.zerotrie_core.specs.Kind.{Kind, simple_ascii, ignore_case, perfect_hash, extended_capacity, flags}
 use Rattle.zerotrie_core.specs.Maps.{Map, Pairs, Ascends, FirstAbove, look, value_at, same_key}
+use Rattle.zerotrie_core.specs.Texts.{Means}
 use Rattle.zerotrie_sets.specs.Merges.{if_some, value_of}
 use Rattle.zerotrie_sets.specs.Operations.{choose, IsCombined}
+use Rattle.zerotrie_sets.specs.Selections.{selected, IsRuleError, IsSmall}
+use Rattle.zerotrie_sets.specs.declared.combined.Keep.TheVariants as keep
 use Rattle.zerotrie_sets.specs.declared.combined.Operation.{Operation}
+use Rattle.zerotrie_sets.specs.declared.combined.Operation.TheVariants as operations
+use Rattle.zerotrie_sets.specs.declared.selection.Rule.{Rule}
+use Rattle.zerotrie_sets.specs.declared.selection.Rule.TheVariants as rules
+use Rattle.zerotrie_sets.specs.declared.selection.RuleError.{RuleError}
+use Rattle.zerotrie_sets.specs.declared.selection.RuleError.TheVariants.{SeveralValues, SumTooLarge}
+use Rattle.zerotrie_sets.specs.declared.selection.Selection.TheVariants as selections
 use Rattle.zerotrie_queries.specs.Recased.{looked_up}
 use Rattle.zerotrie_queries.proofs.RecasedLemmas.{looked_up_ascends}
+use Rattle.zerotrie_making.specs.Combinations.{AreTaken}
+use Rattle.zerotrie_making.specs.declared.plan.Combination.{Combination}
 
 -- a kind that does not ignore case finds exact keys
 exact_value : (kind : Kind) → (flags kind).ignore_case ≡ false → (pairs : Pairs) (key : List ℕ) → value_at kind pairs key ≡ value_at simple_ascii pairs key
@@ -77,4 +91,77 @@ pub turned_combined : (operation other : Operation) (first second pairs : Pairs)
 turned_combined operation other first second pairs same is = record {
   ascends = is.ascends;
   values = λ key. is.values key ∙ same (value_of key second) (value_of key first);
+}
+
+-- ---- what a selection and a rule take of two maps
+
+pub first_of_both : (one other : Option ℕ) → selected selections.Intersection rules.First (one ∷ other ∷ []) ≡ choose (operations.Intersection keep.First) one other
+first_of_both None None = refl
+first_of_both None (Some w) = refl
+first_of_both (Some v) None = refl
+first_of_both (Some v) (Some w) = refl
+
+pub last_of_both : (one other : Option ℕ) → selected selections.Intersection rules.Last (one ∷ other ∷ []) ≡ choose (operations.Intersection keep.Last) one other
+last_of_both None None = refl
+last_of_both None (Some w) = refl
+last_of_both (Some v) None = refl
+last_of_both (Some v) (Some w) = refl
+
+pub first_alone : (rule : Rule) (one other : Option ℕ) → selected selections.Difference rule (one ∷ other ∷ []) ≡ choose operations.Difference one other
+first_alone rule None None = refl
+first_alone rule None (Some w) = refl
+first_alone rule (Some v) None = refl
+first_alone rule (Some v) (Some w) = refl
+
+pub first_valued : (one other : Option ℕ) (why : RuleError) → IsRuleError selections.Intersection rules.First (one ∷ other ∷ []) why → ⊥
+first_valued one other SeveralValues h = let e : rules.First ≡ rules.Refuse = h.1.0 in cc
+first_valued one other SumTooLarge h = let e : rules.First ≡ rules.Sum = h.1.0 in cc
+
+pub last_valued : (one other : Option ℕ) (why : RuleError) → IsRuleError selections.Intersection rules.Last (one ∷ other ∷ []) why → ⊥
+last_valued one other SeveralValues h = let e : rules.Last ≡ rules.Refuse = h.1.0 in cc
+last_valued one other SumTooLarge h = let e : rules.Last ≡ rules.Sum = h.1.0 in cc
+
+same_value : (v n : ℕ) → Some v ≡ Some n → v ≡ n
+same_value v n e = cc
+
+false_true : false ≡ true → ⊥
+false_true e = cc
+
+-- a value alone is that of its key, and one of 64 bits
+pub alone_valued : (rule : Rule) (one other : Option ℕ) (why : RuleError) → IsSmall one → IsRuleError selections.Difference rule (one ∷ other ∷ []) why → ⊥
+alone_valued rule None None why small h = false_true h.0
+alone_valued rule None (Some w) why small h = false_true h.0
+alone_valued rule (Some v) (Some w) why small h = false_true h.0
+alone_valued rule (Some v) None SeveralValues small h = let few = h.1.1 in omega (arith, few)
+alone_valued rule (Some v) None SumTooLarge small h =
+    let same = same_value v h.1.1 h.1.2 in
+    let over = h.1.3 in
+    omega (arith, same, small, over)
+
+-- ---- values of tries
+
+small_or : (b : Bool) (v : ℕ) (found : Option ℕ) → v < 2 ^ 64 → IsSmall found → IsSmall (cond b (Some v) found)
+small_or true v found here later = here
+small_or false v found here later = later
+
+small_of : (pairs : Pairs) → AllByRecursion (λ e. e.1 < 2 ^ 64) pairs → (key : List ℕ) → IsSmall (value_of key pairs)
+small_of [] all key = tt
+small_of (e ∷ pairs) all key = small_or (is_eq (slice_cmp nat_cmp key e.0)) e.1 (value_of key pairs) all.0 (small_of pairs all.1 key)
+
+-- a value of a trie is one of 64 bits
+pub meant_small : (kind : Kind) (bytes : List ℕ) (m : Map) → Means kind bytes m → (key : List ℕ) → IsSmall (value_of key (entries m))
+meant_small kind bytes m means key =
+    small_of (entries m) (recursion_from_All (λ e. e.1 < 2 ^ 64) (entries m) (fits_meant kind bytes m means).values) key
+
+-- what an operation takes of two maps is what a selection and a rule do, and each key that is taken gets a value
+pub few_taken : (c : Combination) (operation : Operation) (first second table : Pairs)
+    → ((one other : Option ℕ) → selected c.selection c.rule (one ∷ other ∷ []) ≡ choose operation one other)
+    → ((one other : Option ℕ) (why : RuleError) → IsSmall one → IsRuleError c.selection c.rule (one ∷ other ∷ []) why → ⊥)
+    → ((key : List ℕ) → IsSmall (value_of key first)) → IsCombined operation first second table → AreTaken c (first ∷ second ∷ []) table
+few_taken c operation first second table same valued small is = record {
+  taken = record {
+    ascends = is.ascends;
+    values = λ key. is.values key ∙ sym (same (value_of key first) (value_of key second));
+  };
+  valued = λ key why. valued (value_of key first) (value_of key second) why (small key);
 }

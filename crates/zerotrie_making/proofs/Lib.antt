@@ -7,6 +7,7 @@ mod KeptLemmas
 mod MergedLemmas
 mod SmallLemmas
 mod FewLemmas
+mod CombineLemmas
 mod WholeLemmas
 mod UnreadLemmas
 mod RefusedLemmas

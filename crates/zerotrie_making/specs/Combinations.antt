@@ -1,6 +1,6 @@
 -- Which file is made of what a combination takes of maps, and why none is.
-use Rattle.std.specs.Prelude.{◌≡◌, ◌⊎◌, ◌==◌, ◌++◌, ℕ, List, [], ◌∷◌, map, AllZip, Option, Some, None, Bool, false, if◌then◌else◌}
-use Rattle.std.specs.List.{list_all}
+use Rattle.std.specs.Prelude.{◌≡◌, ◌⊎◌, ◌==◌, ◌++◌, ℕ, List, [], ◌∷◌, map, Option, Some, None, Bool, false, if◌then◌else◌}
+use Rattle.std.specs.List.{list_all, AllZip}
 use Rattle.std.specs.FinMap.{entries}
 use Rattle.zerotrie_core.specs.Kind.{flags, tag}
 use Rattle.zerotrie_core.specs.Kinds.{kind_of}
@@ -10,6 +10,7 @@ use Rattle.zerotrie_core.specs.declared.TrieKind.{TrieKind}
 use Rattle.zerotrie_core.specs.declared.TrieRef.{TrieRef}
 use Rattle.zerotrie_queries.specs.Recased.{recased}
 use Rattle.zerotrie_sets.specs.Merges.{value_of}
+use Rattle.zerotrie_sets.specs.Rows.{Values}
 use Rattle.zerotrie_sets.specs.Selections.{IsSelection, IsRuleError}
 use Rattle.zerotrie_sets.specs.declared.selection.RuleError.{RuleError}
 use Rattle.zerotrie_making.specs.Kept.{number_of}
@@ -79,3 +80,18 @@ IsMadeOfMaps c maps made = OfTaken c maps (λ pairs. IsMadeOf (plan_of c maps) p
 abbrev pub ExplainsMaps : Combination → List Meant → CombinationError → Type 0
 ExplainsMaps c maps (NoValue why key) = HasNoValue c maps key.items why
 ExplainsMaps c maps (NotMade e) = (e ≡ OutOfMemory) ⊎ OfTaken c maps (λ pairs. ExplainsOf (plan_of c maps) (number_of None) pairs e)
+
+-- words of private functions: the pairs are those that a combination takes of lists, in which no key that is taken lacks a value
+pub record AreTaken (c : Combination) (lists : List Pairs) (pairs : Pairs) : Type 0 where
+  pub taken : IsSelection c.selection c.rule lists pairs
+  pub valued : (key : List ℕ) (why : RuleError) → IsRuleError c.selection c.rule (map (value_of key) lists) why → ⊥
+
+-- why a combination takes no pairs of lists: this key is taken and gets no value, or an allocation failed
+abbrev pub IsNotTaken : Combination → List Pairs → CombinationError → Type 0
+IsNotTaken c lists (NoValue why key) = IsRuleError c.selection c.rule (map (value_of key.items) lists) why
+IsNotTaken c lists (NotMade e) = e ≡ OutOfMemory
+
+-- why the key of a row is not added: it is taken and gets no value, or an allocation failed
+abbrev pub IsNotAdded : Combination → List ℕ × Values → CombinationError → Type 0
+IsNotAdded c row (NoValue why key) = (key.items ≡ row.0) × IsRuleError c.selection c.rule row.1 why
+IsNotAdded c row (NotMade e) = e ≡ OutOfMemory

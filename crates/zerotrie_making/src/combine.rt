@@ -1,17 +1,22 @@
 //! Makes the file of a trie or an index from the tries of others.
 
-ghost use Rattle.std.specs.Prelude.{◌≡◌, ℕ, List, All, map, take, slice_index_or, IfOk, IfErr, IfSome, OnOk, Option, None, false};
+ghost use Rattle.std.specs.Prelude.{◌≡◌, ◌<◌, ◌++◌, ℕ, List, [], ◌∷◌, All, map, take, length, IfOk, IfErr, IfSome, OnOk, Option, None, false};
 ghost use Rattle.std.specs.Bool.{OnTrue};
 ghost use Rattle.std.specs.FinMap.{entries};
+ghost use Rattle.std.specs.List.{list_all, slice_get};
 ghost use Rattle.zerotrie_core.specs.Items.{pairs_of};
 ghost use Rattle.zerotrie_core.specs.Kind.{flags};
 ghost use Rattle.zerotrie_core.specs.Kinds.{kind_of};
-ghost use Rattle.zerotrie_core.specs.Maps.{Pairs};
+ghost use Rattle.zerotrie_core.specs.Maps.{Map, Pairs, Ascends};
+ghost use Rattle.zerotrie_core.specs.Texts.{Means};
 ghost use Rattle.zerotrie_core.specs.WellFormed.{IsWellFormed};
-ghost use Rattle.zerotrie_core.specs.declared.TrieRef.{TrieRef};
-ghost use Rattle.zerotrie_sets.specs.Operations.{choose, IsCombined};
+ghost use Rattle.zerotrie_queries.specs.Recased.{recased};
+ghost use Rattle.zerotrie_sets.specs.Merges.{if_some};
+ghost use Rattle.zerotrie_sets.specs.Operations.{choose};
 ghost use Rattle.zerotrie_sets.specs.Rows.{EachAscends};
-ghost use Rattle.zerotrie_making.specs.Combinations.{IsMadeOfMaps, ExplainsMaps, OfMeant, kind_kept};
+ghost use Rattle.zerotrie_sets.specs.Selections.{selected, IsRuleError, IsSmall};
+ghost use Rattle.zerotrie_sets.specs.declared.selection.RuleError.{RuleError};
+ghost use Rattle.zerotrie_making.specs.Combinations.{AreTaken, IsNotTaken, IsNotAdded, IsMadeOfMaps, ExplainsMaps, OfMeant, in_case_of, in_first_case, listed, kind_kept};
 
 use crate::error::CombinationError;
 use crate::file::make_of;
@@ -20,6 +25,8 @@ use std::alloc::{AllocError, Global};
 use zerotrie_core::{PairStream, TrieKind, TrieRef};
 use zerotrie_lines::Table;
 use zerotrie_queries::{collect, look_up_all, of_sorted, recased, sorted_pairs};
+use zerotrie_search::laws::sorted_listing_ascends;
+use zerotrie_sets::laws::{row_errors_are_of_keys, selections_are_of_maps};
 use zerotrie_sets::{Keep, MergeAll, Operation, Rule, Selection, SortedSlice, SortedTrie};
 
 /// Adds the current key of a merge, if it is taken.
@@ -28,7 +35,13 @@ fn add_taken<S: PairStream>(
     combination: Combination,
     rows: &MergeAll<S>,
     table: &mut Table,
-) -> Result<(), CombinationError> {
+) -> Result<(), CombinationError>
+    ensures added { OnOk result (table.new ≡ table.old ++ if_some rows.now.current.0
+        (selected combination.selection combination.rule rows.now.current.1) []) }
+    ensures allowed { OnOk result ((why : RuleError)
+        → IsRuleError combination.selection combination.rule rows.now.current.1 why → ⊥) }
+    ensures err { IfErr result (IsNotAdded combination rows.now.current) }
+{
     match rows.selected(combination.selection, combination.rule) {
         Ok(Some(value)) => Ok(table.push(rows.key(), value)?),
         Ok(None) => Ok(()),
@@ -41,7 +54,15 @@ fn merged<S: PairStream + Drop>(
     alloc: Global,
     combination: Combination,
     streams: Vec<S>,
-) -> Result<Table, CombinationError> {
+) -> Result<Table, CombinationError>
+    requires { EachAscends (map {B = Pairs} (λ s. (S.left s).pairs) streams.items) }
+    ensures ok { IfOk result
+        (AreTaken combination (map {B = Pairs} (λ s. (S.left s).pairs) streams.items)) }
+    ensures err { IfErr result
+        (IsNotTaken combination (map {B = Pairs} (λ s. (S.left s).pairs) streams.items)) }
+{
+    selections_are_of_maps();
+    row_errors_are_of_keys();
     let mut rows = MergeAll::new(alloc, streams)?;
     let mut table = Table::new(alloc);
     while rows.advance()? {
@@ -54,7 +75,13 @@ fn merged<S: PairStream + Drop>(
 fn streams_of<'t>(
     alloc: Global,
     tries: &'t [TrieRef<'_>],
-) -> Result<Vec<SortedTrie<'t, 't>>, AllocError> {
+) -> Result<Vec<SortedTrie<'t, 't>>, AllocError>
+    requires { All (λ trie. IsWellFormed (kind_of trie.kind) trie.bytes.now) tries.now }
+    ensures ascend { IfOk result (λ streams.
+        EachAscends (map {B = Pairs} (λ s. s.left.pairs) streams.items)) }
+    ensures lists { IfOk result (λ streams. OfMeant tries.now (λ maps.
+        map {B = Pairs} (λ s. s.left.pairs) streams.items ≡ map (λ m. entries m.1) maps)) }
+{
     let mut streams = Vec::with_capacity(alloc, tries.len())?;
     for trie in tries {
         streams.push(sorted_pairs(alloc, trie)?)?;
@@ -68,13 +95,29 @@ fn in_case_of(
     before: &TrieRef<'_>,
     trie: &TrieRef<'_>,
     table: &Table,
-) -> Result<Table, AllocError> {
+) -> Result<Table, AllocError>
+    requires before { IsWellFormed (kind_of before.now.kind) before.now.bytes.now }
+    requires trie { IsWellFormed (kind_of trie.now.kind) trie.now.bytes.now }
+    requires table { Ascends table.now }
+    ensures ascends { IfOk result Ascends }
+    ensures is { IfOk result (λ new. (m n : Map)
+        → Means (kind_of before.now.kind) before.now.bytes.now m
+        → Means (kind_of trie.now.kind) trie.now.bytes.now n
+        → new ≡ recased (kind_of before.now.kind) (kind_of trie.now.kind) m n table.now) }
+{
     let items = table.items(alloc)?;
     recased(alloc, before, trie, of_sorted(items.as_slice()))
 }
 
-/// Returns the pairs of the trie with this number, each key in the case of the first trie that has it.
-fn in_first_case(alloc: Global, tries: &[TrieRef<'_>], at: usize) -> Result<Table, AllocError> {
+/// Returns the pairs of the trie with this number, each key in the case of the first trie that has
+/// it.
+fn in_first_case(alloc: Global, tries: &[TrieRef<'_>], at: usize) -> Result<Table, AllocError>
+    requires within { at < length tries.now }
+    requires tries { All (λ trie. IsWellFormed (kind_of trie.kind) trie.bytes.now) tries.now }
+    ensures ascends { IfOk result Ascends }
+    ensures is { IfOk result (λ table. OfMeant tries.now (λ maps.
+        IfSome (slice_get maps at) (λ m. table ≡ in_case_of (take at maps) m))) }
+{
     let mut table = collect(alloc, sorted_pairs(alloc, &tries[at])?)?;
     let mut before = at;
     while before > 0 {
@@ -85,7 +128,12 @@ fn in_first_case(alloc: Global, tries: &[TrieRef<'_>], at: usize) -> Result<Tabl
 }
 
 /// Returns the pairs of each trie, each key in the case of the first trie that has it.
-fn in_first_cases(alloc: Global, tries: &[TrieRef<'_>]) -> Result<Vec<Table>, AllocError> {
+fn in_first_cases(alloc: Global, tries: &[TrieRef<'_>]) -> Result<Vec<Table>, AllocError>
+    requires { All (λ trie. IsWellFormed (kind_of trie.kind) trie.bytes.now) tries.now }
+    ensures ascend { IfOk result (λ tables. EachAscends tables.items) }
+    ensures are { IfOk result (λ tables. OfMeant tries.now (λ maps.
+        tables.items ≡ in_first_case [] maps)) }
+{
     let mut tables = Vec::with_capacity(alloc, tries.len())?;
     for at in 0..tries.len() {
         tables.push(in_first_case(alloc, tries, at)?)?;
@@ -97,7 +145,10 @@ fn in_first_cases(alloc: Global, tries: &[TrieRef<'_>]) -> Result<Vec<Table>, Al
 fn items_of<'t>(
     alloc: Global,
     tables: &'t [Table],
-) -> Result<Vec<Vec<(&'t [u8], usize)>>, AllocError> {
+) -> Result<Vec<Vec<(&'t [u8], usize)>>, AllocError>
+    ensures { IfOk result (λ items.
+        map {B = Pairs} (λ pairs. pairs_of pairs.items) items.items ≡ tables.now) }
+{
     let mut items = Vec::with_capacity(alloc, tables.len())?;
     for table in tables {
         items.push(table.items(alloc)?)?;
@@ -109,7 +160,11 @@ fn items_of<'t>(
 fn slices_of<'i, 'k>(
     alloc: Global,
     items: &'i [Vec<(&'k [u8], usize)>],
-) -> Result<Vec<SortedSlice<'i, 'k>>, AllocError> {
+) -> Result<Vec<SortedSlice<'i, 'k>>, AllocError>
+    requires { EachAscends (map {B = Pairs} (λ pairs. pairs_of pairs.items) items.now) }
+    ensures { IfOk result (λ streams. map {B = Pairs} (λ s. s.left.pairs) streams.items
+        ≡ map {B = Pairs} (λ pairs. pairs_of pairs.items) items.now) }
+{
     let mut streams = Vec::with_capacity(alloc, items.len())?;
     for pairs in items {
         streams.push(of_sorted(pairs.as_slice()))?;
@@ -122,7 +177,13 @@ fn combine_in_any_case(
     alloc: Global,
     combination: Combination,
     tries: &[TrieRef<'_>],
-) -> Result<Table, CombinationError> {
+) -> Result<Table, CombinationError>
+    requires { All (λ trie. IsWellFormed (kind_of trie.kind) trie.bytes.now) tries.now }
+    ensures ok { IfOk result (λ table. OfMeant tries.now (λ maps.
+        AreTaken combination (in_first_case [] maps) table)) }
+    ensures err { IfErr result (λ e. OfMeant tries.now (λ maps.
+        IsNotTaken combination (in_first_case [] maps) e)) }
+{
     let tables = in_first_cases(alloc, tries)?;
     let items = items_of(alloc, tables.as_slice())?;
     let streams = slices_of(alloc, items.as_slice())?;
@@ -132,8 +193,8 @@ fn combine_in_any_case(
 /// One trie has few keys beside another if it has at most one byte for this many of the other's.
 const MANY: usize = 16;
 
-/// Returns whether a trie has few keys beside another one, which finds exact keys. Then look-ups cost
-/// less than a listing of both.
+/// Returns whether a trie has few keys beside another one, which finds exact keys. Then look-ups
+/// cost less than a listing of both.
 fn are_few(trie: &TrieRef<'_>, other: &TrieRef<'_>) -> bool
     ensures { OnTrue result ((flags (kind_of other.now.kind)).ignore_case ≡ false) }
 {
@@ -141,7 +202,14 @@ fn are_few(trie: &TrieRef<'_>, other: &TrieRef<'_>) -> bool
 }
 
 /// Returns the operation on two tries that takes the same, and only keys that the first one has.
-fn operation_of(selection: Selection, rule: Rule) -> Option<Operation> {
+fn operation_of(selection: Selection, rule: Rule) -> Option<Operation>
+    ensures same { IfSome result (λ operation. (one other : Option ℕ)
+        → selected selection rule (one ∷ other ∷ []) ≡ choose operation one other) }
+    ensures valued { IfSome result (λ _. (one other : Option ℕ) (why : RuleError)
+        → IsSmall one → IsRuleError selection rule (one ∷ other ∷ []) why → ⊥) }
+    ensures takes { IfSome result (λ operation. (found : Option ℕ)
+        → choose operation None found ≡ None) }
+{
     match (selection, rule) {
         (Selection::Intersection, Rule::First) => Some(Operation::Intersection(Keep::First)),
         (Selection::Intersection, Rule::Last) => Some(Operation::Intersection(Keep::Last)),
@@ -150,8 +218,8 @@ fn operation_of(selection: Selection, rule: Rule) -> Option<Operation> {
     }
 }
 
-/// Returns the same with the tries in each other's place, if that takes only keys that the second trie
-/// has.
+/// Returns the same with the tries in each other's place, if that takes only keys that the second
+/// trie has.
 fn turned(operation: Operation) -> Option<Operation>
     ensures same { IfSome result (λ turned. (one other : Option ℕ)
         → choose turned one other ≡ choose operation other one) }
@@ -164,16 +232,22 @@ fn turned(operation: Operation) -> Option<Operation>
     }
 }
 
-/// Returns what a combination takes of two tries, if one of them has few keys, which are then looked up
-/// in the other. `None` if neither has, or the combination takes other keys.
-fn look_up_few(
+/// Returns what a combination takes of two tries, if one of them has few keys, which are then
+/// looked up in the other. `None` if neither has, or the combination takes other keys.
+fn look_up_few_of_two(
     alloc: Global,
     combination: Combination,
-    tries: &[TrieRef<'_>],
-) -> Result<Option<Table>, AllocError> {
-    let [first, second] = tries else {
-        return Ok(None);
-    };
+    first: &TrieRef<'_>,
+    second: &TrieRef<'_>,
+) -> Result<Option<Table>, AllocError>
+    requires first { IsWellFormed (kind_of first.now.kind) first.now.bytes.now }
+    requires second { IsWellFormed (kind_of second.now.kind) second.now.bytes.now }
+    ensures { IfOk result (λ found. IfSome found (λ table. (m n : Map)
+        → Means (kind_of first.now.kind) first.now.bytes.now m
+        → Means (kind_of second.now.kind) second.now.bytes.now n
+        → AreTaken combination (entries m ∷ entries n ∷ []) table)) }
+{
+    sorted_listing_ascends();
     let Some(operation) = operation_of(combination.selection, combination.rule) else {
         return Ok(None);
     };
@@ -188,8 +262,26 @@ fn look_up_few(
     }
 }
 
+/// Returns what `look_up_few_of_two` does of tries, if they are two.
+fn look_up_few(
+    alloc: Global,
+    combination: Combination,
+    tries: &[TrieRef<'_>],
+) -> Result<Option<Table>, AllocError>
+    requires { All (λ trie. IsWellFormed (kind_of trie.kind) trie.bytes.now) tries.now }
+    ensures { IfOk result (λ found. IfSome found (λ table. OfMeant tries.now (λ maps.
+        AreTaken combination (map (λ m. entries m.1) maps) table))) }
+{
+    match tries {
+        [first, second] => look_up_few_of_two(alloc, combination, first, second),
+        _ => Ok(None),
+    }
+}
+
 /// Returns whether all tries ignore case.
-fn all_ignore_case(tries: &[TrieRef<'_>]) -> bool {
+fn all_ignore_case(tries: &[TrieRef<'_>]) -> bool
+    ensures { result ≡ list_all (λ trie. (flags (kind_of trie.kind)).ignore_case) tries.now }
+{
     for trie in tries {
         if !trie.kind.options().ignore_case() {
             return false;
@@ -203,7 +295,13 @@ fn combine(
     alloc: Global,
     combination: Combination,
     tries: &[TrieRef<'_>],
-) -> Result<Table, CombinationError> {
+) -> Result<Table, CombinationError>
+    requires { All (λ trie. IsWellFormed (kind_of trie.kind) trie.bytes.now) tries.now }
+    ensures ok { IfOk result (λ table. OfMeant tries.now (λ maps.
+        AreTaken combination (listed maps) table)) }
+    ensures err { IfErr result (λ e. OfMeant tries.now (λ maps.
+        IsNotTaken combination (listed maps) e)) }
+{
     if all_ignore_case(tries) {
         return combine_in_any_case(alloc, combination, tries);
     }
@@ -265,19 +363,20 @@ pub fn kind_kept(named: Option<TrieKind>, tries: &[TrieRef<'_>]) -> Option<TrieK
 /// assert_eq!(rt; made.file.as_slice(), b"\xC2Ac\x02b\x81\x86".as_slice());
 /// ```
 ///
-/// The kind is the one that is named, or else that of all tries. If theirs differ, it is the one that a
-/// build of the pairs takes. Keys are equal if their bytes are; if all tries ignore case, they are if a
-/// look-up takes them as one, and are then as the first trie that has them has them. In the kind that
-/// ignores case a build is an error if keys that begin alike differ in the case of a letter.
+/// The kind is the one that is named, or else that of all tries. If theirs differ, it is the one
+/// that a build of the pairs takes. Keys are equal if their bytes are; if all tries ignore case,
+/// they are if a look-up takes them as one, and are then as the first trie that has them has them.
+/// In the kind that ignores case a build is an error if keys that begin alike differ in the case of
+/// a letter.
 ///
 /// If one of two tries has at most a sixteenth of the other's bytes, an intersection that keeps the
 /// first or the last value looks the keys of the small one up in the other, which is not listed. A
-/// difference does so if the first trie is the small one. That is, if the other trie does not ignore
-/// case. Else a step compares a key of each trie. Tries that ignore case are listed once for each one
-/// before them.
+/// difference does so if the first trie is the small one. That is, if the other trie does not
+/// ignore case. Else a step compares a key of each trie. Tries that ignore case are listed once for
+/// each one before them.
 ///
-/// The error is `NoValue` with a key that is taken and gets no value by the rule; `Keys` if keys show
-/// why a build of the pairs fails, `Refused` or `IndexRefused` if it fails and none do, and
+/// The error is `NoValue` with a key that is taken and gets no value by the rule; `Keys` if keys
+/// show why a build of the pairs fails, `Refused` or `IndexRefused` if it fails and none do, and
 /// `OutOfMemory`. The numbers of keys are those of their pairs in the order of bytes.
 pub fn make_combined(
     alloc: Global,

@@ -86,8 +86,8 @@ pub struct Combination {
     pub selection: Selection,
     /// Which value a key gets that more than one trie has.
     pub rule: Rule,
-    /// The kind of the new trie. If `None`, it is the one that all tries have, or if theirs differ the
-    /// one that a build of the pairs takes. An index has none.
+    /// The kind of the new trie. If `None`, it is the one that all tries have, or if theirs differ
+    /// the one that a build of the pairs takes. An index has none.
     pub kind: Option<TrieKind>,
     /// What the file has.
     pub form: FileForm,
@@ -98,7 +98,8 @@ pub struct Combination {
 pub struct Made {
     /// The bytes of the file.
     pub file: Vec<u8>,
-    /// The kind of its trie. An index has none; then it is the one that a trie of its keys would have.
+    /// The kind of its trie. An index has none; then it is the one that a trie of its keys would
+    /// have.
     pub kind: TrieKind,
     /// How many keys it has.
     pub keys: usize,

@@ -14,9 +14,9 @@ use Rattle.zerotrie_sets.specs.Merges.{Entries}
 use Rattle.zerotrie_sets.specs.declared.diff.Change.{Change}
 use Rattle.zerotrie_sets.specs.declared.diff.Change.TheVariants.{Added, Removed, Changed}
 use Rattle.zerotrie_queries.specs.Diffs.{change_line, change_lines, AreTold, AreToldInPart}
-use Rattle.zerotrie_queries.specs.Recased.{second_pairs}
+use Rattle.zerotrie_queries.specs.Recased.{ignore_both, recased, second_pairs}
 use Rattle.zerotrie_queries.proofs.PartLemmas.{part_none}
-use Rattle.zerotrie_queries.proofs.RecasedLemmas.{entries_ascend, second_ascends}
+use Rattle.zerotrie_queries.proofs.RecasedLemmas.{entries_ascend, second_ascends, second_recased}
 
 -- a line has bytes
 pub some_line : (key : List ℕ) (c : Change) → 0 < length (change_line key c)
@@ -88,6 +88,17 @@ none_told k j m n a ascends diffs combined =
       is = diffs first second (entries_ascend ascends m) (second_ascends ascends combined k j m n);
       printed = part_none a (change_lines (changes first second));
     }
+
+-- if both kinds ignore case, what is told of listings of two maps, of the second one with its keys recased, is told of the maps
+module _ (k j : Kind) (m n : Map) (first second pairs : Pairs) (a b : Option (List ℕ)) (ignore : ignore_both k j ≡ true) (one : first ≡ entries m) (two : pairs ≡ entries n) (is : second ≡ recased k j m n pairs) where
+  second_is : second ≡ second_pairs k j m n
+  second_is = is ∙ ap (λ ps. recased k j m n ps) two ∙ second_recased k j m n ignore
+
+  pub told_recased : (same : Bool) → AreTold first second a b same → AreTold (entries m) (second_pairs k j m n) a b same
+  told_recased same told = subst (λ ps. AreTold ps (second_pairs k j m n) a b same) one (subst (λ ps. AreTold first ps a b same) second_is told)
+
+  pub part_recased : AreToldInPart first second a b → AreToldInPart (entries m) (second_pairs k j m n) a b
+  part_recased told = subst (λ ps. AreToldInPart ps (second_pairs k j m n) a b) one (subst (λ ps. AreToldInPart first ps a b) second_is told)
 
 -- what follows from two clauses of a result
 pub ok_both : {E P : Type 0} {Q R : Bool → Type 0} (r : Result Bool E) → ((same : Bool) → P → Q same → R same) → OnOk r P → IfOk r Q → IfOk r R

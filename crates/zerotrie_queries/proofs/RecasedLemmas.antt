@@ -67,7 +67,7 @@ second_ascends ascends combined k j m n =
     let two = entries_ascend ascends n in
     let found = looked_up (Intersection Last) (look j n) (entries m) in
     let others = looked_up Difference (look k m) (entries n) in
-    either_ascends (ignore_both k j) (recased k j m n) (entries n)
+    either_ascends (ignore_both k j) (recased k j m n (entries n)) (entries n)
     (combined (Union First) found others (looked_up_ascends (Intersection Last) (look j n) (entries m) one) (looked_up_ascends Difference (look k m) (entries n) two)).ascends two
 
 either_first : (b : Bool) (xs ys : Pairs) → b ≡ true → xs ≡ (if b then xs else ys)
@@ -79,8 +79,8 @@ either_second true xs ys h = absurd (cc)
 either_second false xs ys h = refl
 
 -- if both kinds ignore case, it is the second map as the first one has its keys; if not, all of it
-pub second_recased : (k j : Kind) (m n : Map) → ignore_both k j ≡ true → recased k j m n ≡ second_pairs k j m n
-second_recased k j m n h = either_first (ignore_both k j) (recased k j m n) (entries n) h
+pub second_recased : (k j : Kind) (m n : Map) → ignore_both k j ≡ true → recased k j m n (entries n) ≡ second_pairs k j m n
+second_recased k j m n h = either_first (ignore_both k j) (recased k j m n (entries n)) (entries n) h
 
 pub second_as_is : (k j : Kind) (m n : Map) → ignore_both k j ≡ false → entries n ≡ second_pairs k j m n
-second_as_is k j m n h = either_second (ignore_both k j) (recased k j m n) (entries n) h
+second_as_is k j m n h = either_second (ignore_both k j) (recased k j m n (entries n)) (entries n) h

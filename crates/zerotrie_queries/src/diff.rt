@@ -175,12 +175,12 @@ pub fn write_diff<W: Write>(
     combined_are_maps();
     diffs_are_of_maps();
     let first = sorted_pairs(alloc, old)?;
+    let second = sorted_pairs(alloc, new)?;
     if ignore_case(old.kind, new.kind) {
-        let table = recased(alloc, old, new, sorted_pairs(alloc, new)?)?;
+        let table = recased(alloc, old, new, second)?;
         let items = table.items(alloc)?;
         write_merged(alloc, first, of_sorted(items.as_slice()), output)
     } else {
-        let second = sorted_pairs(alloc, new)?;
         write_merged(alloc, first, second, output)
     }
 }

@@ -1,4 +1,4 @@
--- How a run ends in which no trie file is made of two others.
+-- How a run ends in which no trie file is made of others.
 use Rattle.std.proofs.Common.{◌≡◌, ℕ, List, Option, Some, None, Bool, true, false, Result, Ok, Err, Vec, Global, inl}
 use Rattle.std.specs.Prelude.{unwrap_or}
 use Rattle.std.specs.declared.alloc.AllocError.{AllocError}
@@ -11,7 +11,7 @@ use Rattle.zerotrie_run.specs.Statuses.{failure, made_refusal}
 use Rattle.zerotrie_run.specs.Told.{ended}
 use Rattle.zerotrie_run.specs.declared.build.BuildError.TheVariants as build
 use Rattle.zerotrie_run.specs.declared.combine.CombineError.{CombineError}
-use Rattle.zerotrie_run.specs.declared.combine.CombineError.TheVariants.{Unopened, NoTrie, NotBuilt}
+use Rattle.zerotrie_run.specs.declared.combine.CombineError.TheVariants.{Unopened, NoTrie, NoValue, NotBuilt}
 use Rattle.zerotrie_run.specs.declared.command.Combine.{Combine}
 use Rattle.zerotrie_run.specs.declared.status.Status.{Status}
 use Rattle.zerotrie_run.specs.declared.status.Status.TheVariants.{Done, Absent, Refused, Taken, BadUsage, BadInput, Unread, Unwritten, OutOfMemory, Closed}
@@ -36,11 +36,12 @@ made_ends (made.IndexRefused why) = refused
 made_ends made.OutOfMemory = failed
 
 ends_of : (e : CombineError) → Ends (combine_refusal e)
-ends_of (Unopened side e) = failed
-ends_of (NoTrie side (unopened.BadTag why) t) = input
-ends_of (NoTrie side (unopened.Damaged why) t) = input
-ends_of (NoTrie side (unopened.NotWellFormed k f) t) = input
-ends_of (NoTrie side unopened.OutOfMemory t) = failed
+ends_of (Unopened number e) = failed
+ends_of (NoTrie number (unopened.BadTag why) t) = input
+ends_of (NoTrie number (unopened.Damaged why) t) = input
+ends_of (NoTrie number (unopened.NotWellFormed k f) t) = input
+ends_of (NoTrie number unopened.OutOfMemory t) = failed
+ends_of (NoValue why key) = refused
 ends_of (NotBuilt (build.Unread e)) = failed
 ends_of (NotBuilt (build.NotMade e)) = made_ends e
 ends_of (NotBuilt (build.Unwritten e)) = failed
@@ -62,7 +63,7 @@ ends_by c i before after read write closed (Some Refused) (Err x) refused h = in
 ends_by c i before after read write closed (Some Taken) (Ok text) taken h = h
 ends_by c i before after read write closed (Some Taken) (Err x) taken h = inl h.2
 ends_by c i before after read write closed (Some BadInput) (Ok text) input h = h
-ends_by c i before after read write closed (Some BadInput) (Err x) input h = inl h.2
+ends_by c i before after read write closed (Some BadInput) (Err x) input h = inl h.1
 ends_by c i before after read write closed (Some Done) r ends h = elim ends [ ]
 ends_by c i before after read write closed (Some Absent) r ends h = elim ends [ ]
 ends_by c i before after read write closed (Some BadUsage) r ends h = elim ends [ ]

@@ -1,61 +1,82 @@
--- What is told last if no trie file is made of two others.
-use Rattle.std.proofs.Common.{◌≡◌, ◌⊎◌, ℕ, List, Option, Bool, Result, Ok, Err, IfOk, Vec, Global, refl, subst, inl, inr}
-use Rattle.std.specs.Prelude.{unwrap_or}
+-- What is told of a run that makes a file of others.
+use Rattle.std.proofs.Common.{◌≡◌, ◌⊎◌, ◌++◌, ℕ, List, [], Option, Some, Bool, true, false, Result, Ok, Err, IfOk, Vec, Global, length, refl, subst, inl, inr}
+use Rattle.std.specs.Prelude.{◌&&◌, Any, unwrap_or}
 use Rattle.std.specs.Io.KnownBytes.{Appends}
 use Rattle.std.specs.declared.alloc.AllocError.{AllocError}
 use Rattle.zerotrie_files.specs.Disks.{Story}
+use Rattle.zerotrie_queries.specs.declared.file.OpenError.{OpenError}
 use Rattle.zerotrie_queries.specs.declared.file.OpenError.TheVariants as unopened
+use Rattle.zerotrie_making.specs.Combinations.{ExplainsMaps}
+use Rattle.zerotrie_making.specs.declared.error.CombinationError.{CombinationError}
+use Rattle.zerotrie_making.specs.declared.error.CombinationError.TheVariants as combination
 use Rattle.zerotrie_making.specs.declared.error.MakeError.{MakeError}
 use Rattle.zerotrie_making.specs.declared.error.MakeError.TheVariants as made
+use Rattle.zerotrie_making.specs.declared.plan.Made.{Made}
+use Rattle.zerotrie_sets.specs.declared.selection.RuleError.{RuleError}
+use Rattle.zerotrie_run.specs.Commands.{may_tell}
 use Rattle.zerotrie_run.specs.Statuses.{failure}
-use Rattle.zerotrie_run.specs.Messages.{TellsBuild, TellsCombine, TellsNoTrie, source_name, target_name}
-use Rattle.zerotrie_run.specs.Combined.{ExplainsMaps, HasCombineCause, OfFiles, combine_refusal, place_of}
-use Rattle.zerotrie_run.specs.Told.{TellsMore, IsPlaceOf, IsTold, ended, last_text}
+use Rattle.zerotrie_run.specs.Messages.{IsLineOn, Says, TellsBuild, TellsCombine, TellsNoTrie, TellsUnmade, source_name, target_name, told_key, value_words}
+use Rattle.zerotrie_run.specs.Combined.{HasCombineCause, IsNumbered, OfFiles, combine_refusal, file_of, unmade_refusal}
+use Rattle.zerotrie_run.specs.Told.{TellsMore, TellsUnopened, IsPlaceOf, IsTold, combined_lines, ended, has_kind, is_told, last_text, told_kind, told_made}
 use Rattle.zerotrie_run.specs.declared.status.Status.{Status}
-use Rattle.zerotrie_run.specs.declared.status.Status.TheVariants.{Closed}
+use Rattle.zerotrie_run.specs.declared.status.Status.TheVariants.{Refused, Closed}
 use Rattle.zerotrie_run.specs.declared.build.BuildError.TheVariants as build
 use Rattle.zerotrie_run.specs.declared.combine.CombineError.{CombineError}
-use Rattle.zerotrie_run.specs.declared.combine.CombineError.TheVariants.{Unopened, NoTrie, NotBuilt}
+use Rattle.zerotrie_run.specs.declared.combine.CombineError.TheVariants.{Unopened, NoTrie, NoValue, NotBuilt}
 use Rattle.zerotrie_run.specs.declared.messages.pairs.PairUnit.TheVariants.{Pair}
 use Rattle.zerotrie_run.specs.declared.command.Combine.{Combine}
-use Rattle.zerotrie_run.specs.declared.command.Side.{Side}
-use Rattle.zerotrie_run.specs.declared.command.Side.TheVariants.{First, Second}
+use Rattle.zerotrie_run.specs.declared.command.Place.{Place}
+use Rattle.zerotrie_run.specs.declared.command.Summary.{Summary}
+use Rattle.zerotrie_run.specs.declared.command.Summary.TheVariants.{Never, IfEmpty, Always}
 use Rattle.zerotrie_run.specs.declared.command.Command.{Command}
 use Rattle.zerotrie_run.specs.declared.command.Command.TheVariants as commands
-use Rattle.zerotrie_run.proofs.CombinedLemmas.{IsOfPairs, of_pairs}
+use Rattle.zerotrie_run.proofs.CombinedLemmas.{IsOfPairs, file_there, of_pairs}
 use Rattle.zerotrie_run.proofs.CombinedLemmas.IsOfPairs.{keys, refused, index_refused, memory}
 use Rattle.zerotrie_run.proofs.ToldLemmas.{told_last, no_memory, failure_told}
 
-made_told : (o : Combine) (input : Option (List ℕ)) (files : Option Story) (a b c : Option (List ℕ)) (text : List ℕ) (read write closed : Bool) (e : MakeError) → OfFiles o input files (ExplainsMaps o e)
+-- a refusal of what the combination takes
+taken_told : (o : Combine) (input : Option (List ℕ)) (files : Option Story) (a b c : Option (List ℕ)) (text : List ℕ) (e : CombinationError) → OfFiles o input files (λ maps. ExplainsMaps o.combination maps e)
+    → unmade_refusal e ≡ Some Refused → IsLineOn (target_name o.to) text → TellsUnmade e text → TellsMore a b → Appends b c text → IsTold (commands.Combine o) input files a c Refused
+taken_told o input files a b c text e cause is line tells more h = (e, cause, is, text, line, tells, told_last a b c text more h)
+
+made_told : (o : Combine) (input : Option (List ℕ)) (files : Option Story) (a b c : Option (List ℕ)) (text : List ℕ) (read write closed : Bool) (e : MakeError)
+    → OfFiles o input files (λ maps. ExplainsMaps o.combination maps (combination.NotMade e))
     → TellsBuild (target_name o.to) (target_name o.to) Pair (build.NotMade e) text → TellsMore a b → Appends b c text → IsOfPairs e
     → IsTold (commands.Combine o) input files a c (unwrap_or (combine_refusal (NotBuilt (build.NotMade e))) (failure read write closed))
-made_told o input files a b c text read write closed _ cause tells more h (keys s) = (made.Keys s, cause, refl, text, tells.0, tells.1, told_last a b c text more h)
-made_told o input files a b c text read write closed _ cause tells more h (refused why) = (made.Refused why, cause, refl, text, tells.0, tells.1, told_last a b c text more h)
-made_told o input files a b c text read write closed _ cause tells more h (index_refused why) = (made.IndexRefused why, cause, refl, text, tells.0, tells.1, told_last a b c text more h)
-made_told o input files a b c text read write closed _ cause tells more h memory = failure_told (commands.Combine o) input files a b c text (target_name o.to) read write closed (inr (inr refl)) tells.0 more h
+made_told o input files a b c text read write closed _ cause tells more h (keys s) = taken_told o input files a b c text (combination.NotMade (made.Keys s)) cause refl tells.0 tells.1 more h
+made_told o input files a b c text read write closed _ cause tells more h (refused why) = taken_told o input files a b c text (combination.NotMade (made.Refused why)) cause refl tells.0 tells.1 more h
+made_told o input files a b c text read write closed _ cause tells more h (index_refused why) = taken_told o input files a b c text (combination.NotMade (made.IndexRefused why)) cause refl tells.0 tells.1 more h
+made_told o input files a b c text read write closed _ cause tells more h memory = failure_told (commands.Combine o) input files a b c text (target_name o.to) read write closed (inr refl) tells.0 more h
 
--- one of the two files is a place of the command
-side_place : (o : Combine) (side : Side) → IsPlaceOf (commands.Combine o) (source_name (place_of o side))
-side_place o First = inl refl
-side_place o Second = inr (inl refl)
+-- one of the files is a place of the command
+file_place : (o : Combine) (number : ℕ) (place : Place) → IsNumbered o.from.now number place → IsPlaceOf (commands.Combine o) (source_name place)
+file_place o number place is = inl (file_there (λ other. source_name place ≡ source_name other) o.from.now number place is refl)
+
+-- a line tells that one of the files has no trie
+unopened_told : (o : Combine) (input : Option (List ℕ)) (files : Option Story) (a b c : Option (List ℕ)) (text : List ℕ) (number : ℕ) (why : OpenError) (t : Bool) → HasCombineCause o input files (NoTrie number why t)
+    → TellsCombine o (NoTrie number why t) text → TellsMore a b → Appends b c text → Any (λ place. TellsUnopened (file_of place) input files a c) o.from.now
+unopened_told o input files a b c text number why t cause tells more h =
+    file_there (λ place. TellsUnopened (file_of place) input files a c) o.from.now number cause.0 cause.1
+    (cause.2, cause.3, why, cause.4, text, tells.0 cause.0 cause.1, subst (λ t. TellsNoTrie why t text) cause.5 tells.1, told_last a b c text more h)
 
 text_told : (o : Combine) (input : Option (List ℕ)) (files : Option Story) (a b c : Option (List ℕ)) (text : List ℕ) (read write closed : Bool) (e : CombineError) → HasCombineCause o input files e → TellsCombine o e text
     → TellsMore a b → Appends b c text → IsTold (commands.Combine o) input files a c (unwrap_or (combine_refusal e) (failure read write closed))
-text_told o input files a b c text read write closed (Unopened side e) cause tells more h =
-    failure_told (commands.Combine o) input files a b c text (source_name (place_of o side)) read write closed (side_place o side) tells more h
-text_told o input files a b c text read write closed (NoTrie side (unopened.BadTag why) t) cause tells more h =
-    (side, (cause.0, cause.1, unopened.BadTag why, cause.2, text, tells.0, subst (λ t. TellsNoTrie (unopened.BadTag why) t text) cause.3 tells.1, told_last a b c text more h))
-text_told o input files a b c text read write closed (NoTrie side (unopened.Damaged why) t) cause tells more h = (side, (cause.0, cause.1, unopened.Damaged why, cause.2, text, tells.0, tells.1, told_last a b c text more h))
-text_told o input files a b c text read write closed (NoTrie side (unopened.NotWellFormed k f) t) cause tells more h = (side, (cause.0, cause.1, unopened.NotWellFormed k f, cause.2, text, tells.0, tells.1, told_last a b c text more h))
-text_told o input files a b c text read write closed (NoTrie side unopened.OutOfMemory t) cause tells more h =
-    failure_told (commands.Combine o) input files a b c text (source_name (place_of o side)) read write closed (side_place o side) tells.0 more h
-text_told o input files a b c text read write closed (NotBuilt (build.Unread e)) cause tells more h = failure_told (commands.Combine o) input files a b c text (target_name o.to) read write closed (inr (inr refl)) tells more h
-text_told o input files a b c text read write closed (NotBuilt (build.NotMade e)) cause tells more h =
-    let held = cause.3 in
-    made_told o input files a b c text read write closed e cause tells more h (of_pairs o e held.0 held.1 held.2 held.3 held.6)
-text_told o input files a b c text read write closed (NotBuilt (build.Unwritten e)) cause tells more h = failure_told (commands.Combine o) input files a b c text (target_name o.to) read write closed (inr (inr refl)) tells more h
+text_told o input files a b c text read write closed (Unopened number e) cause tells more h =
+    failure_told (commands.Combine o) input files a b c text (source_name cause.0) read write closed (file_place o number cause.0 cause.1) (tells cause.0 cause.1) more h
+text_told o input files a b c text read write closed (NoTrie number (unopened.BadTag why) t) cause tells more h = unopened_told o input files a b c text number (unopened.BadTag why) t cause tells more h
+text_told o input files a b c text read write closed (NoTrie number (unopened.Damaged why) t) cause tells more h = unopened_told o input files a b c text number (unopened.Damaged why) t cause tells more h
+text_told o input files a b c text read write closed (NoTrie number (unopened.NotWellFormed k f) t) cause tells more h = unopened_told o input files a b c text number (unopened.NotWellFormed k f) t cause tells more h
+text_told o input files a b c text read write closed (NoTrie number unopened.OutOfMemory t) cause tells more h =
+    failure_told (commands.Combine o) input files a b c text (source_name cause.0) read write closed (file_place o number cause.0 cause.1) (tells.0 cause.0 cause.1) more h
+text_told o input files a b c text read write closed (NoValue why key) cause tells more h = taken_told o input files a b c text (combination.NoValue why key) cause refl tells.0 tells.1 more h
+text_told o input files a b c text read write closed (NotBuilt (build.Unread e)) cause tells more h = failure_told (commands.Combine o) input files a b c text (target_name o.to) read write closed (inr refl) tells more h
+text_told o input files a b c text read write closed (NotBuilt (build.NotMade e)) (inl none) tells more h =
+    rw none (failure_told (commands.Combine o) input files a b c text (target_name o.to) read write closed (inr refl) tells.0 more h)
+text_told o input files a b c text read write closed (NotBuilt (build.NotMade e)) (inr cause) tells more h =
+    made_told o input files a b c text read write closed e cause tells more h (of_pairs o e cause.2.0 cause.2.2)
+text_told o input files a b c text read write closed (NotBuilt (build.Unwritten e)) cause tells more h = failure_told (commands.Combine o) input files a b c text (target_name o.to) read write closed (inr refl) tells more h
 text_told o input files a b c text read write closed (NotBuilt build.Taken) cause tells more h = (text, tells, told_last a b c text more h)
-text_told o input files a b c text read write closed (NotBuilt (build.Unfound e)) cause tells more h = failure_told (commands.Combine o) input files a b c text (target_name o.to) read write closed (inr (inr refl)) tells more h
+text_told o input files a b c text read write closed (NotBuilt (build.Unfound e)) cause tells more h = failure_told (commands.Combine o) input files a b c text (target_name o.to) read write closed (inr refl) tells more h
 
 told_by : (o : Combine) (input : Option (List ℕ)) (files : Option Story) (a b c : Option (List ℕ)) (read write closed : Bool) (e : CombineError) (status : Status) (r : Result (Vec ℕ Global) AllocError)
     → HasCombineCause o input files e
@@ -71,3 +92,24 @@ pub combine_told : (command : Command) (o : Combine) (input : Option (List ℕ))
     → IsTold command input files a c result
 combine_told command o input files a b c read write closed e status result r at cause is tells more ends (inl silent) = rw silent tt
 combine_told command o input files a b c read write closed e status result r at cause is tells more ends (inr h) = rw (at, ends) (told_by o input files a b c read write closed e status r cause is tells more h)
+
+-- a line that says a key and why it gets no value tells that
+pub tells_no_value : (r : Result (Vec ℕ Global) AllocError) (o : Combine) (error : CombineError) (why : RuleError) (key : Vec ℕ Global) (place bytes : List ℕ) → error ≡ NoValue why key → place ≡ target_name o.to
+    → bytes ≡ key.items → IfOk r (λ text. IsLineOn place text.items) → IfOk r (λ text. Says text.items (value_words why)) → IfOk r (λ text. Says text.items (told_key bytes))
+    → IfOk r (λ text. TellsCombine o error text.items)
+tells_no_value (Ok text) o error why key place bytes is at same line says keyed =
+    rw is (subst (λ name. IsLineOn name text.items) at line, (says, subst (λ b. Says text.items (told_key b)) same keyed))
+tells_no_value (Err e) o error why key place bytes is at same line says keyed = tt
+
+-- ---- what is told of a file that was made
+
+no_lines : (o : Combine) (s : Summary) (several : Bool) (file : Made) → may_tell s ≡ false
+    → told_kind (several && (may_tell s && has_kind o.combination.form)) (target_name o.to) file.kind ++ told_made (is_told s file.keys) (target_name o.to) file.keys (length file.file.items) ≡ []
+no_lines o Never true file is = refl
+no_lines o Never false file is = refl
+no_lines o IfEmpty several file is = absurd (cc)
+no_lines o Always several file is = absurd (cc)
+
+-- nothing, if nothing is to be told
+pub quiet_lines : (o : Combine) (several : Bool) (file : Made) → may_tell o.summary ≡ false → combined_lines o several file ≡ []
+quiet_lines o several file is = no_lines o o.summary several file is

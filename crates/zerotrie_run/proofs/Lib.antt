@@ -8,6 +8,7 @@ mod RefusedLemmas
 mod FileLemmas
 mod SpareLemmas
 mod DiffLemmas
+mod StreamLemmas
 mod CombinedLemmas
 mod CombinedTold
 mod CombinedEnds

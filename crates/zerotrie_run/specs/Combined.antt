@@ -1,6 +1,6 @@
 -- What comes of a command that makes a file of the tries of others.
-use Rattle.std.specs.Prelude.{◌≡◌, ◌⊎◌, ◌&&◌, ℕ, List, [], ◌∷◌, ◌++◌, length, map, Any, AllZip, Option, Some, None, Result, Ok, Err, Bool, true, false, is_none}
-use Rattle.std.specs.List.{slice_get}
+use Rattle.std.specs.Prelude.{◌≡◌, ◌⊎◌, ◌<◌, ℕ, List, [], ◌∷◌, length, map, Any, Option, Some, None, Result, Ok, Err, Bool, false, is_none}
+use Rattle.std.specs.List.{AllZip, slice_get}
 use Rattle.zerotrie_core.specs.Kinds.{kind_of}
 use Rattle.zerotrie_core.specs.Texts.{Means}
 use Rattle.zerotrie_core.specs.declared.TrieKind.{TrieKind}
@@ -46,6 +46,15 @@ AreRead places input files held = AllZip (λ place bytes. IsRead place input fil
 -- the files have tries, and the fact holds of their kinds and maps
 abbrev pub OfFiles : Combine → Option (List ℕ) → Option Story → (List Meant → Type 0) → Type 0
 OfFiles c input files Fact = (held : List (List ℕ)) × AreRead c.from.now input files held × OfHeld held Fact
+
+-- whether no kind is named, and tries of these kinds have several
+abbrev pub are_several : Option TrieKind → List TrieKind → Bool
+are_several named [] = false
+are_several named (kind ∷ kinds) = is_none (kind_kept named (kind ∷ kinds))
+
+-- the file is made of these maps, and it is known whether no kind is named for it and their tries have several
+abbrev pub IsMadeSo : Combine → List Meant → Made → Bool → Type 0
+IsMadeSo c maps made several = IsMadeOfMaps c.combination maps made × (several ≡ are_several c.combination.kind (map (λ m. m.0) maps))
 
 -- The file was made of the maps of the files, and written.
 pub record IsCombination (c : Combine) (input : Option (List ℕ)) (before after : World) : Type 0 where
@@ -167,7 +176,9 @@ HasCombineCause c input files (NotBuilt (build.Unwritten e)) = Unit {0}
 HasCombineCause c input files (NotBuilt build.Taken) = IsThere c.to files
 HasCombineCause c input files (NotBuilt (build.Unfound e)) = Unit {0}
 
--- whether no kind is named, and tries of these kinds have several
-abbrev pub are_several : Option TrieKind → List TrieKind → Bool
-are_several named [] = false
-are_several named (kind ∷ kinds) = is_none (kind_kept named (kind ∷ kinds))
+-- the number that an error has for a file is that of one
+abbrev pub NamesFile : Combine → CombineError → Type 0
+NamesFile c (Unopened number e) = number < length c.from.now
+NamesFile c (NoTrie number why is_text) = number < length c.from.now
+NamesFile c (NoValue why key) = Unit {0}
+NamesFile c (NotBuilt e) = Unit {0}

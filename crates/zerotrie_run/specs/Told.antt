@@ -1,5 +1,5 @@
 -- What is told of a run on standard error.
-use Rattle.std.specs.Prelude.{◌≡◌, ◌⊎◌, ◌==◌, ℕ, List, [], ◌++◌, length, map, Any, ◌&&◌, Option, Some, Bool, true, false, Result, Ok, Err, Vec, codes}
+use Rattle.std.specs.Prelude.{◌≡◌, ◌⊎◌, ◌==◌, ℕ, List, [], ◌++◌, length, Any, ◌&&◌, Option, Some, Bool, true, false, Result, Ok, Err, Vec, codes}
 use Rattle.std.specs.Io.KnownBytes.{Appends}
 use Rattle.zerotrie_files.specs.Disks.{Story}
 use Rattle.zerotrie_queries.specs.declared.file.OpenError.{OpenError}
@@ -7,7 +7,7 @@ use Rattle.zerotrie_queries.specs.Texts.{looks_like_text}
 use Rattle.zerotrie_making.specs.Made.{IsMade}
 use Rattle.zerotrie_making.specs.Made as made
 use Rattle.zerotrie_making.specs.declared.error.MakeError.{MakeError}
-use Rattle.zerotrie_making.specs.Combinations.{ExplainsMaps, IsMadeOfMaps}
+use Rattle.zerotrie_making.specs.Combinations.{ExplainsMaps}
 use Rattle.zerotrie_making.specs.declared.error.CombinationError.{CombinationError}
 use Rattle.zerotrie_making.specs.declared.plan.FileForm.{FileForm}
 use Rattle.zerotrie_making.specs.declared.plan.FileForm.TheVariants as form
@@ -19,7 +19,7 @@ use Rattle.zerotrie_run.specs.Runs.{IsRead, IsThere, IsUnopened, IsUnprinted, Ha
 use Rattle.zerotrie_run.specs.Diffs.{IsFileOf, NotesNumbers}
 use Rattle.zerotrie_run.specs.declared.command.Diff.{Diff}
 use Rattle.zerotrie_run.specs.declared.diff.DiffError.{DiffError}
-use Rattle.zerotrie_run.specs.Combined.{OfFiles, are_several, file_of, unmade_refusal}
+use Rattle.zerotrie_run.specs.Combined.{IsMadeSo, OfFiles, file_of, unmade_refusal}
 use Rattle.zerotrie_run.specs.Commands.{may_tell}
 use Rattle.zerotrie_run.specs.declared.status.Status.{Status}
 use Rattle.zerotrie_run.specs.declared.status.Status.TheVariants.{Done, Absent, Refused, Taken, BadUsage, BadInput, Unread, Unwritten, OutOfMemory, Closed}
@@ -129,8 +129,8 @@ combined_lines c several made = told_kind (several && (may_tell c.summary && has
 
 -- what a combination made is told
 abbrev pub TellsCombined : Combine → Option (List ℕ) → Option Story → (old new : Option (List ℕ)) → Type 0
-TellsCombined c input files old new = (made : Made) × OfFiles c input files (λ maps. IsMadeOfMaps c.combination maps made
-    × Appends old new (combined_lines c (are_several c.combination.kind (map (λ m. m.0) maps)) made))
+TellsCombined c input files old new = (made : Made) × (several : Bool) × OfFiles c input files (λ maps. IsMadeSo c maps made several)
+    × Appends old new (combined_lines c several made)
 
 -- a line tells why a file that was read has no trie, by its first fault
 abbrev pub TellsUnopened : TrieFile → Option (List ℕ) → Option Story → (old new : Option (List ℕ)) → Type 0

@@ -1,14 +1,16 @@
 //! A file that is made of the tries of others.
 
-ghost use Rattle.std.specs.Prelude.{◌≡◌, ◌<◌, ◌⊎◌, false, true, IfErr, IfOk, None, OnErr, OnOk, map};
+ghost use Rattle.std.specs.Prelude.{◌≡◌, ◌<◌, ◌⊎◌, false, IfErr, IfOk, None, OnErr, OnOk, map};
 ghost use Rattle.std.specs.Io.Buffered.{writer_contents};
+ghost use Rattle.std.specs.List.{AllZip};
 ghost use Rattle.zerotrie_files.specs.Notes.{NothingFailed, SameReads};
 ghost use Rattle.zerotrie_making.specs.declared.error.MakeError.TheVariants.{OutOfMemory};
 ghost use Rattle.zerotrie_run.specs.Failures.{CombineFailed, ReadFailed, WasClosed, WriteFailed};
-ghost use Rattle.zerotrie_run.specs.Commands.{Runs, TellsNumber, ReadsTwice, LeavesInput, tells_made};
+ghost use Rattle.zerotrie_run.specs.Commands.{Runs, TellsNumber, ReadsTwice, LeavesInput, may_tell, tells_made};
+ghost use Rattle.zerotrie_run.specs.Combined.{AreRead, AreUnopened, EndsCombine, HasCombineCause, IsCombination, IsMadeSo, IsUncombined, IsUnopenedAt, IsUnread, OfHeld, are_several, combine_fails, combine_refusal};
 ghost use Rattle.zerotrie_run.specs.Runs.{world, AreAllFiles, HandsOn, HaveTwoStreams, IsFreshAt, OpensBy};
 ghost use Rattle.zerotrie_run.specs.Statuses.{number_of};
-ghost use Rattle.zerotrie_run.specs.Told.{IsTold, Notes};
+ghost use Rattle.zerotrie_run.specs.Told.{IsTold, Notes, TellsCombined};
 ghost use Rattle.zerotrie_run.specs.declared.build.BuildError.TheVariants.{NotMade};
 ghost use Rattle.zerotrie_run.specs.declared.combine.CombineError.TheVariants.{NotBuilt};
 ghost use Rattle.zerotrie_run.specs.declared.command.Check.TheVariants.{Full};
@@ -47,7 +49,9 @@ pub enum CombineError {
 
 impl CombineError {
     /// Returns how the run ends if the command is refused. `None` if something failed.
-    pub fn refusal(&self) -> Option<Status> {
+    pub fn refusal(&self) -> Option<Status>
+        ensures { result ≡ combine_refusal self.now }
+    {
         match self {
             CombineError::Unopened(_, _) => None,
             CombineError::NoTrie(_, why, _) => match why {
@@ -92,7 +96,17 @@ fn read_all<D: Disk, R: Read>(
     places: &[Place<'_>],
     files: &mut Store<D>,
     input: &mut Noted<R>,
-) -> Result<Vec<Vec<u8>>, CombineError> {
+) -> Result<Vec<Vec<u8>>, CombineError>
+    requires { HaveTwoStreams places.now → ⊥ }
+    ensures read { IfOk result (λ held. AreRead places.now (R.remaining input.old.inner)
+        (D.story files.old.disk) (map (λ bytes. bytes.items) held.items)) }
+    ensures err { IfErr result (IsUnread places.now) }
+    ensures failed { IfErr result (CombineFailed (ReadFailed input.new files.new) ⊥) }
+    ensures same { files.new.disk ≡ files.old.disk }
+    ensures unwritten { files.new.unwritten ≡ files.old.unwritten }
+    ensures noted { OnOk result (SameReads input.old input.new files.old files.new) }
+    ensures unread { AreAllFiles places.now → input.new ≡ input.old }
+{
     let mut held = Vec::with_capacity(alloc, places.len())?;
     for number in 0..places.len() {
         match read_place(alloc, places[number], files, input) {
@@ -104,7 +118,10 @@ fn read_all<D: Disk, R: Read>(
 }
 
 /// Opens the trie that the file with this number holds, and validates its bytes.
-fn open_one(alloc: Global, number: usize, held: &[u8]) -> Result<TrieRef<'_>, CombineError> {
+fn open_one(alloc: Global, number: usize, held: &[u8]) -> Result<TrieRef<'_>, CombineError>
+    ensures ok { IfOk result (λ trie. OpensBy Full None held.now trie.kind trie.bytes.now) }
+    ensures err { IfErr result (IsUnopenedAt number held.now) }
+{
     match open_in_full(alloc, None, held) {
         Ok(trie) => Ok(trie),
         Err(why) => Err(CombineError::NoTrie(number, why, looks_like_text(held))),
@@ -112,7 +129,11 @@ fn open_one(alloc: Global, number: usize, held: &[u8]) -> Result<TrieRef<'_>, Co
 }
 
 /// Opens the trie that each file holds.
-fn open_all(alloc: Global, held: &[Vec<u8>]) -> Result<Vec<TrieRef<'_>>, CombineError> {
+fn open_all(alloc: Global, held: &[Vec<u8>]) -> Result<Vec<TrieRef<'_>>, CombineError>
+    ensures ok { IfOk result (λ tries. AllZip (λ bytes trie.
+        OpensBy Full None bytes.items trie.kind trie.bytes.now) held.now tries.items) }
+    ensures err { IfErr result (AreUnopened (map (λ bytes. bytes.items) held.now)) }
+{
     let mut tries = Vec::with_capacity(alloc, held.len())?;
     for number in 0..held.len() {
         match open_one(alloc, number, held[number].as_slice()) {
@@ -124,7 +145,9 @@ fn open_all(alloc: Global, held: &[Vec<u8>]) -> Result<Vec<TrieRef<'_>>, Combine
 }
 
 /// Returns whether no kind is named, and tries have several.
-fn have_several_kinds(named: Option<TrieKind>, tries: &[TrieRef<'_>]) -> bool {
+fn have_several_kinds(named: Option<TrieKind>, tries: &[TrieRef<'_>]) -> bool
+    ensures { result ≡ are_several named (map (λ trie. trie.kind) tries.now) }
+{
     !tries.is_empty() && kind_kept(named, tries).is_none()
 }
 
@@ -134,7 +157,12 @@ fn combine_held(
     alloc: Global,
     combine: Combine<'_>,
     held: &[Vec<u8>],
-) -> Result<(Made, bool), CombineError> {
+) -> Result<(Made, bool), CombineError>
+    ensures ok { IfOk result (λ r. OfHeld (map (λ bytes. bytes.items) held.now)
+        (λ maps. IsMadeSo combine.entry maps r.0 r.1)) }
+    ensures err { IfErr result (IsUncombined combine.entry
+        (map (λ bytes. bytes.items) held.now)) }
+{
     let tries = open_all(alloc, held)?;
     let several = have_several_kinds(combine.combination.kind, tries.as_slice());
     match make_combined(alloc, combine.combination, tries.as_slice()) {
@@ -155,7 +183,29 @@ fn make_file<D: Disk, R: Read, W: Write + Drop, M: Write>(
     input: &mut Noted<R>,
     output: &mut Noted<BufWriter<W>>,
     messages: &mut Noted<M>,
-) -> Result<(), CombineError> {
+) -> Result<(), CombineError>
+    requires { HaveTwoStreams combine.from.now → ⊥ }
+    ensures ok { OnOk result (IsCombination combine.entry (R.remaining input.old.inner)
+        (world (D.story files.old.disk) (writer_contents W.contents output.old.inner))
+        (world (D.story files.new.disk) (writer_contents W.contents output.new.inner))) }
+    ensures err { IfErr result (λ e. EndsCombine combine.entry (R.remaining input.old.inner)
+        (world (D.story files.old.disk) (writer_contents W.contents output.old.inner))
+        (world (D.story files.new.disk) (writer_contents W.contents output.new.inner))
+        (combine_refusal e)) }
+    ensures handed { OnOk result (HandsOn output.old.inner output.new.inner) }
+    ensures why { IfErr result (HasCombineCause combine.entry (R.remaining input.old.inner)
+        (D.story files.old.disk)) }
+    ensures done { OnOk result (messages.new.failed ≡ false
+        → TellsCombined combine.entry (R.remaining input.old.inner) (D.story files.old.disk)
+        (M.contents messages.old.inner) (M.contents messages.new.inner)) }
+    ensures untold { OnErr result (messages.new ≡ messages.old) }
+    ensures quiet { may_tell combine.entry.summary ≡ false → messages.new ≡ messages.old }
+    ensures noted { combine_fails result ≡ false
+        → NothingFailed input.old input.new output.old output.new files.old files.new }
+    ensures failed { IfErr result (CombineFailed (ReadFailed input.new files.new)
+        (WriteFailed output.new files.new)) }
+    ensures unread { AreAllFiles combine.entry.from.now → input.new ≡ input.old }
+{
     let held = read_all(alloc, combine.from, files, input)?;
     let (made, several) = combine_held(alloc, combine, held.as_slice())?;
     let done = combined_text(alloc, combine, several, &made)?;
@@ -177,7 +227,31 @@ fn combine<D: Disk, R: Read, W: Write + Drop, M: Write>(
     input: &mut Noted<R>,
     output: &mut Noted<BufWriter<W>>,
     messages: &mut Noted<M>,
-) -> Result<(), CombineError> {
+) -> Result<(), CombineError>
+    requires { HaveTwoStreams combine.from.now → ⊥ }
+    ensures ok { OnOk result (IsCombination combine.entry (R.remaining input.old.inner)
+        (world (D.story files.old.disk) (writer_contents W.contents output.old.inner))
+        (world (D.story files.new.disk) (writer_contents W.contents output.new.inner))) }
+    ensures fresh { OnOk result (IsFreshAt combine.entry.to combine.entry.no_clobber
+        (D.story files.old.disk)) }
+    ensures err { IfErr result (λ e. EndsCombine combine.entry (R.remaining input.old.inner)
+        (world (D.story files.old.disk) (writer_contents W.contents output.old.inner))
+        (world (D.story files.new.disk) (writer_contents W.contents output.new.inner))
+        (combine_refusal e)) }
+    ensures handed { OnOk result (HandsOn output.old.inner output.new.inner) }
+    ensures why { IfErr result (HasCombineCause combine.entry (R.remaining input.old.inner)
+        (D.story files.old.disk)) }
+    ensures done { OnOk result (messages.new.failed ≡ false
+        → TellsCombined combine.entry (R.remaining input.old.inner) (D.story files.old.disk)
+        (M.contents messages.old.inner) (M.contents messages.new.inner)) }
+    ensures untold { OnErr result (messages.new ≡ messages.old) }
+    ensures quiet { may_tell combine.entry.summary ≡ false → messages.new ≡ messages.old }
+    ensures noted { combine_fails result ≡ false
+        → NothingFailed input.old input.new output.old output.new files.old files.new }
+    ensures failed { IfErr result (CombineFailed (ReadFailed input.new files.new)
+        (WriteFailed output.new files.new)) }
+    ensures unread { AreAllFiles combine.entry.from.now → input.new ≡ input.old }
+{
     spare(combine.to, combine.no_clobber, files)?;
     make_file(alloc, combine, files, input, output, messages)
 }

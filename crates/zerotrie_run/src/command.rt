@@ -115,7 +115,9 @@ pub struct TrieFile<'a> {
     pub check: Check,
 }
 
-/// When a build or a combination reports how many keys its file has, and how long it is.
+/// When a build or a combination reports how many keys its file has, and how long it is. Before that a
+/// combination of tries of several kinds reports of which kind its file is, if none was named for it and
+/// it is no index, unless it is to report nothing.
 #[derive(Clone, Copy, PartialEq, Eq, Debug)]
 pub enum Summary {
     /// Never.

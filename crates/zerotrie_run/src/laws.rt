@@ -35,17 +35,17 @@ pub fn unmade_is_refused()
     ensures { UnmadeIsRefused }
 {}
 
-/// States that the file of a trie that was made of the tries of two others opens as the trie of the
-/// combination of their maps, if its kind is named as it was when it was made. So each question to it
-/// is answered by that.
+/// States that the file of a trie that was made of the tries of others opens as the trie of what the
+/// combination takes of their maps, if its kind is named as it was when it was made. So each question
+/// to it is answered by that.
 pub fn combined_opens()
     ensures { CombinedOpens }
 {
     one_trie();
 }
 
-/// States that a combination of the tries of two files is refused as bad input exactly if one of them
-/// has no trie, unless the new file is there already, the usage is bad, or something failed.
+/// States that a combination of the tries of files is refused as bad input exactly if one of them has
+/// no trie, unless the new file is there already, the usage is bad, or something failed.
 pub fn combine_refused_exactly()
     ensures { CombineRefusedExactly }
 {

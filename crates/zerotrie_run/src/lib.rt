@@ -14,8 +14,6 @@ mod program;
 mod status;
 mod stdin_lines;
 
-pub use command::{
-    Build, Check, Combine, Command, Diff, Keys, Place, Question, Summary, TrieFile,
-};
+pub use command::{Build, Check, Combine, Command, Diff, Keys, Place, Question, Summary, TrieFile};
 pub use program::run;
 pub use status::Status;

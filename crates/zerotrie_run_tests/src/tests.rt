@@ -14,7 +14,7 @@ use zerotrie_core::TrieKind;
 use zerotrie_files::{Disk, Noted, Store};
 use zerotrie_index::ZeroIndex;
 use zerotrie_lines::{Format, Header, LineEnd};
-use zerotrie_making::{Duplicates, FileForm, FilePlan, Plan, ReadPlan, Source};
+use zerotrie_making::{Combination, Duplicates, FileForm, FilePlan, Plan, ReadPlan, Source};
 use zerotrie_queries::{
     Asked, Choice, Form, Language, Order, Query, ReportForm, Spelling, Style, View,
 };
@@ -23,7 +23,7 @@ use zerotrie_run::{
 };
 use zerotrie_sealed::seal_index;
 use zerotrie_search::KeyRange;
-use zerotrie_sets::{Keep, Operation};
+use zerotrie_sets::{Rule, Selection};
 
 /// A run of the program: the files that are there, the words that are typed in, and what is to come of it.
 struct Row {
@@ -752,34 +752,109 @@ const DIFFS: [Row; 5] = [
     },
 ];
 
-/// The file of the pairs of either of two others.
-const EITHER: Combine<'static> = Combine {
-    operation: Operation::Union(Keep::First),
-    first: Place::File("one"),
-    second: Place::File("two"),
-    to: Place::File("names.trie"),
+/// Two files, and three.
+const TWO: &[Place<'static>] = &[Place::File("one"), Place::File("two")];
+
+const THREE: &[Place<'static>] = &[Place::File("one"), Place::File("two"), Place::File("three")];
+
+/// How the pairs of all files are one trie, in which a key has its first value.
+const UNION: Combination = Combination {
+    selection: Selection::Union,
+    rule: Rule::First,
     kind: None,
     form: FileForm::Tagged,
+};
+
+/// The file of them, of which is told only what may be a mistake.
+const ALL_PAIRS: Combine<'static> = Combine {
+    from: THREE,
+    to: Place::File("names.trie"),
+    combination: UNION,
     no_clobber: false,
+    summary: Summary::IfEmpty,
+};
+
+/// The same of two files.
+const EITHER: Combine<'static> = Combine {
+    from: TWO,
+    ..ALL_PAIRS
 };
 
 /// The trie of `a` with 5 and `b` with 7.
 const BOTH: &[u8] = b"\x00\xC2ab\x01\x85\x87";
 
-/// Files that are made of two others, and one that is not.
-const COMBINED: [Row; 12] = [
+/// Three tries that have each key twice, and together the pairs of `BOTH` first.
+const TWICE: &[(&str, &[u8])] = &[
+    ("one", b"\x00a\x85"),
+    ("two", b"\x00\xC2ab\x01\x86\x87"),
+    ("three", b"\x00b\x81"),
+];
+
+/// Three tries of kinds that differ.
+const SEVERAL: &[(&str, &[u8])] = &[
+    ("one", b"\x08ETag\x85"),
+    ("two", b"\x07ETag\x86"),
+    ("three", b"\x08ETag\x87"),
+];
+
+/// Files that are made of others, and of which that is told.
+const COMBINED: [Row; 13] = [
     Row {
-        files: &[("one", b"\x00a\x85"), ("two", b"\x00\xC2ab\x01\x86\x87")],
-        command: Command::Combine(EITHER),
+        files: TWICE,
+        command: Command::Combine(ALL_PAIRS),
         status: Status::Done,
         printed: b"",
         told: b"",
         left: ("names.trie", BOTH),
     },
     Row {
-        files: &[("one", b"\x00a\x85"), ("two", b"\x00\xC2ab\x01\x86\x87")],
+        files: TWICE,
         command: Command::Combine(Combine {
-            operation: Operation::Intersection(Keep::Last),
+            summary: Summary::Always,
+            ..ALL_PAIRS
+        }),
+        status: Status::Done,
+        printed: b"",
+        told: b"zerotrie: names.trie: 2 keys, 7 bytes\n",
+        left: ("names.trie", BOTH),
+    },
+    Row {
+        files: TWICE,
+        command: Command::Combine(Combine {
+            combination: Combination {
+                rule: Rule::Sum,
+                ..UNION
+            },
+            ..ALL_PAIRS
+        }),
+        status: Status::Done,
+        printed: b"",
+        told: b"",
+        left: ("names.trie", b"\x00\xC2ab\x01\x8B\x88"),
+    },
+    Row {
+        files: TWICE,
+        command: Command::Combine(Combine {
+            combination: Combination {
+                selection: Selection::Intersection,
+                rule: Rule::Last,
+                ..UNION
+            },
+            ..ALL_PAIRS
+        }),
+        status: Status::Done,
+        printed: b"",
+        told: b"zerotrie: names.trie: 0 keys, 1 bytes\n",
+        left: ("names.trie", b"\x00"),
+    },
+    Row {
+        files: TWICE,
+        command: Command::Combine(Combine {
+            combination: Combination {
+                selection: Selection::Intersection,
+                rule: Rule::Last,
+                ..UNION
+            },
             ..EITHER
         }),
         status: Status::Done,
@@ -788,10 +863,17 @@ const COMBINED: [Row; 12] = [
         left: ("names.trie", b"\x00a\x86"),
     },
     Row {
-        files: &[("one", BOTH), ("two", b"\x00b\x81")],
+        files: &[
+            ("one", BOTH),
+            ("two", b"\x00b\x81"),
+            ("three", b"\x00c\x81"),
+        ],
         command: Command::Combine(Combine {
-            operation: Operation::Difference,
-            ..EITHER
+            combination: Combination {
+                selection: Selection::Difference,
+                ..UNION
+            },
+            ..ALL_PAIRS
         }),
         status: Status::Done,
         printed: b"",
@@ -809,7 +891,11 @@ const COMBINED: [Row; 12] = [
     Row {
         files: &[("one", b"\x08ETag\x85"), ("two", b"\x08etag\x86")],
         command: Command::Combine(Combine {
-            operation: Operation::Intersection(Keep::Last),
+            combination: Combination {
+                selection: Selection::Intersection,
+                rule: Rule::Last,
+                ..UNION
+            },
             ..EITHER
         }),
         status: Status::Done,
@@ -821,12 +907,76 @@ const COMBINED: [Row; 12] = [
         files: &[
             ("one", b"\x08ETag\x85"),
             ("two", b"\x08\xC2ae\x01\x81tag\x86"),
+            ("three", b"\x08eTAG\x87"),
         ],
-        command: Command::Combine(EITHER),
+        command: Command::Combine(ALL_PAIRS),
         status: Status::Done,
         printed: b"",
         told: b"",
         left: ("names.trie", b"\x08\xC2aE\x01\x81Tag\x85"),
+    },
+    Row {
+        files: SEVERAL,
+        command: Command::Combine(ALL_PAIRS),
+        status: Status::Done,
+        printed: b"",
+        told: b"zerotrie: names.trie: the files have tries of several kinds, so it is of kind simple\n",
+        left: ("names.trie", b"\x00ETag\x85"),
+    },
+    Row {
+        files: SEVERAL,
+        command: Command::Combine(Combine {
+            summary: Summary::Never,
+            ..ALL_PAIRS
+        }),
+        status: Status::Done,
+        printed: b"",
+        told: b"",
+        left: ("names.trie", b"\x00ETag\x85"),
+    },
+    Row {
+        files: SEVERAL,
+        command: Command::Combine(Combine {
+            combination: Combination {
+                kind: Some(TrieKind::Hash),
+                ..UNION
+            },
+            ..ALL_PAIRS
+        }),
+        status: Status::Done,
+        printed: b"",
+        told: b"",
+        left: ("names.trie", b"\x03ETag\x85"),
+    },
+    Row {
+        files: SEVERAL,
+        command: Command::Combine(Combine {
+            summary: Summary::Always,
+            ..ALL_PAIRS
+        }),
+        status: Status::Done,
+        printed: b"",
+        told: b"zerotrie: names.trie: the files have tries of several kinds, so it is of kind simple\n\
+            zerotrie: names.trie: 1 key, 6 bytes\n",
+        left: ("names.trie", b"\x00ETag\x85"),
+    },
+];
+
+/// Why no file is made of others.
+const UNCOMBINED: [Row; 8] = [
+    Row {
+        files: TWICE,
+        command: Command::Combine(Combine {
+            combination: Combination {
+                rule: Rule::Refuse,
+                ..UNION
+            },
+            ..ALL_PAIRS
+        }),
+        status: Status::Refused,
+        printed: b"",
+        told: b"zerotrie: names.trie: more than one file has this key: a\n",
+        left: ("one", b"\x00a\x85"),
     },
     Row {
         files: &[("one", b"\x08ETag\x85"), ("two", b"\x08etagX\x86")],
@@ -837,38 +987,52 @@ const COMBINED: [Row; 12] = [
         left: ("one", b"\x08ETag\x85"),
     },
     Row {
-        files: &[("one", b"\x08ETag\x85"), ("two", b"\x07ETag\x86")],
-        command: Command::Combine(EITHER),
-        status: Status::Done,
-        printed: b"",
-        told: b"",
-        left: ("names.trie", b"\x00ETag\x85"),
-    },
-    Row {
-        files: &[("one", b"\x07a\x85"), ("two", b"\x07a\x86")],
+        files: &[("one", BOTH)],
         command: Command::Combine(Combine {
-            kind: Some(TrieKind::Hash),
-            ..EITHER
+            from: &[Place::Stream, Place::File("one"), Place::Stream],
+            ..ALL_PAIRS
         }),
-        status: Status::Done,
+        status: Status::BadUsage,
         printed: b"",
-        told: b"",
-        left: ("names.trie", b"\x03a\x85"),
-    },
-    Row {
-        files: &[("one", BOTH), ("two", b"")],
-        command: Command::Combine(EITHER),
-        status: Status::BadInput,
-        printed: b"",
-        told: b"zerotrie: two: the file is empty\n",
+        told: b"zerotrie: standard input can't be two of the files\n",
         left: ("one", BOTH),
     },
     Row {
-        files: &[("one", BOTH), ("names.trie", TRIE)],
-        command: Command::Combine(EITHER),
+        files: &[("one", BOTH), ("two", BOTH)],
+        command: Command::Combine(Combine {
+            from: &[Place::File("one"), Place::Stream, Place::File("two")],
+            ..ALL_PAIRS
+        }),
+        status: Status::BadInput,
+        printed: b"",
+        told: b"zerotrie: standard input: it looks like text: build it first\n",
+        left: ("one", BOTH),
+    },
+    Row {
+        files: &[("one", BOTH), ("two", BOTH), ("three", b"")],
+        command: Command::Combine(ALL_PAIRS),
+        status: Status::BadInput,
+        printed: b"",
+        told: b"zerotrie: three: the file is empty\n",
+        left: ("one", BOTH),
+    },
+    Row {
+        files: &[("one", BOTH), ("three", BOTH), ("names.trie", TRIE)],
+        command: Command::Combine(ALL_PAIRS),
         status: Status::Unread,
         printed: b"",
         told: b"zerotrie: two: entity not found\n",
+        left: ("names.trie", TRIE),
+    },
+    Row {
+        files: &[("one", BOTH), ("two", BOTH), ("names.trie", TRIE)],
+        command: Command::Combine(Combine {
+            no_clobber: true,
+            ..EITHER
+        }),
+        status: Status::Taken,
+        printed: b"",
+        told: b"zerotrie: names.trie: the file is there already, and --no-clobber leaves it\n",
         left: ("names.trie", TRIE),
     },
     Row {
@@ -1009,8 +1173,13 @@ fn files_are_compared(rt: HostRuntime) -> Result<(), Fail> {
 }
 
 #[test]
-fn a_file_is_made_of_two(rt: HostRuntime) -> Result<(), Fail> {
+fn a_file_is_made_of_others(rt: HostRuntime) -> Result<(), Fail> {
     are_run(&rt, rt.alloc(), &COMBINED)
+}
+
+#[test]
+fn why_no_file_is_made_of_others_is_told(rt: HostRuntime) -> Result<(), Fail> {
+    are_run(&rt, rt.alloc(), &UNCOMBINED)
 }
 
 #[test]

@@ -2,7 +2,7 @@
 
 use crate::calls::calls;
 use crate::listing::{
-    Combination, Difference, Matches, Nearest, Sorted, SortedMatches, ZeroTrieIterator, ZeroTrieKeys, ZeroTrieValues,
+    Combination, Difference, Matches, Nearest, Reversed, Sorted, SortedMatches, ZeroTrieIterator, ZeroTrieKeys, ZeroTrieValues,
     allocated,
 };
 use crate::look_ups::LookUps;

@@ -280,6 +280,19 @@ macro_rules! calls {
                 self.stream_sorted(bounds)
             }
 
+            /// Lists the same pairs from the last one on. A pair costs about two look-ups.
+            ///
+            /// ```
+            #[doc = concat!("use zerotrie::", stringify!($name), ";")]
+            ///
+            #[doc = concat!("let trie = ", stringify!($name), "::try_from_iter([(\"to\", 3), (\"in\", 1), (\"on\", 2)])?;")]
+            /// assert_eq!(trie.reversed("in".."to").map(|(_key, value)| value).collect::<Vec<_>>(), [2, 1]);
+            /// # Ok::<(), zerotrie::ZeroTrieBuildError>(())
+            /// ```
+            pub fn reversed<'p>(&self, bounds: impl Into<KeyRange<'p>>) -> Reversed<'_, 'p> {
+                Reversed::of(self.kind(), self.as_bytes(), bounds.into())
+            }
+
             /// Returns the least pair, by the bytes of its key, whose key is at least this one.
             ///
             /// ```

@@ -1,5 +1,6 @@
 //! Listings: iterators whose pairs can also be read without a copy of the key.
 
+use crate::any::last;
 use crate::by_kind;
 use crate::rstd::alloc::{AllocError, Global};
 use crate::zerotrie_core::{self, PairStream, TrieKind, ZeroTrieWithOptions};
@@ -11,6 +12,8 @@ use alloc::alloc::{Layout, handle_alloc_error};
 use alloc::string::String;
 use alloc::vec::Vec;
 use core::fmt;
+use core::iter::FusedIterator;
+use core::ops::Bound;
 
 /// Returns what a call of the library returns. If an allocation failed, ends the program as a `Vec`
 /// does.
@@ -305,6 +308,52 @@ fn sorted_of<'a, 'p, K: ZeroTrieWithOptions>(
 ) -> Result<ZeroTrieSorted<'a, 'p>, AllocError> {
     ZeroTrieSorted::new::<K>(Global, bytes, bounds.from, bounds.to)
 }
+
+/// The pairs of a trie between two bounds, in descending order of bytes.
+///
+/// ```
+/// use zerotrie::ZeroTriePerfectHash;
+///
+/// let trie = ZeroTriePerfectHash::try_from_iter([("in", 1), ("on", 2), ("to", 3)])?;
+/// let last: Vec<_> = trie.reversed(..).take(2).collect();
+/// assert_eq!(last, [(b"to".to_vec(), 3), (b"on".to_vec(), 2)]);
+/// # Ok::<(), zerotrie::ZeroTrieBuildError>(())
+/// ```
+#[derive(Clone, Debug)]
+pub struct Reversed<'a, 'p> {
+    kind: TrieKind,
+    bytes: &'a [u8],
+    bounds: KeyRange<'p>,
+    /// The key of the pair that was listed last: those to come are below it.
+    listed: Option<Vec<u8>>,
+}
+
+impl<'a, 'p> Reversed<'a, 'p> {
+    /// Lists the pairs of a trie between two bounds.
+    pub(crate) fn of(kind: TrieKind, bytes: &'a [u8], bounds: KeyRange<'p>) -> Self {
+        Reversed {
+            kind,
+            bytes,
+            bounds,
+            listed: None,
+        }
+    }
+}
+
+impl Iterator for Reversed<'_, '_> {
+    type Item = (Vec<u8>, usize);
+
+    fn next(&mut self) -> Option<Self::Item> {
+        let KeyRange { from, to } = self.bounds;
+        let to = self.listed.as_deref().map_or(to, Bound::Excluded);
+        let pair = last(self.kind, self.bytes, KeyRange { from, to });
+        // no key is below the empty one, so the end stays the end
+        self.listed = Some(pair.as_ref().map_or(Vec::new(), |(key, _)| key.clone()));
+        pair
+    }
+}
+
+impl FusedIterator for Reversed<'_, '_> {}
 
 /// A search in the order of bytes, as the listing of `SortedMatches`.
 pub struct SortedSearch<'a, 'p, T: Automaton>(ZeroTrieSortedSearch<'a, 'p, T>);

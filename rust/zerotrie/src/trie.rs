@@ -4,7 +4,7 @@ use crate::any::{Trie, fault, first, last, lent, sorted, tagged};
 use crate::by_kind;
 use crate::calls::calls;
 use crate::listing::{
-    Combination, Difference, Matches, Nearest, Sorted, SortedMatches, ZeroTrieIterator, ZeroTrieKeys,
+    Combination, Difference, Matches, Nearest, Reversed, Sorted, SortedMatches, ZeroTrieIterator, ZeroTrieKeys,
     ZeroTrieStringIterator, ZeroTrieStringKeys, ZeroTrieValues, allocated,
 };
 use crate::look_ups::LookUps;

@@ -1,6 +1,10 @@
 //! Messages on a trie file that is made of others.
 
-ghost use Rattle.std.specs.Prelude.{◌≡◌, IfOk, OnOk};
+ghost use Rattle.std.specs.Prelude.{◌≡◌, ◌<◌, ◌&&◌, length, false, IfOk};
+ghost use Rattle.zerotrie_run.specs.Combined.{IsNumbered, NamesFile, file_of};
+ghost use Rattle.zerotrie_run.specs.Commands.{may_tell};
+ghost use Rattle.zerotrie_run.specs.Messages.{IsLineOn, Says, TellsCombine, told_key, value_words};
+ghost use Rattle.zerotrie_run.specs.Told.{LineTold, combined_lines, has_kind, told_kind};
 
 use crate::build::is_told;
 use crate::combine::CombineError;
@@ -8,7 +12,9 @@ use crate::command::{Check, Combine, Place, Summary, TrieFile};
 use crate::messages::ask::no_trie;
 use crate::messages::build::{made_text, unbuilt};
 use crate::messages::key::add_key;
-use crate::messages::line::{add, add_words, begin_line, end_line, fault_on, source_name, target_name, tell};
+use crate::messages::line::{
+    add, add_words, begin_line, end_line, fault_on, source_name, target_name, tell,
+};
 use crate::messages::pairs::PairUnit;
 use std::alloc::{AllocError, Global};
 use std::io::Write;
@@ -18,12 +24,28 @@ use zerotrie_making::{FileForm, Made};
 use zerotrie_sets::RuleError;
 
 /// Says that standard input can't be two of the files. Takes no memory.
-pub fn tell_two_streams<M: Write>(messages: &mut Noted<M>) {
-    tell(messages, b"zerotrie: standard input can't be two of the files\n");
+pub fn tell_two_streams<M: Write>(messages: &mut Noted<M>)
+    ensures { messages.new.failed ≡ false → (messages.old.failed ≡ false)
+        × LineTold (M.contents messages.old.inner) (M.contents messages.new.inner) }
+{
+    tell(
+        messages,
+        b"zerotrie: standard input can't be two of the files\n",
+    );
+}
+
+/// Returns the file with this number, from 0 on.
+fn numbered<'a>(combine: Combine<'a>, number: usize) -> Place<'a>
+    requires { number < length combine.from.now }
+    ensures { IsNumbered combine.entry.from.now number result }
+{
+    combine.from[number]
 }
 
 /// Returns how one of the files is read.
-fn file_of(place: Place<'_>) -> TrieFile<'_> {
+fn file_of(place: Place<'_>) -> TrieFile<'_>
+    ensures { result ≡ file_of place.entry }
+{
     TrieFile {
         place,
         bare: None,
@@ -32,7 +54,9 @@ fn file_of(place: Place<'_>) -> TrieFile<'_> {
 }
 
 /// Returns why a key that is taken gets no value.
-fn value_words(why: RuleError) -> &'static str {
+fn value_words(why: RuleError) -> &'static str
+    ensures { result.now ≡ value_words why }
+{
     match why {
         RuleError::SeveralValues => "more than one file has this key: ",
         RuleError::SumTooLarge => "the sum of the values of this key is 2^64 or more: ",
@@ -40,12 +64,12 @@ fn value_words(why: RuleError) -> &'static str {
 }
 
 /// Returns a line that says that a key gets no value, and why.
-fn no_value(
-    alloc: Global,
-    place: &str,
-    why: RuleError,
-    key: &[u8],
-) -> Result<Vec<u8>, AllocError> {
+#[tactic(auto, using(crate::proofs::MessageLemmas::extends_both, crate::proofs::MessageLemmas::line_here, crate::proofs::MessageLemmas::says_on))]
+fn no_value(alloc: Global, place: &str, why: RuleError, key: &[u8]) -> Result<Vec<u8>, AllocError>
+    ensures line { IfOk result (λ text. IsLineOn place.now text.items) }
+    ensures why { IfOk result (λ text. Says text.items (value_words why)) }
+    ensures key { IfOk result (λ text. Says text.items (told_key key.now)) }
+{
     let mut text = begin_line(alloc, place)?;
     add_words(&mut text, value_words(why))?;
     add_key(&mut text, key)?;
@@ -58,15 +82,18 @@ pub fn combine_text(
     alloc: Global,
     combine: Combine<'_>,
     error: &CombineError,
-) -> Result<Vec<u8>, AllocError> {
+) -> Result<Vec<u8>, AllocError>
+    requires { NamesFile combine error.now }
+    ensures { IfOk result (λ text. TellsCombine combine.entry error.now text.items) }
+{
     // no file has the pairs that are taken, so a line on them is on the file that is made
     let to = target_name(combine.to);
     match error {
         CombineError::Unopened(number, error) => {
-            fault_on(alloc, source_name(combine.from[*number]), error)
+            fault_on(alloc, source_name(numbered(combine, *number)), error)
         }
         CombineError::NoTrie(number, why, is_text) => {
-            no_trie(alloc, file_of(combine.from[*number]), why, *is_text)
+            no_trie(alloc, file_of(numbered(combine, *number)), why, *is_text)
         }
         CombineError::NoValue(why, key) => no_value(alloc, to, *why, key.as_slice()),
         CombineError::NotBuilt(error) => unbuilt(alloc, to, PairUnit::Pair, to, error),
@@ -75,7 +102,10 @@ pub fn combine_text(
 
 /// Returns whether it is told of which kind a file is, if no kind is named for it and the tries of the
 /// files have several.
-fn tells_kind(combine: Combine<'_>) -> bool {
+fn tells_kind(combine: Combine<'_>) -> bool
+    ensures { result ≡ (may_tell combine.entry.summary
+        && has_kind combine.entry.combination.form) }
+{
     combine.summary != Summary::Never && combine.combination.form != FileForm::Index
 }
 
@@ -85,7 +115,9 @@ fn kind_text(
     is_told: bool,
     place: &str,
     kind: TrieKind,
-) -> Result<Vec<u8>, AllocError> {
+) -> Result<Vec<u8>, AllocError>
+    ensures { IfOk result (λ text. text.items ≡ told_kind is_told place.now kind) }
+{
     if !is_told {
         return Ok(Vec::new(alloc));
     }
@@ -106,7 +138,9 @@ pub fn combined_text(
     combine: Combine<'_>,
     several: bool,
     made: &Made,
-) -> Result<Vec<u8>, AllocError> {
+) -> Result<Vec<u8>, AllocError>
+    ensures { IfOk result (λ text. text.items ≡ combined_lines combine.entry several made.now) }
+{
     let place = target_name(combine.to);
     let mut text = kind_text(alloc, several && tells_kind(combine), place, made.kind)?;
     let is_told = is_told(combine.summary, made.keys);

@@ -1,6 +1,7 @@
 use Rattle.std.proofs.Common.{◌∙◌, ap, inl, inr, arith, sym, subst, take, ◌+◌}
+use Rattle.std.specs.List.{AllZip}
 use Rattle.zerotrie_sets.specs.Rows.{EachAscends}
-use Rattle.zerotrie_c.specs.Sets.{Alike, AreOfTrie}
+use Rattle.zerotrie_c.specs.Sets.{AreOfTrie}
 use Rattle.zerotrie_c.proofs.SetLemmas.{alike_next, any_at, ascend_more, lefts, lefts_more}
 use Rattle.zerotrie_c.proofs.sets.streams_of.Goals as goal
 
@@ -11,7 +12,7 @@ loop-trie-preserved c =
     let s = c.in-Ok.stream in
     let more = ap lefts c.in_ok-push-in-Ok.ensures.items ∙ lefts_more l.streams.items s in
     record {
-      lists = subst (λ ps. Alike AreOfTrie (take (l.trie-index + 1) xs) ps) (sym more)
+      lists = subst (λ ps. AllZip AreOfTrie (take (l.trie-index + 1) xs) ps) (sym more)
           (alike_next AreOfTrie xs l.trie-index _ (lefts l.streams.items) s.left.pairs (omega (arith, c.loop-trie-test.true)) l.invariant.lists c.in-Ok.ensures.pairs);
       ascend = subst EachAscends (sym more) (ascend_more (lefts l.streams.items) s.left.pairs l.invariant.ascend c.in-Ok.ensures.ascend);
     }

@@ -10,8 +10,8 @@ use Rattle.zerotrie_making.proofs.file.make_numbered.Goals as goal
 pub returns-in-Refuse-clause-err : goal.returns-in-Refuse-clause-err
 returns-in-Refuse-clause-err c =
     let pairs = pairs_of c.args.items.now in
-    IfErr-weaker c.make_counted.result _ _ (λ e. kept_refusal c.args.plan pairs e)
-    (subst (λ d. IfErr c.make_counted.result (λ e. ExplainsOf c.args.plan.file (number_at d pairs) (kept d pairs) e)) (sym c.in-Refuse.is) c.make_counted.ensures.err)
+    IfErr-weaker c.make_of.result _ _ (λ e. kept_refusal c.args.plan pairs e)
+    (subst (λ d. IfErr c.make_of.result (λ e. ExplainsOf c.args.plan.file (number_at d pairs) (kept d pairs) e)) (sym c.in-Refuse.is) c.make_of.ensures.err)
 
 pub returns-in_ok-firsts-in-First-clause-err : goal.returns-in_ok-firsts-in-First-clause-err
 returns-in_ok-firsts-in-First-clause-err c =

@@ -1,25 +1,28 @@
-use Rattle.std.proofs.Common.{◌||◌, [], refl}
+use Rattle.std.proofs.Common.{◌||◌, [], refl, subst, sym}
 use Rattle.std.proofs.KnownBytes.{Appends-nil}
 use Rattle.std.specs.Io.Buffered.{writer_contents}
 use Rattle.zerotrie_run.specs.Combined.{combine_refusal}
 use Rattle.zerotrie_run.specs.Runs.{world}
+use Rattle.zerotrie_run.specs.Told.{TellsMore}
 use Rattle.zerotrie_run.specs.declared.command.Command.TheVariants as commands
 use Rattle.zerotrie_run.proofs.CombinedEnds.{combine_ends}
+use Rattle.zerotrie_run.proofs.CombinedLemmas.{cause_names}
 use Rattle.zerotrie_run.proofs.CombinedTold.{combine_told}
 use Rattle.zerotrie_run.proofs.NoteLemmas.{was_refused}
 use Rattle.zerotrie_run.proofs.combine.run_combine.Goals as goal
 
-pub returns-then-are_one_stream-clause-told : goal.returns-then-are_one_stream-clause-told
-returns-then-are_one_stream-clause-told g c = λ ok. (c.tell_one_stream.ensures ok).1
+pub returns-then-have_two_streams-clause-told : goal.returns-then-have_two_streams-clause-told
+returns-then-have_two_streams-clause-told g c = λ ok. (c.tell_two_streams.ensures ok).1
 
 pub returns-in-Err-clause-told : goal.returns-in-Err-clause-told
 returns-in-Err-clause-told g c = λ ok.
     let contents = g.M.Write.contents in
     let told = c.end.ensures.told ok in
     let old = contents c.args.messages.now.inner in
-    combine_told (commands.Combine c.args.both) c.args.both (g.R.Read.remaining c.args.input.now.inner) (g.D.Disk.story c.args.files.now.disk) old old
+    combine_told (commands.Combine c.args.given) c.args.given (g.R.Read.remaining c.args.input.now.inner) (g.D.Disk.story c.args.files.now.disk) old (contents c.combine.new.messages.inner)
     (contents c.end.new.messages.inner) _ _ _ c.in-Err.error c.end_of-status.result c.end.result c.combine_text.result refl c.in-Err.ensures.why
-    (rw c.refusal.ensures at c.end_of-status.ensures) c.combine_text.ensures ([], Appends-nil old) c.end.ensures.status told.1
+    (rw c.refusal.ensures at c.end_of-status.ensures) c.combine_text.ensures
+    (subst (λ m. TellsMore old (contents m.inner)) (sym c.in-Err.ensures.untold) ([], Appends-nil old)) c.end.ensures.status told.1
 
 pub returns-in-Err-clause-failed : goal.returns-in-Err-clause-failed
 returns-in-Err-clause-failed g c = λ other.
@@ -36,5 +39,5 @@ returns-in-Err-clause-runs g c =
     let read = c.combine.new.input.failed || c.combine.new.files.unread in
     let write = c.combine.new.output.failed || c.combine.new.files.unwritten in
     let closed = c.combine.new.output.closed || c.combine.new.files.closed in
-    combine_ends c.args.both (g.R.Read.remaining c.args.input.now.inner) (world (story c.args.files.now.disk) (printed c.args.output.now.inner)) (world (story c.combine.new.files.disk) (printed c.combine.new.output.inner))
+    combine_ends c.args.given (g.R.Read.remaining c.args.input.now.inner) (world (story c.args.files.now.disk) (printed c.args.output.now.inner)) (world (story c.combine.new.files.disk) (printed c.combine.new.output.inner))
     read write closed c.in-Err.error c.end_of-status.result c.end.result c.combine_text.result c.in-Err.ensures.err (rw c.refusal.ensures at c.end_of-status.ensures) c.end.ensures.status
