@@ -1,5 +1,5 @@
 -- How a run ends in which no trie file is made of others.
-use Rattle.std.proofs.Common.{◌≡◌, ℕ, List, Option, Some, None, Bool, true, false, Result, Ok, Err, Vec, Global, inl}
+use Rattle.std.proofs.Common.{◌≡◌, refl, inr, ℕ, List, Option, Some, None, Bool, true, false, Result, Ok, Err, Vec, Global, inl}
 use Rattle.std.specs.Prelude.{unwrap_or}
 use Rattle.std.specs.declared.alloc.AllocError.{AllocError}
 use Rattle.zerotrie_queries.specs.declared.file.OpenError.TheVariants as unopened
@@ -15,6 +15,7 @@ use Rattle.zerotrie_run.specs.declared.combine.CombineError.TheVariants.{Unopene
 use Rattle.zerotrie_run.specs.declared.command.Combine.{Combine}
 use Rattle.zerotrie_run.specs.declared.status.Status.{Status}
 use Rattle.zerotrie_run.specs.declared.status.Status.TheVariants.{Done, Absent, Refused, Taken, BadUsage, BadInput, Unread, Unwritten, OutOfMemory, Closed}
+use Rattle.zerotrie_run.proofs.ToldLemmas.{IsEnd, end_memory, end_none}
 
 -- what is known of the end, by whether the command is refused
 data Ends : Option Status → Type 0 where
@@ -75,3 +76,22 @@ ends_by c i before after read write closed (Some Closed) r ends h = elim ends [ 
 pub combine_ends : (c : Combine) (i : Option (List ℕ)) (before after : World) (read write closed : Bool) (e : CombineError) (status result : Status) (r : Result (Vec ℕ Global) AllocError)
     → EndsCombine c i before after (combine_refusal e) → status ≡ unwrap_or (combine_refusal e) (failure read write closed) → result ≡ ended status r → RunsCombine c i before after result
 combine_ends c i before after read write closed e status result r h is ends = rw (ends, is) (ends_by c i before after read write closed (combine_refusal e) r (ends_of e) h)
+
+-- the status of one for which no file is made
+end_by : (read write closed : Bool) (refusal : Option Status) (r : Result (Vec ℕ Global) AllocError) → Ends refusal → IsEnd read write closed refusal (ended (unwrap_or refusal (failure read write closed)) r)
+end_by read write closed refusal (Err x) ends = end_memory read write closed refusal
+end_by read write closed None (Ok text) failed = end_none read write closed
+end_by read write closed (Some Refused) (Ok text) refused = record { unread = λ is. absurd (cc); unwritten = λ is. absurd (cc); closed = λ is. absurd (cc); pipe_closed = λ is. absurd (cc); not_closed = λ is. absurd (cc); usage = λ is. absurd (cc); input = λ is. absurd (cc); open_end = λ is. elim is [ inl e ↦ absurd (cc) | inr e ↦ absurd (cc) ] }
+end_by read write closed (Some Taken) (Ok text) taken = record { unread = λ is. absurd (cc); unwritten = λ is. absurd (cc); closed = λ is. absurd (cc); pipe_closed = λ is. absurd (cc); not_closed = λ is. absurd (cc); usage = λ is. absurd (cc); input = λ is. absurd (cc); open_end = λ is. elim is [ inl e ↦ absurd (cc) | inr e ↦ absurd (cc) ] }
+end_by read write closed (Some BadInput) (Ok text) input = record { unread = λ is. absurd (cc); unwritten = λ is. absurd (cc); closed = λ is. absurd (cc); pipe_closed = λ is. absurd (cc); not_closed = λ is. absurd (cc); usage = λ is. absurd (cc); input = λ _. refl; open_end = λ is. elim is [ inl e ↦ absurd (cc) | inr e ↦ absurd (cc) ] }
+end_by read write closed (Some Done) (Ok text) ends = elim ends [ ]
+end_by read write closed (Some Absent) (Ok text) ends = elim ends [ ]
+end_by read write closed (Some BadUsage) (Ok text) ends = elim ends [ ]
+end_by read write closed (Some Unread) (Ok text) ends = elim ends [ ]
+end_by read write closed (Some Unwritten) (Ok text) ends = elim ends [ ]
+end_by read write closed (Some OutOfMemory) (Ok text) ends = elim ends [ ]
+end_by read write closed (Some Closed) (Ok text) ends = elim ends [ ]
+
+pub combine_end : (read write closed : Bool) (e : CombineError) (status result : Status) (r : Result (Vec ℕ Global) AllocError) → status ≡ unwrap_or (combine_refusal e) (failure read write closed) → result ≡ ended status r
+    → IsEnd read write closed (combine_refusal e) result
+combine_end read write closed e status result r is ends = rw (ends, is) (end_by read write closed (combine_refusal e) r (ends_of e))

@@ -173,13 +173,13 @@ pub record IsEnd (read write shut : Bool) (refusal : Option Status) (s : Status)
   pub input : s ≡ BadInput → refusal ≡ Some BadInput
   pub open_end : (s ≡ Done) ⊎ (s ≡ Absent) → ⊥
 
-end_none : (read write closed : Bool) → IsEnd read write closed None (failure read write closed)
+pub end_none : (read write closed : Bool) → IsEnd read write closed None (failure read write closed)
 end_none true write closed = record { unread = λ _. refl; unwritten = λ is. absurd (cc); closed = λ is. absurd (cc); pipe_closed = λ is. absurd (cc); not_closed = λ is. absurd (cc); usage = λ is. absurd (cc); input = λ is. absurd (cc); open_end = λ is. elim is [ inl e ↦ absurd (cc) | inr e ↦ absurd (cc) ] }
 end_none false false closed = record { unread = λ is. absurd (cc); unwritten = λ is. absurd (cc); closed = λ is. absurd (cc); pipe_closed = λ is. absurd (cc); not_closed = λ is. absurd (cc); usage = λ is. absurd (cc); input = λ is. absurd (cc); open_end = λ is. elim is [ inl e ↦ absurd (cc) | inr e ↦ absurd (cc) ] }
 end_none false true true = record { unread = λ is. absurd (cc); unwritten = λ is. absurd (cc); closed = λ _. refl; pipe_closed = λ _. refl; not_closed = λ is. absurd (cc); usage = λ is. absurd (cc); input = λ is. absurd (cc); open_end = λ is. elim is [ inl e ↦ absurd (cc) | inr e ↦ absurd (cc) ] }
 end_none false true false = record { unread = λ is. absurd (cc); unwritten = λ _. refl; closed = λ is. absurd (cc); pipe_closed = λ is. absurd (cc); not_closed = λ _. refl; usage = λ is. absurd (cc); input = λ is. absurd (cc); open_end = λ is. elim is [ inl e ↦ absurd (cc) | inr e ↦ absurd (cc) ] }
 
-end_memory : (read write closed : Bool) (refusal : Option Status) → IsEnd read write closed refusal OutOfMemory
+pub end_memory : (read write closed : Bool) (refusal : Option Status) → IsEnd read write closed refusal OutOfMemory
 end_memory read write closed refusal = record { unread = λ is. absurd (cc); unwritten = λ is. absurd (cc); closed = λ is. absurd (cc); pipe_closed = λ is. absurd (cc); not_closed = λ is. absurd (cc); usage = λ is. absurd (cc); input = λ is. absurd (cc); open_end = λ is. elim is [ inl e ↦ absurd (cc) | inr e ↦ absurd (cc) ] }
 
 end_by : (read write closed : Bool) (refusal : Option Status) (r : Result (Vec ℕ Global) AllocError) → Ends refusal → IsEnd read write closed refusal (ended (unwrap_or refusal (failure read write closed)) r)

@@ -10,7 +10,7 @@ pub returns-in-Err-clause-err : goal.returns-in-Err-clause-err
 returns-in-Err-clause-err c =
     let l = c.loop-number in
     let bytes = c.index-held-number.result in
-    let same = c.as_slice.ensures.value ∙ ap (λ b. b.items) (sym c.index-held-number.is) in
+    let same = c.as_slice.ensures.value ∙ ap (λ b. b.items) c.index-held-number.is in
     none_at c.args.held.now l.number bytes c.in-Err.error c.loop-number-test.true (subst (λ held. IsUnopenedAt l.number held c.in-Err.error) same c.in-Err.ensures.err)
 
 pub loop-number-preserved : goal.loop-number-preserved
@@ -18,7 +18,7 @@ loop-number-preserved c =
     let l = c.loop-number in
     let bytes = c.index-held-number.result in
     let trie = c.in-Ok.trie in
-    let same = c.as_slice.ensures.value ∙ ap (λ b. b.items) (sym c.index-held-number.is) in
+    let same = c.as_slice.ensures.value ∙ ap (λ b. b.items) c.index-held-number.is in
     subst (λ tries. AllZip OpensTrie (take (l.number + 1) c.args.held.now) tries) (sym c.in_ok-push-in-Ok.ensures.items)
     (zip_next OpensTrie c.args.held.now l.number bytes l.tries.items trie c.loop-number-test.true l.invariant
     (subst (λ held. OpensBy Full None held trie.kind trie.bytes.now) same c.in-Ok.ensures.ok))
