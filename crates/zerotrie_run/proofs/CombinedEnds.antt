@@ -1,5 +1,5 @@
 -- How a run ends in which no trie file is made of others.
-use Rattle.std.proofs.Common.{◌≡◌, refl, inr, ℕ, List, Option, Some, None, Bool, true, false, Result, Ok, Err, Vec, Global, inl}
+use Rattle.std.proofs.Common.{◌≡◌, ℕ, List, Option, Some, None, Bool, true, false, Result, Ok, Err, Vec, Global, refl, inl, inr}
 use Rattle.std.specs.Prelude.{unwrap_or}
 use Rattle.std.specs.declared.alloc.AllocError.{AllocError}
 use Rattle.zerotrie_queries.specs.declared.file.OpenError.TheVariants as unopened
@@ -77,7 +77,7 @@ pub combine_ends : (c : Combine) (i : Option (List ℕ)) (before after : World) 
     → EndsCombine c i before after (combine_refusal e) → status ≡ unwrap_or (combine_refusal e) (failure read write closed) → result ≡ ended status r → RunsCombine c i before after result
 combine_ends c i before after read write closed e status result r h is ends = rw (ends, is) (ends_by c i before after read write closed (combine_refusal e) r (ends_of e) h)
 
--- the status of one for which no file is made
+-- the status of a combination that is not made: what failed, or that it is refused
 end_by : (read write closed : Bool) (refusal : Option Status) (r : Result (Vec ℕ Global) AllocError) → Ends refusal → IsEnd read write closed refusal (ended (unwrap_or refusal (failure read write closed)) r)
 end_by read write closed refusal (Err x) ends = end_memory read write closed refusal
 end_by read write closed None (Ok text) failed = end_none read write closed
