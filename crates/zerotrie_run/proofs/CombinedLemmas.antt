@@ -13,13 +13,12 @@ use Rattle.zerotrie_files.specs.Disks.{Story}
 use Rattle.zerotrie_queries.specs.declared.file.OpenError.{OpenError}
 use Rattle.zerotrie_queries.specs.declared.file.OpenError.TheVariants as unopened
 use Rattle.zerotrie_making.specs.Combinations.{Meant, IsMeant, OfMeant, ExplainsMaps, IsMadeOfMaps}
-use Rattle.zerotrie_making.specs.declared.error.CombinationError.{CombinationError}
 use Rattle.zerotrie_making.specs.declared.error.CombinationError.TheVariants as combination
 use Rattle.zerotrie_making.specs.declared.error.MakeError.{MakeError}
 use Rattle.zerotrie_making.specs.declared.error.MakeError.TheVariants as made
 use Rattle.zerotrie_making.specs.declared.plan.Made.{Made}
 use Rattle.zerotrie_run.specs.Runs.{world, HasNoTrie, IsNotBegun, IsRead, OpensBy}
-use Rattle.zerotrie_run.specs.Combined.{AreRead, AreUnopened, EndsCombine, HasCombineCause, HasMap, HasNoTrieAt, IsMadeSo, IsNumbered, IsUncombined, IsUnopenedAt, IsUnread, NamesFile, OfFiles, OfHeld, are_several, combine_refusal, error_of, file_of}
+use Rattle.zerotrie_run.specs.Combined.{AreRead, AreUnopened, EndsCombine, HasCombineCause, HasMap, HasNoTrieAt, IsMadeSo, IsNumbered, IsUncombined, IsUnopenedAt, IsUnread, NamesFile, OfHeld, are_several, combine_refusal, file_of}
 use Rattle.zerotrie_run.specs.declared.build.BuildError.{BuildError}
 use Rattle.zerotrie_run.specs.declared.build.BuildError.TheVariants as build
 use Rattle.zerotrie_run.specs.declared.combine.CombineError.{CombineError}
@@ -129,12 +128,6 @@ all_cons P x xs h more (suc k) d below = more k d (omega (arith, below))
 abbrev IsTrie : TrieRef → Type 0
 IsTrie trie = IsWellFormed (kind_of trie.kind) trie.bytes.now
 
--- why no file is made of them
-pub explained : (c : Combine) (held : List (Vec ℕ Global)) (tries : List TrieRef) (e : CombinationError) → AllZip OpensTrie held tries → OfMeant tries (λ maps. ExplainsMaps c.combination maps e)
-    → IsUncombined c (map bytes_in held) (error_of e)
-explained c held tries (combination.NoValue why key) h fact = of_held held tries (λ maps. ExplainsMaps c.combination maps (combination.NoValue why key)) h fact
-explained c held tries (combination.NotMade e) h fact = inr (of_held held tries (λ maps. ExplainsMaps c.combination maps (combination.NotMade e)) h fact)
-
 -- each of them is a trie
 pub all_well : (held : List (Vec ℕ Global)) (tries : List TrieRef) → AllZip OpensTrie held tries → All (λ trie. IsWellFormed (kind_of trie.kind) trie.bytes.now) tries
 all_well [] [] h = λ k d below. absurd (omega (arith, below))
@@ -161,11 +154,6 @@ unopened_uncombined c held (NotBuilt (build.NotMade e)) h = inl (cc)
 unopened_uncombined c held (NotBuilt (build.Unwritten e)) h = absurd (cc)
 unopened_uncombined c held (NotBuilt build.Taken) h = absurd (cc)
 unopened_uncombined c held (NotBuilt (build.Unfound e)) h = absurd (cc)
-
--- the files of which a file was made
-pub made_of : (c : Combine) (I : Option (List ℕ)) (F : Option Story) (held : List (List ℕ)) (file : Made) (several : Bool) → AreRead c.from.now I F held → OfHeld held (λ maps. IsMadeSo c maps file several)
-    → OfFiles c I F (λ maps. IsMadeOfMaps c.combination maps file)
-made_of c I F held file several read h = (held, read, (h.0, h.1, h.2.0))
 
 -- ---- how the command ends
 

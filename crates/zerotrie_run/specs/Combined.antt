@@ -115,11 +115,6 @@ combine_refusal (NoTrie number why is_text) = unopened_refusal why
 combine_refusal (NoValue why key) = Some Refused
 combine_refusal (NotBuilt e) = build_refusal e
 
--- the error of a combination as one of a command
-abbrev pub error_of : CombinationError → CombineError
-error_of (combination.NoValue why key) = NoValue why key
-error_of (combination.NotMade e) = NotBuilt (build.NotMade e)
-
 -- whether something failed: a file was neither made nor refused
 abbrev pub combine_fails : {A : Type 0} → Result A CombineError → Bool
 combine_fails (Ok made) = false

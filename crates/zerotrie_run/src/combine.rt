@@ -7,7 +7,7 @@ ghost use Rattle.zerotrie_files.specs.Notes.{NothingFailed, SameReads};
 ghost use Rattle.zerotrie_making.specs.declared.error.MakeError.TheVariants.{OutOfMemory};
 ghost use Rattle.zerotrie_run.specs.Failures.{CombineFailed, ReadFailed, WasClosed, WriteFailed};
 ghost use Rattle.zerotrie_run.specs.Commands.{Runs, TellsNumber, ReadsTwice, LeavesInput, may_tell, tells_made};
-ghost use Rattle.zerotrie_run.specs.Combined.{AreRead, AreUnopened, EndsCombine, HasCombineCause, IsCombination, IsMadeSo, IsUncombined, IsUnopenedAt, IsUnread, OfHeld, are_several, combine_fails, combine_refusal, error_of};
+ghost use Rattle.zerotrie_run.specs.Combined.{AreRead, AreUnopened, EndsCombine, HasCombineCause, IsCombination, IsMadeSo, IsUncombined, IsUnopenedAt, IsUnread, OfHeld, are_several, combine_fails, combine_refusal};
 ghost use Rattle.zerotrie_run.specs.Runs.{world, AreAllFiles, HandsOn, HaveTwoStreams, IsFreshAt, OpensBy};
 ghost use Rattle.zerotrie_run.specs.Statuses.{number_of};
 ghost use Rattle.zerotrie_run.specs.Told.{IsTold, Notes, TellsCombined};
@@ -151,16 +151,6 @@ fn have_several_kinds(named: Option<TrieKind>, tries: &[TrieRef<'_>]) -> bool
     !tries.is_empty() && kind_kept(named, tries).is_none()
 }
 
-/// Returns the error of a combination as one of a command.
-fn unmade(error: CombinationError) -> CombineError
-    ensures { result ≡ error_of error }
-{
-    match error {
-        CombinationError::NoValue(why, key) => CombineError::NoValue(why, key),
-        CombinationError::NotMade(error) => CombineError::NotBuilt(BuildError::NotMade(error)),
-    }
-}
-
 /// Makes the new file of what the files hold, and returns whether no kind is named for it and their
 /// tries have several.
 fn combine_held(
@@ -177,7 +167,10 @@ fn combine_held(
     let several = have_several_kinds(combine.combination.kind, tries.as_slice());
     match make_combined(alloc, combine.combination, tries.as_slice()) {
         Ok(made) => Ok((made, several)),
-        Err(error) => Err(unmade(error)),
+        Err(CombinationError::NoValue(why, key)) => Err(CombineError::NoValue(why, key)),
+        Err(CombinationError::NotMade(error)) => {
+            Err(CombineError::NotBuilt(BuildError::NotMade(error)))
+        }
     }
 }
 
