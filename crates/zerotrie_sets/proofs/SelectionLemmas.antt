@@ -1,25 +1,25 @@
 -- What is selected of any number of maps.
-use Rattle.std.proofs.Common.{◌≡◌, ◌+◌, ◌<◌, ◌≤◌, ◌⊎◌, inl, inr, ℕ, List, [], ◌∷◌, ◌++◌, map, fold, length, take, drop, get_or, zero, suc, Option, Some, None, Bool, true, false, refl, sym, ap, subst, ◌∙◌, arith, cond, length-append}
+use Rattle.std.proofs.Common.{◌≡◌, ◌+◌, ◌<◌, ◌≤◌, ◌⊎◌, inl, inr, ℕ, List, [], ◌∷◌, ◌++◌, map, fold, length, take, drop, get_or, zero, suc, Option, Some, None, All, Bool, true, false, refl, sym, ap, subst, ◌∙◌, arith, cond, length-append}
 use Rattle.std.specs.Prelude.{is_some, if◌then◌else◌, ◌↔◌}
 use Rattle.std.specs.List.{list_any}
 use Rattle.std.specs.Ordering.{nat_cmp, is_eq, ordering_reverse}
 use Rattle.std.specs.Cmp.Lexicographic.{slice_cmp}
-use Rattle.std.proofs.lemmas.List.Elements.{filter_map-append}
+use Rattle.std.proofs.lemmas.List.Elements.{All-append, All-cons, All-head, All-nil, All-tail, filter_map-append}
 use Rattle.std.proofs.lemmas.List.Sums.{fold-append}
 use Rattle.std.proofs.Math.Seq.{take-suc}
-use Rattle.std.proofs.lemmas.List.{length-map}
+use Rattle.std.proofs.lemmas.List.{append-nil, length-map}
 use Rattle.zerotrie_core.specs.Maps.{Pairs}
 use Rattle.zerotrie_sets.specs.Inputs.{listed}
 use Rattle.zerotrie_sets.specs.ManyInputs.{listed_all}
 use Rattle.zerotrie_sets.specs.declared.input.Input.{Input}
 use Rattle.zerotrie_sets.specs.Merges.{Entries, value_of, FirstKeyAbove, KeysAscend}
 use Rattle.zerotrie_sets.specs.Rows.{Values, all_joined, EachAscends}
-use Rattle.zerotrie_sets.specs.Selections.{present, one_of_two, as_one, is_taken, selected, selected_rows, one_more, IsSmall, HasNoTwo, IsNoOne, IsNoNext, IsRuleError, IsSelection, IsSelectionError, SomeRowErrs}
+use Rattle.zerotrie_sets.specs.Selections.{present, one_of_two, as_one, is_taken, selected, selected_rows, one_more, IsSmall, HasNoTwo, HasSame, AreSame, IsNoOne, IsNoNext, IsRuleError, IsSelection, IsSelectionError, SomeRowErrs}
 use Rattle.zerotrie_sets.specs.declared.selection.Selection.{Selection}
 use Rattle.zerotrie_sets.specs.declared.selection.Rule.{Rule}
-use Rattle.zerotrie_sets.specs.declared.selection.Rule.TheVariants.{Sum, Refuse}
+use Rattle.zerotrie_sets.specs.declared.selection.Rule.TheVariants.{Sum, Equal, Refuse}
 use Rattle.zerotrie_sets.specs.declared.selection.RuleError.{RuleError}
-use Rattle.zerotrie_sets.specs.declared.selection.RuleError.TheVariants.{SeveralValues, SumTooLarge}
+use Rattle.zerotrie_sets.specs.declared.selection.RuleError.TheVariants.{SeveralValues, DifferentValues, SumTooLarge}
 use Rattle.zerotrie_sets.proofs.MergeLemmas.{Below, same, other, tied, total, first_above, none_there, at_first, chosen_above, chosen_ascends, value_same, value_other, pairs_ascend}
 use Rattle.zerotrie_sets.proofs.RowLemmas.{rows_of_all}
 
@@ -86,6 +86,24 @@ few_next rule [] None few h = omega arith
 few_next rule [] (Some v) few h = omega arith
 few_next rule (x ∷ xs) o few h = rw h (let e = length-append (x ∷ xs) [] in omega (arith, e, few))
 
+-- the first value is kept
+equal_first : (a : ℕ) (xs : List ℕ) → fold (one_of_two Equal) a xs ≡ a
+equal_first a [] = refl
+equal_first a (x ∷ xs) = equal_first a xs
+
+all_at : (one : ℕ) (xs : List ℕ) (x : ℕ) (ys : List ℕ) → All (λ value. value ≡ one) ((xs ++ x ∷ []) ++ ys) → x ≡ one
+all_at one [] x ys all = All-head (λ value. value ≡ one) x ys all
+all_at one (y ∷ xs) x ys all = all_at one xs x ys (All-tail (λ value. value ≡ one) y ((xs ++ x ∷ []) ++ ys) all)
+
+-- all are one value, if those before and the next one are
+pub same_next : (rule : Rule) (xs : List ℕ) (o : Option ℕ) → rule ≡ Equal → AreSame xs → HasSame (as_one rule xs) o → AreSame (xs ++ if_there o)
+same_next rule xs None is alike h = subst AreSame (sym (append-nil xs)) alike
+same_next rule [] (Some v) is alike h = (v, All-cons (λ value. value ≡ v) v [] refl (All-nil (λ value. value ≡ v)))
+same_next rule (x ∷ xs) (Some v) is alike h =
+    let next : fold (one_of_two Equal) x xs ≡ v = rw is at h in
+    let P : ℕ → Type 0 = λ value. value ≡ alike.0 in
+    (alike.0, All-append P (x ∷ xs) (v ∷ []) alike.1 (All-cons P v [] (sym next ∙ equal_first x xs ∙ All-head P x xs alike.1) (All-nil P)))
+
 -- a sum is no less than one of its parts
 sum_least : (a : ℕ) (xs : List ℕ) → a ≤ fold (one_of_two Sum) a xs
 sum_least a [] = omega arith
@@ -106,6 +124,14 @@ pub none_of_all : (rule : Rule) (xs ys : List ℕ) (o : Option ℕ) (e : RuleErr
 none_of_all rule xs ys o SeveralValues h =
     let some = some_first rule xs h.0 h.2 in
     rw h.3 (h.4, (let a = length-append (xs ++ h.1 ∷ []) ys in let b = length-append xs (h.1 ∷ []) in omega (arith, a, b, some)))
+none_of_all rule [] ys o DifferentValues h = absurd (omega (arith, some_first rule [] h.0 h.2))
+none_of_all rule (x ∷ xs) ys o DifferentValues h =
+    subst (λ p. IsNoOne rule (((x ∷ xs) ++ if_there p) ++ ys) DifferentValues) (sym h.3) (
+      h.4.0,
+      λ alike. h.4.1
+        (sym (same_value (fold (one_of_two Equal) x xs) h.0 (rw h.4.0 at h.2)) ∙ equal_first x xs
+        ∙ All-head (λ value. value ≡ alike.0) x ((xs ++ h.1 ∷ []) ++ ys) alike.1 ∙ sym (all_at alike.0 (x ∷ xs) h.1 ys alike.1)),
+    )
 none_of_all rule [] ys o SumTooLarge h = absurd (omega (arith, some_first rule [] h.0 h.2))
 none_of_all rule (x ∷ xs) ys o SumTooLarge h =
     let n = fold (one_of_two Sum) x ((xs ++ h.1 ∷ []) ++ ys) in
@@ -121,9 +147,10 @@ none_of_all rule (x ∷ xs) ys o SumTooLarge h =
     ))
 
 -- one value at most is one
-pub one_allowed : (rule : Rule) (xs : List ℕ) (o : Option ℕ) (e : RuleError) → as_one rule xs ≡ o → (rule ≡ Refuse → length xs ≤ 1) → IsSmall o → IsNoOne rule xs e → ⊥
-one_allowed rule xs o SeveralValues is few small h = let most = few h.0 in omega (arith, most, h.1)
-one_allowed rule xs o SumTooLarge is few small h = let less = subst IsSmall (sym is ∙ h.2) small in omega (arith, less, h.3)
+pub one_allowed : (rule : Rule) (xs : List ℕ) (o : Option ℕ) (e : RuleError) → as_one rule xs ≡ o → (rule ≡ Refuse → length xs ≤ 1) → (rule ≡ Equal → AreSame xs) → IsSmall o → IsNoOne rule xs e → ⊥
+one_allowed rule xs o SeveralValues is few alike small h = let most = few h.0 in omega (arith, most, h.1)
+one_allowed rule xs o DifferentValues is few alike small h = h.1 (alike h.0)
+one_allowed rule xs o SumTooLarge is few alike small h = let less = subst IsSmall (sym is ∙ h.2) small in omega (arith, less, h.3)
 
 -- ---- rows
 
@@ -213,6 +240,7 @@ module _ (selection : Selection) (rule : Rule) where
 
   none_errs : (values : Values) (e : RuleError) → present values ≡ [] → IsNoOne rule (present values) e → ⊥
   none_errs values SeveralValues none h = let few = ap length none in omega (arith, few, h.1)
+  none_errs values DifferentValues none h = h.1 (subst AreSame (sym none) (0, All-nil (λ value. value ≡ 0)))
   none_errs values SumTooLarge none h = absurd (no (h.1) (ap (as_one rule) (sym none) ∙ h.2))
     where
       no : (n : ℕ) → None ≡ Some n → ⊥

@@ -1,5 +1,5 @@
 -- Unions, intersections and differences of any number of maps.
-use Rattle.std.specs.Prelude.{◌≡◌, ◌⊎◌, ◌<◌, ◌≤◌, ◌+◌, ◌%◌, ◌^◌, ◌==◌, ◌&&◌, ℕ, List, [], ◌∷◌, Bool, true, length, map, max, min, Option, Some, None, is_some, if◌then◌else◌}
+use Rattle.std.specs.Prelude.{◌≡◌, ◌⊎◌, ◌<◌, ◌≤◌, ◌+◌, ◌%◌, ◌^◌, ◌==◌, ◌&&◌, ◌≢◌, ℕ, List, [], ◌∷◌, All, Bool, true, length, map, max, min, Option, Some, None, is_some, if◌then◌else◌}
 use Rattle.std.specs.List.{filter_map, reduce, slice_get}
 use Rattle.std.specs.Option.{option_flatten}
 use Rattle.zerotrie_core.specs.Maps.{Pairs, Ascends}
@@ -8,9 +8,9 @@ use Rattle.zerotrie_sets.specs.Rows.{Values}
 use Rattle.zerotrie_sets.specs.declared.selection.Selection.{Selection}
 use Rattle.zerotrie_sets.specs.declared.selection.Selection.TheVariants.{Union, Intersection, Difference, SymmetricDifference}
 use Rattle.zerotrie_sets.specs.declared.selection.Rule.{Rule}
-use Rattle.zerotrie_sets.specs.declared.selection.Rule.TheVariants.{First, Last, Sum, Min, Max, Refuse}
+use Rattle.zerotrie_sets.specs.declared.selection.Rule.TheVariants.{First, Last, Sum, Min, Max, Equal, Refuse}
 use Rattle.zerotrie_sets.specs.declared.selection.RuleError.{RuleError}
-use Rattle.zerotrie_sets.specs.declared.selection.RuleError.TheVariants.{SeveralValues, SumTooLarge}
+use Rattle.zerotrie_sets.specs.declared.selection.RuleError.TheVariants.{SeveralValues, DifferentValues, SumTooLarge}
 
 -- the values that are there
 abbrev pub present : Values → List ℕ
@@ -23,6 +23,7 @@ one_of_two Last value next = next
 one_of_two Sum value next = value + next
 one_of_two Min value next = min value next
 one_of_two Max value next = max value next
+one_of_two Equal value next = value
 one_of_two Refuse value next = value
 
 -- what a rule makes of all values of a key
@@ -44,9 +45,14 @@ is_taken selection values = takes selection (is_some (option_flatten (slice_get 
 abbrev pub selected : Selection → Rule → Values → Option ℕ
 selected selection rule values = if is_taken selection values then as_one rule (present values) else None
 
+-- they are all one value
+abbrev pub AreSame : List ℕ → Type 0
+AreSame values = (one : ℕ) × All (λ value. value ≡ one) values
+
 -- why values are not made one
 abbrev pub IsNoOne : Rule → List ℕ → RuleError → Type 0
 IsNoOne rule values SeveralValues = (rule ≡ Refuse) × (1 < length values)
+IsNoOne rule values DifferentValues = (rule ≡ Equal) × (AreSame values → ⊥)
 IsNoOne rule values SumTooLarge = (rule ≡ Sum) × (n : ℕ) × (as_one rule values ≡ Some n) × (2 ^ 64 ≤ n)
 
 -- why a key that is taken gets no value
@@ -81,6 +87,7 @@ one_more rule (Some value) (Some next) = Some (one_of_two rule value next)
 -- why nothing is made of two values
 abbrev pub IsNoOneOfTwo : Rule → ℕ → ℕ → RuleError → Type 0
 IsNoOneOfTwo rule value next SeveralValues = rule ≡ Refuse
+IsNoOneOfTwo rule value next DifferentValues = (rule ≡ Equal) × (value ≢ next)
 IsNoOneOfTwo rule value next SumTooLarge = (rule ≡ Sum) × (2 ^ 64 ≤ value + next)
 
 abbrev pub IsNoNext : Rule → Option ℕ → Option ℕ → RuleError → Type 0
@@ -95,3 +102,9 @@ IsSmall (Some value) = value < 2 ^ 64
 abbrev pub HasNoTwo : Option ℕ → Option ℕ → Type 0
 HasNoTwo None next = Unit {0}
 HasNoTwo (Some value) next = next ≡ None
+
+-- both are the same, if both are there
+abbrev pub HasSame : Option ℕ → Option ℕ → Type 0
+HasSame None next = Unit {0}
+HasSame (Some value) None = Unit {0}
+HasSame (Some value) (Some next) = value ≡ next

@@ -1,7 +1,7 @@
 //! What is taken of any number of streams: which keys, and one value of each.
 
 ghost use Rattle.std.specs.Prelude.{◌≡◌, ◌≢◌, IfOk, IfErr};
-ghost use Rattle.zerotrie_sets.specs.Selections.{takes, one_of_two, one_more, IsNoOneOfTwo, IsNoNext, IsSmall, HasNoTwo};
+ghost use Rattle.zerotrie_sets.specs.Selections.{takes, one_of_two, one_more, IsNoOneOfTwo, IsNoNext, IsSmall, HasNoTwo, HasSame};
 ghost use Rattle.zerotrie_sets.specs.declared.selection.Rule.TheVariants as rule;
 
 use thiserror::Error;
@@ -32,6 +32,8 @@ pub enum Rule {
     Min,
     /// The greatest value.
     Max,
+    /// The value that all of them are. If they differ, the key is an error.
+    Equal,
     /// None: the key is an error.
     Refuse,
 }
@@ -42,6 +44,9 @@ pub enum RuleError {
     /// More than one stream has the key, and the rule is `Refuse`.
     #[error("more than one stream has the key")]
     SeveralValues,
+    /// Streams have different values for the key, and the rule is `Equal`.
+    #[error("streams have different values for the key")]
+    DifferentValues,
     /// The sum of the values is 2^64 or more.
     #[error("the sum of the values is 2^64 or more")]
     SumTooLarge,
@@ -66,6 +71,7 @@ impl Rule {
     fn one_of_two(self, value: usize, next: usize) -> Result<usize, RuleError>
         ensures ok { IfOk result (λ one. one ≡ one_of_two self value next) }
         ensures allowed { IfOk result (λ _. self ≢ rule.Refuse) }
+        ensures same { IfOk result (λ _. self ≡ rule.Equal → value ≡ next) }
         ensures err { IfErr result (IsNoOneOfTwo self value next) }
     {
         match self {
@@ -74,6 +80,8 @@ impl Rule {
             Rule::Sum => value.checked_add(next).ok_or(RuleError::SumTooLarge),
             Rule::Min => Ok(value.min(next)),
             Rule::Max => Ok(value.max(next)),
+            Rule::Equal if value == next => Ok(value),
+            Rule::Equal => Err(RuleError::DifferentValues),
             Rule::Refuse => Err(RuleError::SeveralValues),
         }
     }
@@ -86,6 +94,7 @@ impl Rule {
     ) -> Result<Option<usize>, RuleError>
         ensures ok { IfOk result (λ more. more ≡ one_more self one next) }
         ensures allowed { IfOk result (λ _. self ≡ rule.Refuse → HasNoTwo one next) }
+        ensures same { IfOk result (λ _. self ≡ rule.Equal → HasSame one next) }
         ensures small { IfOk result IsSmall }
         ensures err { IfErr result (IsNoNext self one next) }
     {
