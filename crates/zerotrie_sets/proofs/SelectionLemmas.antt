@@ -87,11 +87,11 @@ few_next rule [] (Some v) few h = omega arith
 few_next rule (x ∷ xs) o few h = rw h (let e = length-append (x ∷ xs) [] in omega (arith, e, few))
 
 -- the first value is kept
-equal_first : (a : ℕ) (xs : List ℕ) → fold (one_of_two Equal) a xs ≡ a
+pub equal_first : (a : ℕ) (xs : List ℕ) → fold (one_of_two Equal) a xs ≡ a
 equal_first a [] = refl
 equal_first a (x ∷ xs) = equal_first a xs
 
-all_at : (one : ℕ) (xs : List ℕ) (x : ℕ) (ys : List ℕ) → All (λ value. value ≡ one) ((xs ++ x ∷ []) ++ ys) → x ≡ one
+pub all_at : (one : ℕ) (xs : List ℕ) (x : ℕ) (ys : List ℕ) → All (λ value. value ≡ one) ((xs ++ x ∷ []) ++ ys) → x ≡ one
 all_at one [] x ys all = All-head (λ value. value ≡ one) x ys all
 all_at one (y ∷ xs) x ys all = all_at one xs x ys (All-tail (λ value. value ≡ one) y ((xs ++ x ∷ []) ++ ys) all)
 
