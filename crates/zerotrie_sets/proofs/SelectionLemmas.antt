@@ -129,8 +129,8 @@ none_of_all rule (x ∷ xs) ys o DifferentValues h =
     subst (λ p. IsNoOne rule (((x ∷ xs) ++ if_there p) ++ ys) DifferentValues) (sym h.3) (
       h.4.0,
       λ alike. h.4.1
-        (sym (same_value (fold (one_of_two Equal) x xs) h.0 (rw h.4.0 at h.2)) ∙ equal_first x xs
-        ∙ All-head (λ value. value ≡ alike.0) x ((xs ++ h.1 ∷ []) ++ ys) alike.1 ∙ sym (all_at alike.0 (x ∷ xs) h.1 ys alike.1)),
+          (sym (same_value (fold (one_of_two Equal) x xs) h.0 (rw h.4.0 at h.2)) ∙ equal_first x xs
+          ∙ All-head (λ value. value ≡ alike.0) x ((xs ++ h.1 ∷ []) ++ ys) alike.1 ∙ sym (all_at alike.0 (x ∷ xs) h.1 ys alike.1)),
     )
 none_of_all rule [] ys o SumTooLarge h = absurd (omega (arith, some_first rule [] h.0 h.2))
 none_of_all rule (x ∷ xs) ys o SumTooLarge h =
