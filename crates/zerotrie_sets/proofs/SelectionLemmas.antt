@@ -1,6 +1,6 @@
 -- What is selected of any number of maps.
 use Rattle.std.proofs.Common.{◌≡◌, ◌+◌, ◌<◌, ◌≤◌, ◌⊎◌, inl, inr, ℕ, List, [], ◌∷◌, ◌++◌, map, fold, length, take, drop, get_or, zero, suc, Option, Some, None, All, Bool, true, false, refl, sym, ap, subst, ◌∙◌, arith, cond, length-append}
-use Rattle.std.specs.Prelude.{is_some, if◌then◌else◌, ◌↔◌}
+use Rattle.std.specs.Prelude.{is_some, if◌then◌else◌, ◌↔◌, Result, Ok, Err, IfOk, IfErr}
 use Rattle.std.specs.List.{list_any}
 use Rattle.std.specs.Ordering.{nat_cmp, is_eq, ordering_reverse}
 use Rattle.std.specs.Cmp.Lexicographic.{slice_cmp}
@@ -151,6 +151,17 @@ pub one_allowed : (rule : Rule) (xs : List ℕ) (o : Option ℕ) (e : RuleError)
 one_allowed rule xs o SeveralValues is few alike small h = let most = few h.0 in omega (arith, most, h.1)
 one_allowed rule xs o DifferentValues is few alike small h = h.1 (alike h.0)
 one_allowed rule xs o SumTooLarge is few alike small h = let less = subst IsSmall (sym is ∙ h.2) small in omega (arith, less, h.3)
+
+-- the same of a row, whose key is taken
+pub row_allowed : (selection : Selection) (rule : Rule) (values row : Values) (r : Result (Option ℕ) RuleError) → values ≡ row
+    → IfOk r (λ _. (e : RuleError) → IsNoOne rule (present values) e → ⊥) → IfOk r (λ _. (e : RuleError) → IsRuleError selection rule row e → ⊥)
+row_allowed selection rule values row (Ok one) is allowed = λ e h. allowed e (subst (λ vs. IsNoOne rule (present vs) e) (sym is) h.1)
+row_allowed selection rule values row (Err e) is allowed = tt
+
+pub row_err : (selection : Selection) (rule : Rule) (values row : Values) (r : Result (Option ℕ) RuleError) → values ≡ row → is_taken selection row ≡ true
+    → IfErr r (IsNoOne rule (present values)) → IfErr r (IsRuleError selection rule row)
+row_err selection rule values row (Ok one) is taken err = tt
+row_err selection rule values row (Err e) is taken err = (taken, subst (λ vs. IsNoOne rule (present vs) e) is err)
 
 -- ---- rows
 
