@@ -2,4 +2,6 @@ mod Remainders
 mod Chunks
 mod Table
 mod Headers
+mod Sums
+mod InBlocks
 mod Damage

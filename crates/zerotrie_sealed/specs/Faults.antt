@@ -111,3 +111,21 @@ IsIndexRightBefore file e = (kind_in file ≢ blocks_number → IsRightBefore Is
 -- the file begins with this header, and with this table behind it
 abbrev pub BeginsWithTable : List ℕ → List ℕ → List ℕ → Type 0
 BeginsWithTable header table file = (take 24 file ≡ header) × (take (length_in header) (drop 24 file) ≡ table)
+
+-- The cause of an error where only the header was read, and is to be that of an index in blocks.
+abbrev pub IsHeaderFault : List ℕ → SealError → Type 0
+IsHeaderFault header NoMagic = take 8 header ≢ magic
+IsHeaderFault header (UnknownVersion number) = (version_in header ≡ number) × (number ≢ version)
+IsHeaderFault header (UnknownKind number) = (kind_in header ≡ number) × (number ≢ blocks_number)
+IsHeaderFault header CutShort = length header < 24
+IsHeaderFault header TooLong = ⊥
+IsHeaderFault header Checksum = ⊥
+
+-- the same where the table was read, too
+abbrev pub IsTableFault : List ℕ → List ℕ → SealError → Type 0
+IsTableFault header table NoMagic = IsHeaderFault header NoMagic
+IsTableFault header table (UnknownVersion number) = IsHeaderFault header (UnknownVersion number)
+IsTableFault header table (UnknownKind number) = IsHeaderFault header (UnknownKind number)
+IsTableFault header table CutShort = length table < length_in header
+IsTableFault header table TooLong = length_in header < length table
+IsTableFault header table Checksum = HasSumOf table header → HasTableLen table → ⊥

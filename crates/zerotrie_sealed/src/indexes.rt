@@ -1,9 +1,9 @@
 //! Opening of indexes: an index, or its table, of a sealed file.
 
-ghost use Rattle.std.specs.Prelude.{◌≡◌, ◌*◌, ◌≤◌, ◌↔◌, IsTrue, IfOk, IfErr, IfSome, IfNone, List, ◌++◌, length, take};
+ghost use Rattle.std.specs.Prelude.{◌≡◌, ◌*◌, ◌≤◌, ◌↔◌, IsTrue, IfOk, IfErr, IfSome, IfNone, ℕ, List, ◌++◌, length, take};
 ghost use Rattle.std.specs.Int.{w64, to_le_bytes};
 ghost use Rattle.zerotrie_sealed.specs.Sealed.{blocks_number, IsIndexNumber, block_count, sums_of, table_of, IsSealedAs, IsSealedInBlocks, IsSealedIndex};
-ghost use Rattle.zerotrie_sealed.specs.Faults.{HasKnown, IsFaultBy, HasSumOf, IsBlocksFault, IsBlocksRightBefore, IsIndexFault, IsIndexRightBefore, HasTableLen, HasTable, length_in, table_in, index_in, BeginsWithTable};
+ghost use Rattle.zerotrie_sealed.specs.Faults.{HasKnown, HasSumOf, IsBlocksFault, IsBlocksRightBefore, IsIndexFault, IsIndexRightBefore, HasTableLen, HasTable, length_in, table_in, index_in, IsHeaderFault, IsTableFault, BeginsWithTable};
 
 use crate::blocks::{are_sums, block_count};
 use crate::reading::{SealError, has_checksum, length_in, number_in, whole_in};
@@ -11,7 +11,7 @@ use crate::writing::{BLOCKS_NUMBER, HEADER_LEN, INDEX_NUMBER};
 
 /// The table in front of an index in blocks.
 #[derive(Clone, Copy, PartialEq, Eq, Debug)]
-pub struct Table<'a> {
+pub struct IndexTable<'a> {
     /// The number of bytes of the index.
     pub index_len: usize,
     /// The CRC-32C of each block of the index, in four bytes, the lowest first.
@@ -32,7 +32,7 @@ pub fn is_index_number(number: u16) -> bool
 }
 
 /// Returns the parts of a table, if it is as long as one of an index of the length in it.
-fn parts_of(table: &[u8]) -> Option<Table<'_>>
+fn parts_of(table: &[u8]) -> Option<IndexTable<'_>>
     ensures parts { IfSome result (λ t. table.now ≡ to_le_bytes w64 t.index_len ++ t.sums.now) }
     ensures some { IfSome result (λ _. HasTableLen table.now) }
     ensures none { IfNone result (HasTableLen table.now → ⊥) }
@@ -42,12 +42,12 @@ fn parts_of(table: &[u8]) -> Option<Table<'_>>
     if sums.len() != 4 * block_count(index_len) {
         return None;
     }
-    Some(Table { index_len, sums })
+    Some(IndexTable { index_len, sums })
 }
 
 /// Returns the parts of the table behind a header, if it has the checksum in the header and is as
 /// long as it says.
-fn table_behind<'a>(header: &[u8], table: &'a [u8]) -> Option<Table<'a>>
+fn table_behind<'a>(header: &[u8], table: &'a [u8]) -> Option<IndexTable<'a>>
     requires { 24 ≤ length header.now }
     ensures parts { IfSome result (λ t. table.now ≡ to_le_bytes w64 t.index_len ++ t.sums.now) }
     ensures some { IfSome result (λ _. HasSumOf table.now header.now × HasTableLen table.now) }
@@ -60,7 +60,7 @@ fn table_behind<'a>(header: &[u8], table: &'a [u8]) -> Option<Table<'a>>
 }
 
 /// Returns the parts of the table in a file, and what is behind it.
-fn table_in(file: &[u8]) -> Result<(Table<'_>, &[u8]), SealError>
+fn table_in(file: &[u8]) -> Result<(IndexTable<'_>, &[u8]), SealError>
     requires { 24 ≤ length file.now }
     ensures parts { IfOk result (λ r.
         table_in file.now ≡ to_le_bytes w64 r.0.index_len ++ r.0.sums.now) }
@@ -144,7 +144,7 @@ pub fn open_index(file: &[u8]) -> Result<&[u8], SealError>
 pub fn table_len(header: &[u8; HEADER_LEN]) -> Result<usize, SealError>
     ensures len { IfOk result (λ len. len ≡ length_in header.now) }
     ensures known { IfOk result (λ _. HasKnown (λ number. number ≡ blocks_number) header.now) }
-    ensures fault { IfErr result (IsFaultBy (λ number. number ≡ blocks_number) header.now) }
+    ensures fault { IfErr result (IsHeaderFault header.now) }
     ensures none { IfErr result (λ _. (index file : List ℕ) → take 24 file ≡ header.now
         → IsSealedInBlocks index file → ⊥) }
 {
@@ -169,13 +169,17 @@ pub fn table_len(header: &[u8; HEADER_LEN]) -> Result<usize, SealError>
 ///
 /// What an error says is true of each file that begins with these bytes: none is a sealed index but
 /// one as a whole, of which `UnknownKind(24)` is returned.
-pub fn open_table<'a>(header: &[u8; HEADER_LEN], table: &'a [u8]) -> Result<Table<'a>, SealError>
+pub fn open_table<'a>(
+    header: &[u8; HEADER_LEN],
+    table: &'a [u8],
+) -> Result<IndexTable<'a>, SealError>
     ensures sealed { IfOk result (λ _. IsSealedAs blocks_number table.now (header.now ++ table.now)) }
     ensures len { IfOk result (λ t. length t.sums.now ≡ 4 * block_count t.index_len) }
     ensures parts { IfOk result (λ t. table.now ≡ to_le_bytes w64 t.index_len ++ t.sums.now) }
     ensures of { IfOk result (λ t. (index file : List ℕ)
         → BeginsWithTable header.now table.now file → IsSealedInBlocks index file
         → (t.index_len ≡ length index) × (t.sums.now ≡ sums_of index)) }
+    ensures fault { IfErr result (IsTableFault header.now table.now) }
     ensures none { IfErr result (λ _. (index file : List ℕ)
         → BeginsWithTable header.now table.now file → IsSealedInBlocks index file → ⊥) }
 {

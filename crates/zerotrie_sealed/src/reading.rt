@@ -4,7 +4,7 @@ ghost use Rattle.std.specs.Prelude.{◌≡◌, ℕ, ◌+◌, ◌≤◌, ◌↔�
 ghost use Rattle.zerotrie_base.specs.Kind.{Kind, tag};
 ghost use Rattle.zerotrie_base.specs.Kinds.{kind_of, IsTag};
 ghost use Rattle.zerotrie_sealed.specs.Sealed.{magic, version, IsIndexNumber, IsSealed};
-ghost use Rattle.zerotrie_sealed.specs.Faults.{IsFileFault, IsSealFault, HasKnown, IsRightBefore, IsSealRightBefore, IsIndexRightBefore, version_in, kind_in, length_in, HasSumOf};
+ghost use Rattle.zerotrie_sealed.specs.Faults.{IsFileFault, IsHeaderFault, IsSealFault, HasKnown, IsRightBefore, IsSealRightBefore, IsIndexRightBefore, version_in, kind_in, length_in, HasSumOf};
 
 use crate::checksum::crc32c_of_both;
 use crate::writing::{FRONT_LEN, HEADER_LEN, MAGIC, VERSION};
@@ -69,6 +69,7 @@ pub(crate) fn number_in(file: &[u8]) -> Result<u16, SealError>
     ensures version { IfOk result (λ _. version_in file.now ≡ version) }
     ensures number { IfOk result (λ number. kind_in file.now ≡ number) }
     ensures fault { IfErr result (IsFileFault file.now) }
+    ensures alone { IfErr result (IsHeaderFault file.now) }
     ensures trie { IfErr result (IsSealRightBefore file.now) }
     ensures index { IfErr result (IsIndexRightBefore file.now) }
 {
