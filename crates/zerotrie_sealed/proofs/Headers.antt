@@ -125,7 +125,7 @@ pub checksum_in-header : (number : ℕ) (bytes more : List ℕ) → crc32c (fron
     → checksum_in (header_as number bytes ++ more) ≡ crc32c (front_as number bytes ++ bytes)
 checksum_in-header number bytes more low = from_le_bytes-to_le_bytes_4 (crc32c (front_as number bytes ++ bytes)) low
 
-length-sealed : (number : ℕ) (bytes : List ℕ) → length (header_as number bytes ++ bytes) ≡ 24 + length bytes
+pub length-sealed : (number : ℕ) (bytes : List ℕ) → length (header_as number bytes ++ bytes) ≡ 24 + length bytes
 length-sealed number bytes = omega arith
 
 faultless : (IsKnown : ℕ → Type 0) (number : ℕ) (bytes : List ℕ) (e : SealError) → IsKnown number → number < 2 ^ 16 → 24 + length bytes < 2 ^ 64 → crc32c (front_as number bytes ++ bytes) < 2 ^ 32

@@ -1,5 +1,5 @@
 -- Files with an index in blocks.
-use Rattle.std.proofs.Common.{◌≡◌, ◌≢◌, ℕ, ◌+◌, ◌*◌, ◌^◌, ◌<◌, ◌≤◌, inl, inr, List, [], ◌++◌, length, take, drop, get_or, Result, Ok, Err, IfOk, IfErr, refl, sym, ap, subst, ◌∙◌, length-append, arith}
+use Rattle.std.proofs.Common.{◌≡◌, ◌≢◌, ℕ, ◌+◌, ◌-◌, ◌*◌, ◌^◌, ◌<◌, ◌≤◌, inl, inr, List, [], ◌++◌, length, take, drop, get_or, Result, Ok, Err, IfOk, IfErr, refl, sym, ap, subst, ◌∙◌, length-append, arith}
 use Rattle.std.proofs.lemmas.List.{append_assoc, take-append-drop, length-drop, length-take-le, drop-drop, drop_all}
 use Rattle.std.proofs.Math.Seq.{take-append_seam, drop-append_seam, drop-append-add}
 use Rattle.std.proofs.lemmas.Nat.{from_le_bytes-to_le_bytes_8}
@@ -8,7 +8,7 @@ use Rattle.std.specs.Int.{w64, to_le_bytes, from_le_bytes}
 use Rattle.zerotrie_base.specs.Kind.{Kind, tag}
 use Rattle.zerotrie_sealed.specs.Checksum.{crc32c}
 use Rattle.zerotrie_sealed.specs.Sealed.{magic, version, index_number, blocks_number, IsIndexNumber, block_count, front_as, header_as, sums_of, table_of, IsSealedAs, IsSealed, IsSealedInBlocks, IsSealedIndex}
-use Rattle.zerotrie_sealed.specs.Faults.{version_in, kind_in, length_in, checksum_in, IsFaultBy, table_in, index_length_in, index_in, HasSumOf, IsBlocksFault, HasTableLen, HasTable, IsIndexFault, IsHeaderFault, IsTableFault, BeginsWithTable}
+use Rattle.zerotrie_sealed.specs.Faults.{version_in, kind_in, length_in, checksum_in, IsFileFault, HasKnown, table_in, index_length_in, index_in, HasSumOf, IsBlocksFault, HasTableLen, HasTable, IsIndexFault, IsHeaderFault, IsTableFault, BeginsWithTable}
 use Rattle.zerotrie_sealed.specs.declared.reading.SealError.{SealError}
 use Rattle.zerotrie_sealed.specs.declared.reading.SealError.TheVariants.{NoMagic, UnknownVersion, UnknownKind, CutShort, TooLong, Checksum}
 use Rattle.zerotrie_sealed.proofs.Chunks.{crc32c-lt}
@@ -17,7 +17,7 @@ use Rattle.zerotrie_sealed.proofs.Sums.{length-table}
 
 -- ---- what such a file has
 
-small-table : (index : List ℕ) → length index < 2 ^ 64 → length (table_of index) < 2 ^ 64
+pub small-table : (index : List ℕ) → length index < 2 ^ 64 → length (table_of index) < 2 ^ 64
 small-table index fits = let long : length (table_of index) ≡ 8 + 4 * block_count (length index) = length-table index in omega arith
 
 -- the header, the table and the index
@@ -73,7 +73,7 @@ has-sum : (index file : List ℕ) → ((i : ℕ) → get_or file i 0 < 256) → 
 has-sum index file below is =
     let table : List ℕ = table_of index in
     let e : take 20 file ++ table_in file ≡ front_as blocks_number table ++ table = ahead index file is in
-    let bytes : (i : ℕ) → get_or (front_as blocks_number table ++ table) i 0 < 256 = λ i. rw (sym e) (bytes-front file below i) in
+    let bytes : (i : ℕ) → get_or (front_as blocks_number table ++ table) i 0 < 256 = subst (λ l. (i : ℕ) → get_or l i 0 < 256) e (bytes-front file below) in
     ap checksum_in (three-parts index file is) ∙ summed table (table ++ index) bytes ∙ ap crc32c (sym e)
 
 -- no cause of an error holds of it
@@ -95,9 +95,9 @@ no-blocks-fault index file TooLong below fault is =
     omega arith
 no-blocks-fault index file Checksum below fault is =
     let s = stands index file is in
-    elim fault [ inl other ↦ other (has-sum index file below is) | inr other ↦ other (s.table ∙ ap table_of (sym s.behind)) ]
+    fault (has-sum index file below is) (s.table ∙ ap table_of (sym s.behind))
 
-kind_in-whole : (index file : List ℕ) → IsSealedAs index_number index file → kind_in file ≢ blocks_number
+pub kind_in-whole : (index file : List ℕ) → IsSealedAs index_number index file → kind_in file ≢ blocks_number
 kind_in-whole index file is k =
     let n : kind_in file ≡ index_number = ap kind_in is.parts ∙ kind_in-header index_number index index (omega arith) in
     omega arith
@@ -114,13 +114,35 @@ no_index file (Ok x) short below fault = tt
 no_index file (Err e) short below fault = none_indexed file e short below fault
 
 -- an error of a file of an index as a whole, and of one in blocks
-pub whole_fault : {T : Type 0} (file : List ℕ) (result : Result T SealError) → kind_in file ≡ index_number → IfErr result (IsFaultBy IsIndexNumber file) → IfErr result (IsIndexFault file)
+pub whole_fault : {T : Type 0} (file : List ℕ) (result : Result T SealError) → kind_in file ≡ index_number → IfErr result (IsFileFault file) → IfErr result (IsIndexFault file)
 whole_fault file (Ok x) kind fault = tt
-whole_fault file (Err e) kind fault = (λ _. fault, λ other. absurd (omega arith))
+whole_fault file (Err e) kind fault = (λ _. fault_by IsIndexNumber file e fault, λ other. absurd (omega arith))
 
 pub blocks_fault : {T : Type 0} (file : List ℕ) (result : Result T SealError) → kind_in file ≡ blocks_number → IfErr result (IsBlocksFault file) → IfErr result (IsIndexFault file)
 blocks_fault file (Ok x) kind fault = tt
 blocks_fault file (Err e) kind fault = (λ other. absurd (other kind), λ _. fault)
+
+-- ---- the parts of a table
+
+-- the table of an index has the right length
+pub table-long : (index table : List ℕ) → length index < 2 ^ 64 → table ≡ table_of index → HasTableLen table
+table-long index table fits is =
+    let word : from_le_bytes w64 table ≡ length index = ap (from_le_bytes w64) is ∙ from_le_bytes-to_le_bytes_8 (length index) fits in
+    ap length is ∙ length-table index ∙ ap (λ n. 8 + 4 * block_count n) (sym word)
+
+-- the parts of a table are those of the table of the index
+pub parts-are : (index table sums : List ℕ) (n : ℕ) → n < 2 ^ 64 → length index < 2 ^ 64 → table ≡ to_le_bytes w64 n ++ sums → table ≡ table_of index → (n ≡ length index) × (sums ≡ sums_of index)
+parts-are index table sums n low fits parts is =
+    let same : to_le_bytes w64 n ++ sums ≡ table_of index = sym parts ∙ is in
+    (sym (from_le_bytes-to_le_bytes_8 n low) ∙ ap (λ l. from_le_bytes w64 (take 8 l)) same ∙ from_le_bytes-to_le_bytes_8 (length index) fits, ap (drop 8) same)
+
+-- how long the index is, and how long its table says
+pub index-long : (file index sums : List ℕ) (n : ℕ) → n < 2 ^ 64 → HasTable file → index ≡ index_in file → table_in file ≡ to_le_bytes w64 n ++ sums
+    → (index_length_in file ≡ n) × (24 + length_in file + length index ≡ length file)
+index-long file index sums n low has is parts =
+    let all : 24 + length_in file ≤ length file = has.0 in
+    let long : length index ≡ length file - (24 + length_in file) = ap length is ∙ length-drop (24 + length_in file) file in
+    (ap (from_le_bytes w64) parts ∙ from_le_bytes-to_le_bytes_8 n low, omega arith)
 
 -- ---- a file of which all parts agree
 
@@ -166,17 +188,13 @@ table-is index file header table begins is =
     ap length_in (header-is index file header begins.0 is) ∙ length_in-header blocks_number (table_of index) [] (small-table index is.fits) in
     sym begins.1 ∙ ap (λ n. take n (drop 24 file)) len ∙ ap (λ f. take (length (table_of index)) (drop 24 f)) (three-parts index file is) ∙ take-append_seam (table_of index) index
 
--- the parts of a table are those of the table of the index
-pub parts-are : (index table sums : List ℕ) (n : ℕ) → n < 2 ^ 64 → length index < 2 ^ 64 → table ≡ to_le_bytes w64 n ++ sums → table ≡ table_of index → (n ≡ length index) × (sums ≡ sums_of index)
-parts-are index table sums n low fits parts is =
-    let same : to_le_bytes w64 n ++ sums ≡ table_of index = sym parts ∙ is in
-    (sym (from_le_bytes-to_le_bytes_8 n low) ∙ ap (λ l. from_le_bytes w64 (take 8 l)) same ∙ from_le_bytes-to_le_bytes_8 (length index) fits, ap (drop 8) same)
-
 header-fault : (number : ℕ) (table : List ℕ) (e : SealError) → number ≡ blocks_number → IsHeaderFault (header_as number table) e → ⊥
 header-fault number table NoMagic is fault = fault refl
 header-fault number table (UnknownVersion v) is fault = fault.1 (sym fault.0)
 header-fault number table (UnknownKind n) is fault = fault.1 (sym fault.0 ∙ kind_in-header number table [] (omega arith) ∙ is)
 header-fault number table CutShort is fault = omega arith
+header-fault number table TooLong is fault = fault
+header-fault number table Checksum is fault = fault
 
 -- a header with a fault is that of no index in blocks
 pub no-header : (header : List ℕ) (e : SealError) → IsHeaderFault header e → (index file : List ℕ) → take 24 file ≡ header → IsSealedInBlocks index file → ⊥
@@ -206,14 +224,21 @@ table-fault index header table Checksum fits below under h t fault =
     let whole : List ℕ = table_of index in
     let e : take 20 header ++ table ≡ front_as blocks_number whole ++ whole = ap (λ l. l ++ table) (ap (take 20) h) ∙ ap (λ l. front_as blocks_number whole ++ l) t in
     let bytes : (i : ℕ) → get_or (front_as blocks_number whole ++ whole) i 0 < 256 =
-    λ i. rw (sym e) (bytes-append (take 20 header) table (bytes-take 20 header below) under i) in
+    subst (λ l. (i : ℕ) → get_or l i 0 < 256) e (bytes-append (take 20 header) table (bytes-take 20 header below) under) in
     let sum : HasSumOf table header = ap checksum_in h ∙ summed whole [] bytes ∙ ap crc32c (sym e) in
-    let word : from_le_bytes w64 table ≡ length index = ap (from_le_bytes w64) t ∙ from_le_bytes-to_le_bytes_8 (length index) fits in
-    let len : HasTableLen table = ap length t ∙ length-table index ∙ ap (λ n. 8 + 4 * block_count n) (sym word) in
-    fault sum len
+    fault sum (table-long index table fits t)
 
 -- a header and a table with a fault are those of no index in blocks
 pub no-table : (header table : List ℕ) (e : SealError) → ((i : ℕ) → get_or header i 0 < 256) → ((i : ℕ) → get_or table i 0 < 256) → IsTableFault header table e
     → (index file : List ℕ) → BeginsWithTable header table file → IsSealedInBlocks index file → ⊥
 no-table header table e below under fault index file begins is =
     table-fault index header table e is.fits below under (header-is index file header begins.0 is) (table-is index file header table begins is) fault
+
+-- a header that is read apart, and its table, are a sealed table if they agree
+pub front-agreed : (header table : List ℕ) → length header ≡ 24 → ((i : ℕ) → get_or header i 0 < 256) → HasKnown (λ number. number ≡ blocks_number) header
+    → length_in header ≡ length table → HasSumOf table header → IsSealedAs blocks_number table (header ++ table)
+front-agreed header table long below known len sum =
+    let whole : header ≡ header_as blocks_number table ++ drop 24 header =
+    header-agreed blocks_number table header (omega arith) below known.0.0.0 known.0.1 known.1 len sum in
+    let alone : drop 24 header ≡ [] = drop_all 24 header (omega arith) in
+    record { parts = ap (λ h. h ++ table) (whole ∙ ap (λ l. header_as blocks_number table ++ l) alone) }

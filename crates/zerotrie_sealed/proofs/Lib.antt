@@ -5,3 +5,4 @@ mod Headers
 mod Sums
 mod InBlocks
 mod Damage
+mod IndexLaws

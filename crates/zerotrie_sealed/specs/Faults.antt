@@ -74,14 +74,14 @@ abbrev pub HasSumOf : List ℕ → List ℕ → Type 0
 HasSumOf bytes file = checksum_in file ≡ crc32c (take 20 file ++ bytes)
 
 -- The cause of an error, where the number is that of blocks: the file has not all bytes of the header, of the table or
--- of the index, or more; or a checksum is another one, that of the table or one in the table.
+-- of the index, or more; or if the checksum of the table is right, it is not the table of what is behind it.
 abbrev pub IsBlocksFault : List ℕ → SealError → Type 0
 IsBlocksFault file NoMagic = IsFaultBy IsIndexNumber file NoMagic
 IsBlocksFault file (UnknownVersion number) = IsFaultBy IsIndexNumber file (UnknownVersion number)
 IsBlocksFault file (UnknownKind number) = IsFaultBy IsIndexNumber file (UnknownKind number)
 IsBlocksFault file CutShort = (length file < 24) ⊎ ((length file < 24 + length_in file) ⊎ (length file < 24 + length_in file + index_length_in file))
 IsBlocksFault file TooLong = 24 + length_in file + index_length_in file < length file
-IsBlocksFault file Checksum = (HasSumOf (table_in file) file → ⊥) ⊎ (table_in file ≢ table_of (index_in file))
+IsBlocksFault file Checksum = HasSumOf (table_in file) file → table_in file ≢ table_of (index_in file)
 
 -- a table is as long as that of an index of the length that it begins with
 abbrev pub HasTableLen : List ℕ → Type 0
