@@ -5,9 +5,8 @@ use Rattle.std.proofs.Math.Seq.{take-append_seam, drop-append_seam, drop-append-
 use Rattle.std.proofs.lemmas.Nat.{from_le_bytes-to_le_bytes_8}
 use Rattle.std.specs.Borrow.{Bor}
 use Rattle.std.specs.Int.{w64, to_le_bytes, from_le_bytes}
-use Rattle.zerotrie_base.specs.Kind.{Kind, tag}
 use Rattle.zerotrie_sealed.specs.Checksum.{crc32c}
-use Rattle.zerotrie_sealed.specs.Sealed.{magic, version, index_number, blocks_number, IsIndexNumber, block_count, front_as, header_as, sums_of, table_of, IsSealedAs, IsSealed, IsSealedInBlocks, IsSealedIndex}
+use Rattle.zerotrie_sealed.specs.Sealed.{magic, version, index_number, blocks_number, IsIndexNumber, block_count, front_as, header_as, sums_of, table_of, IsSealedAs, IsSealedInBlocks, IsSealedIndex}
 use Rattle.zerotrie_sealed.specs.Faults.{version_in, kind_in, length_in, checksum_in, IsFileFault, HasKnown, table_in, index_length_in, index_in, HasSumOf, IsBlocksFault, HasTableLen, HasTable, IsIndexFault, IsHeaderFault, IsTableFault, BeginsWithTable}
 use Rattle.zerotrie_sealed.specs.declared.reading.SealError.{SealError}
 use Rattle.zerotrie_sealed.specs.declared.reading.SealError.TheVariants.{NoMagic, UnknownVersion, UnknownKind, CutShort, TooLong, Checksum}
@@ -52,7 +51,7 @@ stands index file is =
       len = len;
       table = there;
       behind = ap (λ n. drop (24 + n) file) len ∙ ap (drop (24 + length table)) same
-      ∙ drop-append-add (header_as blocks_number table) (table ++ index) (length table) ∙ drop-append_seam table index;
+          ∙ drop-append-add (header_as blocks_number table) (table ++ index) (length table) ∙ drop-append_seam table index;
       index_len = ap (from_le_bytes w64) there ∙ from_le_bytes-to_le_bytes_8 (length index) is.fits;
       long = ap length same ∙ length-whole table index;
     }
@@ -160,7 +159,7 @@ blocks-agreed index file long short below begins known kind has is behind =
       front = header_as blocks_number (table_of index) ++ table_of index;
       sealed = record { parts = refl };
       parts = whole ∙ ap (λ l. header_as blocks_number table ++ l) rest ∙ ap (λ t. header_as blocks_number t ++ (t ++ index)) is
-      ∙ sym (append_assoc (header_as blocks_number (table_of index)) (table_of index) index);
+          ∙ sym (append_assoc (header_as blocks_number (table_of index)) (table_of index) index);
       fits = omega arith;
     }
 

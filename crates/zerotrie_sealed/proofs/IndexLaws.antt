@@ -1,15 +1,15 @@
 -- One file is one sealed index, and stays none if it is changed.
-use Rattle.std.proofs.Common.{◌≡◌, ℕ, zero, suc, ◌+◌, ◌-◌, ◌*◌, ◌/◌, ◌%◌, ◌^◌, ◌<◌, ◌≤◌, ◌⊎◌, inl, inr, List, [], ◌∷◌, ◌++◌, length, take, drop, get_or, append_assoc, refl, sym, ap, subst, ◌∙◌, length-append, append-nil, arith}
+use Rattle.std.proofs.Common.{◌≡◌, ℕ, suc, ◌+◌, ◌-◌, ◌*◌, ◌/◌, ◌%◌, ◌^◌, ◌<◌, ◌≤◌, ◌⊎◌, inl, inr, List, [], ◌∷◌, ◌++◌, length, take, drop, get_or, append_assoc, refl, sym, ap, subst, ◌∙◌, length-append, append-nil, arith}
 use Rattle.std.proofs.lemmas.List.{length-drop, take-append-le, drop-append-le}
 use Rattle.std.proofs.lemmas.Bool.{cases_lt}
 use Rattle.std.proofs.lemmas.Nat.{from_le_bytes-to_le_bytes_2, from_le_bytes-to_le_bytes_8}
-use Rattle.std.proofs.Math.Seq.{take-append_seam, drop-append_seam, drop-append-add}
+use Rattle.std.proofs.Math.Seq.{take-append_seam}
 use Rattle.std.specs.Int.{w16, w32, w64, to_le_bytes, from_le_bytes}
 use Rattle.zerotrie_base.specs.Kind.{Kind, simple_ascii, ignore_case, perfect_hash, extended_capacity, tag}
 use Rattle.zerotrie_sealed.specs.Checksum.{crc32c}
 use Rattle.zerotrie_sealed.specs.Sealed.{index_number, blocks_number, block_len, block_count, header_as, sums_of, table_of, IsSealedAs, IsSealed, IsSealedInBlocks, IsSealedIndex}
-use Rattle.zerotrie_sealed.specs.Faults.{kind_in, length_in, table_in, index_in}
-use Rattle.zerotrie_sealed.proofs.Headers.{bytes-append, bytes-take, bytes-drop, kind_in-header, tag-lt, length-sealed, one_content, nothing, none_longer}
+use Rattle.zerotrie_sealed.specs.Faults.{kind_in, length_in, table_in}
+use Rattle.zerotrie_sealed.proofs.Headers.{bytes-take, bytes-drop, kind_in-header, tag-lt, length-sealed, one_content, nothing, none_longer}
 use Rattle.zerotrie_sealed.proofs.Damage.{same_crc, crc32c-one, behind-place, up_to-place, front-bytes, behind-bytes, one_byte}
 use Rattle.zerotrie_sealed.proofs.Sums.{length-table, sums-at}
 use Rattle.zerotrie_sealed.proofs.InBlocks.{three-parts, stands, kind_in-whole, small-table}
@@ -29,15 +29,15 @@ pub one_index : (index file : List ℕ) → IsSealedIndex index file
     → ((second : List ℕ) → IsSealedIndex second file → index ≡ second) × ((kind : Kind) (trie : List ℕ) → IsSealed kind trie file → ⊥)
 one_index index file (inl is) = (
   λ second other. elim other [
-  | inl b ↦ (one_content index_number index_number index second file (omega arith) (omega arith) is b).1
-  | inr b ↦ absurd (kind_in-whole index file is (stands second file b).kind)
+    | inl b ↦ (one_content index_number index_number index second file (omega arith) (omega arith) is b).1
+    | inr b ↦ absurd (kind_in-whole index file is (stands second file b).kind)
   ],
   λ kind trie b. no-tag kind index_number (omega arith) (sym (kind_in-trie kind trie file b) ∙ ap kind_in is.parts ∙ kind_in-header index_number index index (omega arith)),
 )
 one_index index file (inr is) = (
   λ second other. elim other [
-  | inl b ↦ absurd (kind_in-whole second file b (stands index file is).kind)
-  | inr b ↦ sym (stands index file is).behind ∙ (stands second file b).behind
+    | inl b ↦ absurd (kind_in-whole second file b (stands index file is).kind)
+    | inr b ↦ sym (stands index file is).behind ∙ (stands second file b).behind
   ],
   λ kind trie b. no-tag kind blocks_number (omega arith) (sym (kind_in-trie kind trie file b) ∙ (stands index file is).kind),
 )

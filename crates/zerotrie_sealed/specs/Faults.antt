@@ -3,7 +3,7 @@ use Rattle.std.specs.Prelude.{◌≡◌, ◌≢◌, ◌⊎◌, ℕ, ◌+◌, ◌
 use Rattle.std.specs.Int.{w16, w32, w64, from_le_bytes}
 use Rattle.zerotrie_base.specs.Kinds.{IsTag}
 use Rattle.zerotrie_sealed.specs.Checksum.{crc32c}
-use Rattle.zerotrie_sealed.specs.Sealed.{magic, version, index_number, blocks_number, IsIndexNumber, block_count, table_of}
+use Rattle.zerotrie_sealed.specs.Sealed.{magic, version, blocks_number, IsIndexNumber, block_count, table_of}
 use Rattle.zerotrie_sealed.specs.declared.reading.SealError.{SealError}
 use Rattle.zerotrie_sealed.specs.declared.reading.SealError.TheVariants.{NoMagic, UnknownVersion, UnknownKind, CutShort, TooLong, Checksum}
 

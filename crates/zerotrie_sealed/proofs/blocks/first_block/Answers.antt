@@ -1,6 +1,5 @@
 -- The first block, and what is behind it.
-use Rattle.std.proofs.Common.{rules, ◌≡◌, length, take, drop}
-use Rattle.std.specs.Prelude.{min}
+use Rattle.std.proofs.Common.{rules, ◌≡◌, take, drop}
 use Rattle.std.proofs.lemmas.List.{take_min, drop_min}
 use Rattle.zerotrie_sealed.specs.Sealed.{block_len}
 use Rattle.zerotrie_sealed.proofs.Sums.{shorter, sums-parts}

@@ -1,7 +1,7 @@
 -- What is behind the header is cut at the length of the table.
-use Rattle.std.proofs.Common.{rules, ◌≡◌, ◌+◌, ◌^◌, ◌<◌, length, drop, sym, ap, subst, ◌∙◌, arith}
+use Rattle.std.proofs.Common.{rules, ◌≡◌, ◌+◌, ◌^◌, ◌<◌, length, drop, sym, subst, ◌∙◌, arith}
 use Rattle.std.proofs.lemmas.List.{length-drop, drop-drop}
-use Rattle.zerotrie_sealed.specs.Faults.{length_in, table_in, index_in, HasSumOf, HasTableLen}
+use Rattle.zerotrie_sealed.specs.Faults.{length_in, table_in, index_in, HasSumOf}
 use Rattle.zerotrie_sealed.proofs.InBlocks.{table-long}
 use Rattle.zerotrie_sealed.proofs.indexes.table_in.Goals as goal
 
