@@ -91,7 +91,7 @@ sum-is number bytes file below is =
 covered-bytes : (file : List ℕ) → ((i : ℕ) → get_or file i 0 < 256) → (i : ℕ) → get_or (covered file) i 0 < 256
 covered-bytes file below = bytes-append (take 20 file) (drop 24 file) (bytes-take 20 file below) (bytes-drop 24 file below)
 
-same_crc : (x y : List ℕ) → ((i : ℕ) → get_or x i 0 < 256) → ((i : ℕ) → get_or y i 0 < 256)
+pub same_crc : (x y : List ℕ) → ((i : ℕ) → get_or x i 0 < 256) → ((i : ℕ) → get_or y i 0 < 256)
     → to_le_bytes w32 (crc32c x) ≡ to_le_bytes w32 (crc32c y) → crc32c x ≡ crc32c y
 same_crc x y p q e =
     sym (from_le_bytes-to_le_bytes_4 (crc32c x) (crc32c-lt x p)) ∙ ap (from_le_bytes w32) e ∙ from_le_bytes-to_le_bytes_4 (crc32c y) (crc32c-lt y q)
@@ -103,21 +103,21 @@ take-cons_suc : (b n : ℕ) (behind : List ℕ) → take (1 + n) (b ∷ behind) 
 take-cons_suc b n behind = let e : 1 + n ≡ suc n = omega arith in rw e refl
 
 -- what is behind the place of a byte, and what is before it
-behind-place : (front behind : List ℕ) (b m n : ℕ) → m ≡ length front + (1 + n) → drop m (front ++ (b ∷ behind)) ≡ drop n behind
+pub behind-place : (front behind : List ℕ) (b m n : ℕ) → m ≡ length front + (1 + n) → drop m (front ++ (b ∷ behind)) ≡ drop n behind
 behind-place front behind b m n e = rw e (drop-append-add front (b ∷ behind) (1 + n) ∙ drop-cons_suc b n behind)
 
-up_to-place : (front behind : List ℕ) (b m n : ℕ) → m ≡ length front + (1 + n) → take m (front ++ (b ∷ behind)) ≡ front ++ (b ∷ take n behind)
+pub up_to-place : (front behind : List ℕ) (b m n : ℕ) → m ≡ length front + (1 + n) → take m (front ++ (b ∷ behind)) ≡ front ++ (b ∷ take n behind)
 up_to-place front behind b m n e = rw e (take-append-add front (b ∷ behind) (1 + n) ∙ ap (λ l. front ++ l) (take-cons_suc b n behind))
 
 at-place : (front behind : List ℕ) (b : ℕ) → get_or (front ++ (b ∷ behind)) (length front) 0 ≡ b
 at-place front behind b = get_or-append_seam front b behind 0
 
-front-bytes : (front behind : List ℕ) → ((i : ℕ) → get_or (front ++ behind) i 0 < 256) → (i : ℕ) → get_or front i 0 < 256
+pub front-bytes : (front behind : List ℕ) → ((i : ℕ) → get_or (front ++ behind) i 0 < 256) → (i : ℕ) → get_or front i 0 < 256
 front-bytes [] behind p i = omega arith
 front-bytes (x ∷ front) behind p zero = p 0
 front-bytes (x ∷ front) behind p (suc i) = front-bytes front behind (λ j. p (suc j)) i
 
-behind-bytes : (front behind : List ℕ) → ((i : ℕ) → get_or (front ++ behind) i 0 < 256) → (i : ℕ) → get_or behind i 0 < 256
+pub behind-bytes : (front behind : List ℕ) → ((i : ℕ) → get_or (front ++ behind) i 0 < 256) → (i : ℕ) → get_or behind i 0 < 256
 behind-bytes [] behind p i = p i
 behind-bytes (x ∷ front) behind p i = behind-bytes front behind (λ j. p (suc j)) i
 

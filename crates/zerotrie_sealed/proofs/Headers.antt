@@ -1,15 +1,14 @@
 -- The headers of sealed files.
-use Rattle.std.proofs.Common.{◌≡◌, ℕ, zero, suc, ◌+◌, ◌^◌, ◌<◌, ◌≤◌, inl, inr, List, [], ◌∷◌, ◌++◌, length, take, drop, get_or, Result, Ok, Err, IfOk, IfErr, refl, sym, ap, subst, length-append, ◌∙◌, arith}
+use Rattle.std.proofs.Common.{◌≡◌, ℕ, zero, suc, ◌+◌, ◌^◌, ◌<◌, ◌≤◌, inl, inr, List, [], ◌∷◌, ◌++◌, length, take, drop, get_or, Result, Ok, Err, IfErr, refl, sym, ap, subst, length-append, ◌∙◌, arith}
 use Rattle.std.proofs.lemmas.List.{take-append-drop, length-drop, drop-drop, get_or-drop}
 use Rattle.std.proofs.lemmas.Nat.{le_bytes_2, le_bytes_4, le_bytes_8, from_le_bytes-to_le_bytes_2, from_le_bytes-to_le_bytes_4, from_le_bytes-to_le_bytes_8}
 use Rattle.std.specs.Int.{w16, w32, w64, to_le_bytes, from_le_bytes}
-use Rattle.std.specs.Borrow.{Bor}
 use Rattle.zerotrie_base.specs.Kind.{Kind, simple_ascii, ignore_case, perfect_hash, extended_capacity, tag}
 use Rattle.zerotrie_base.specs.Kinds.{IsTag}
 use Rattle.zerotrie_base.specs.declared.kind.TrieKind.TheVariants.{Simple, Ignore, Hash, Ext}
 use Rattle.zerotrie_sealed.specs.Checksum.{crc32c}
-use Rattle.zerotrie_sealed.specs.Sealed.{magic, version, index_number, front_as, header_as, IsSealedAs, IsSealed, IsSealedIndex}
-use Rattle.zerotrie_sealed.specs.Faults.{version_in, kind_in, length_in, checksum_in, IsFaultBy, IsFileFault, IsSealFault, IsIndexFault}
+use Rattle.zerotrie_sealed.specs.Sealed.{magic, version, front_as, header_as, IsSealedAs, IsSealed}
+use Rattle.zerotrie_sealed.specs.Faults.{version_in, kind_in, length_in, checksum_in, HasSumOf, IsFaultBy, IsFileFault, IsSealFault}
 use Rattle.zerotrie_sealed.specs.declared.reading.SealError.{SealError}
 use Rattle.zerotrie_sealed.specs.declared.reading.SealError.TheVariants.{NoMagic, UnknownVersion, UnknownKind, CutShort, TooLong, Checksum}
 use Rattle.zerotrie_sealed.proofs.Chunks.{crc32c-lt}
@@ -78,36 +77,33 @@ fields file long below begins =
     ∙ ap (λ l. to_le_bytes w16 (kind_in file) ++ l) (cut 12 8 20 file refl ∙ ap (λ l. l ++ drop 20 file) p12
     ∙ ap (λ l. to_le_bytes w64 (length_in file) ++ l) (cut 20 4 24 file refl ∙ ap (λ l. l ++ drop 24 file) p20))))
 
-headed : (number : ℕ) (file : List ℕ) → 24 ≤ length file → ((i : ℕ) → get_or file i 0 < 256) → take 8 file ≡ magic
-    → version_in file ≡ version → kind_in file ≡ number → 24 + length_in file ≡ length file
-    → file ≡ front_as number (drop 24 file) ++ (to_le_bytes w32 (checksum_in file) ++ drop 24 file)
-headed number file long below begins known has fits =
-    let n : length_in file ≡ length (drop 24 file) = omega (arith, length-drop 24 file) in
+headed : (number : ℕ) (bytes file : List ℕ) → 24 ≤ length file → ((i : ℕ) → get_or file i 0 < 256) → take 8 file ≡ magic
+    → version_in file ≡ version → kind_in file ≡ number → length_in file ≡ length bytes
+    → file ≡ front_as number bytes ++ (to_le_bytes w32 (checksum_in file) ++ drop 24 file)
+headed number bytes file long below begins known has fits =
     fields file long below begins
     ∙ ap (λ v. magic ++ (to_le_bytes w16 v ++ (to_le_bytes w16 (kind_in file) ++ (to_le_bytes w64 (length_in file) ++ (to_le_bytes w32 (checksum_in file) ++ drop 24 file))))) known
     ∙ ap (λ k. magic ++ (to_le_bytes w16 version ++ (to_le_bytes w16 k ++ (to_le_bytes w64 (length_in file) ++ (to_le_bytes w32 (checksum_in file) ++ drop 24 file))))) has
-    ∙ ap (λ m. magic ++ (to_le_bytes w16 version ++ (to_le_bytes w16 number ++ (to_le_bytes w64 m ++ (to_le_bytes w32 (checksum_in file) ++ drop 24 file))))) n
+    ∙ ap (λ m. magic ++ (to_le_bytes w16 version ++ (to_le_bytes w16 number ++ (to_le_bytes w64 m ++ (to_le_bytes w32 (checksum_in file) ++ drop 24 file))))) fits
+
+-- a file begins with the header of bytes of which its parts speak
+pub header-agreed : (number : ℕ) (bytes file : List ℕ) → 24 ≤ length file → ((i : ℕ) → get_or file i 0 < 256) → take 8 file ≡ magic
+    → version_in file ≡ version → kind_in file ≡ number → length_in file ≡ length bytes → HasSumOf bytes file → file ≡ header_as number bytes ++ drop 24 file
+header-agreed number bytes file long below begins known has fits sum =
+    let whole : file ≡ front_as number bytes ++ (to_le_bytes w32 (checksum_in file) ++ drop 24 file) = headed number bytes file long below begins known has fits in
+    let ahead : take 20 file ≡ front_as number bytes = ap (take 20) whole in
+    let same : checksum_in file ≡ crc32c (front_as number bytes ++ bytes) = sum ∙ ap (λ l. crc32c (l ++ bytes)) ahead in
+    whole ∙ ap (λ c. front_as number bytes ++ (to_le_bytes w32 c ++ drop 24 file)) same
 
 pub IsSealed-agreed : (number : ℕ) (file : List ℕ) → 24 ≤ length file → ((i : ℕ) → get_or file i 0 < 256) → take 8 file ≡ magic
     → version_in file ≡ version → kind_in file ≡ number → 24 + length_in file ≡ length file
-    → checksum_in file ≡ crc32c (take 20 file ++ drop 24 file) → IsSealedAs number (drop 24 file) file
+    → HasSumOf (drop 24 file) file → IsSealedAs number (drop 24 file) file
 IsSealed-agreed number file long below begins known has fits sum =
-    let bytes : List ℕ = drop 24 file in
-    let whole : file ≡ front_as number bytes ++ (to_le_bytes w32 (checksum_in file) ++ bytes) = headed number file long below begins known has fits in
-    let ahead : take 20 file ≡ front_as number bytes = ap (take 20) whole in
-    let same : checksum_in file ≡ crc32c (front_as number bytes ++ bytes) = sum ∙ ap (λ l. crc32c (l ++ bytes)) ahead in
-    record { parts = whole ∙ ap (λ c. front_as number bytes ++ (to_le_bytes w32 c ++ bytes)) same }
-
--- the same of an index that is returned if its parts agree
-pub indexed : (file : List ℕ) (result : Result (Bor (List ℕ)) SealError) → 24 ≤ length file → ((i : ℕ) → get_or file i 0 < 256) → take 8 file ≡ magic → version_in file ≡ version → kind_in file ≡ index_number
-    → IfOk result (λ index. index.now ≡ drop 24 file) → IfOk result (λ _. 24 + length_in file ≡ length file) → IfOk result (λ _. checksum_in file ≡ crc32c (take 20 file ++ drop 24 file))
-    → IfOk result (λ index. IsSealedIndex index.now file)
-indexed file (Ok index) long below begins known has bytes fits sum = rw bytes (IsSealed-agreed index_number file long below begins known has fits sum)
-indexed file (Err e) long below begins known has bytes fits sum = tt
+    record { parts = header-agreed number (drop 24 file) file long below begins known has (omega (arith, length-drop 24 file)) sum }
 
 -- ---- a sealed file has no fault
 
-tag-lt : (kind : Kind) → tag kind < 2 ^ 16
+pub tag-lt : (kind : Kind) → tag kind < 2 ^ 16
 tag-lt simple_ascii = omega arith
 tag-lt ignore_case = omega arith
 tag-lt perfect_hash = omega arith
@@ -119,33 +115,33 @@ IsTag-tag ignore_case = (Ignore, refl)
 IsTag-tag perfect_hash = (Hash, refl)
 IsTag-tag extended_capacity = (Ext, refl)
 
-kind_in-header : (number : ℕ) (bytes : List ℕ) → number < 2 ^ 16 → kind_in (header_as number bytes ++ bytes) ≡ number
-kind_in-header number bytes low = from_le_bytes-to_le_bytes_2 number low
+pub kind_in-header : (number : ℕ) (bytes more : List ℕ) → number < 2 ^ 16 → kind_in (header_as number bytes ++ more) ≡ number
+kind_in-header number bytes more low = from_le_bytes-to_le_bytes_2 number low
 
-length_in-header : (number : ℕ) (bytes : List ℕ) → length bytes < 2 ^ 64 → length_in (header_as number bytes ++ bytes) ≡ length bytes
-length_in-header number bytes low = from_le_bytes-to_le_bytes_8 (length bytes) low
+pub length_in-header : (number : ℕ) (bytes more : List ℕ) → length bytes < 2 ^ 64 → length_in (header_as number bytes ++ more) ≡ length bytes
+length_in-header number bytes more low = from_le_bytes-to_le_bytes_8 (length bytes) low
 
-checksum_in-header : (number : ℕ) (bytes : List ℕ) → crc32c (front_as number bytes ++ bytes) < 2 ^ 32
-    → checksum_in (header_as number bytes ++ bytes) ≡ crc32c (front_as number bytes ++ bytes)
-checksum_in-header number bytes low = from_le_bytes-to_le_bytes_4 (crc32c (front_as number bytes ++ bytes)) low
+pub checksum_in-header : (number : ℕ) (bytes more : List ℕ) → crc32c (front_as number bytes ++ bytes) < 2 ^ 32
+    → checksum_in (header_as number bytes ++ more) ≡ crc32c (front_as number bytes ++ bytes)
+checksum_in-header number bytes more low = from_le_bytes-to_le_bytes_4 (crc32c (front_as number bytes ++ bytes)) low
 
-length-sealed : (number : ℕ) (bytes : List ℕ) → length (header_as number bytes ++ bytes) ≡ 24 + length bytes
+pub length-sealed : (number : ℕ) (bytes : List ℕ) → length (header_as number bytes ++ bytes) ≡ 24 + length bytes
 length-sealed number bytes = omega arith
 
 faultless : (IsKnown : ℕ → Type 0) (number : ℕ) (bytes : List ℕ) (e : SealError) → IsKnown number → number < 2 ^ 16 → 24 + length bytes < 2 ^ 64 → crc32c (front_as number bytes ++ bytes) < 2 ^ 32
     → IsFaultBy IsKnown (header_as number bytes ++ bytes) e → ⊥
 faultless IsKnown number bytes NoMagic known small short low fault = fault refl
 faultless IsKnown number bytes (UnknownVersion v) known small short low fault = fault.1 (sym fault.0)
-faultless IsKnown number bytes (UnknownKind n) known small short low fault = fault.1 (subst IsKnown (sym (kind_in-header number bytes small) ∙ fault.0) known)
+faultless IsKnown number bytes (UnknownKind n) known small short low fault = fault.1 (subst IsKnown (sym (kind_in-header number bytes bytes small) ∙ fault.0) known)
 faultless IsKnown number bytes CutShort known small short low fault =
-    let n : length_in (header_as number bytes ++ bytes) ≡ length bytes = length_in-header number bytes (omega arith) in
+    let n : length_in (header_as number bytes ++ bytes) ≡ length bytes = length_in-header number bytes bytes (omega arith) in
     let all : length (header_as number bytes ++ bytes) ≡ 24 + length bytes = length-sealed number bytes in
     elim fault [ inl less ↦ omega arith | inr less ↦ omega arith ]
 faultless IsKnown number bytes TooLong known small short low fault =
-    let n : length_in (header_as number bytes ++ bytes) ≡ length bytes = length_in-header number bytes (omega arith) in
+    let n : length_in (header_as number bytes ++ bytes) ≡ length bytes = length_in-header number bytes bytes (omega arith) in
     let all : length (header_as number bytes ++ bytes) ≡ 24 + length bytes = length-sealed number bytes in
     omega arith
-faultless IsKnown number bytes Checksum known small short low fault = fault (checksum_in-header number bytes low)
+faultless IsKnown number bytes Checksum known small short low fault = fault (checksum_in-header number bytes bytes low)
 
 -- no cause of an error holds of a file that is sealed by a known number
 pub no_fault : (IsKnown : ℕ → Type 0) (number : ℕ) (bytes file : List ℕ) (e : SealError) → IsKnown number → number < 2 ^ 16 → length file < 2 ^ 64 → ((i : ℕ) → get_or file i 0 < 256)
@@ -167,16 +163,8 @@ pub no_seal : {T : Type 0} (file : List ℕ) (result : Result T SealError) → l
 no_seal file (Ok x) short below fault = tt
 no_seal file (Err e) short below fault = no_trie file e short below fault
 
-pub none_indexed : (file : List ℕ) (e : SealError) → length file < 2 ^ 64 → ((i : ℕ) → get_or file i 0 < 256) → IsIndexFault file e → (index : List ℕ) → IsSealedIndex index file → ⊥
-none_indexed file e short below fault index is = no_fault (λ number. number ≡ index_number) index_number index file e refl (omega arith) short below fault is
-
-pub no_index : {T : Type 0} (file : List ℕ) (result : Result T SealError) → length file < 2 ^ 64 → ((i : ℕ) → get_or file i 0 < 256)
-    → IfErr result (IsIndexFault file) → IfErr result (λ _. (index : List ℕ) → IsSealedIndex index file → ⊥)
-no_index file (Ok x) short below fault = tt
-no_index file (Err e) short below fault = none_indexed file e short below fault
-
 -- an error that says nothing of the number is one whatever numbers are known
-fault_by : (IsKnown : ℕ → Type 0) (file : List ℕ) (e : SealError) → IsFileFault file e → IsFaultBy IsKnown file e
+pub fault_by : (IsKnown : ℕ → Type 0) (file : List ℕ) (e : SealError) → IsFileFault file e → IsFaultBy IsKnown file e
 fault_by IsKnown file NoMagic fault = fault
 fault_by IsKnown file (UnknownVersion v) fault = fault
 fault_by IsKnown file (UnknownKind n) fault = absurd (fault.1 tt)
@@ -187,10 +175,6 @@ fault_by IsKnown file Checksum fault = fault
 pub seal_fault : {T : Type 0} (file : List ℕ) (result : Result T SealError) → IfErr result (IsFileFault file) → IfErr result (IsSealFault file)
 seal_fault file (Ok x) fault = tt
 seal_fault file (Err e) fault = fault_by IsTag file e fault
-
-pub index_fault : {T : Type 0} (file : List ℕ) (result : Result T SealError) → IfErr result (IsFileFault file) → IfErr result (IsIndexFault file)
-index_fault file (Ok x) fault = tt
-index_fault file (Err e) fault = fault_by (λ number. number ≡ index_number) file e fault
 
 -- ---- one file is the seal of one list of bytes
 
@@ -205,7 +189,7 @@ pub one_content : (number other : ℕ) (bytes second file : List ℕ) → number
     → IsSealedAs number bytes file → IsSealedAs other second file → (number ≡ other) × (bytes ≡ second)
 one_content number other bytes second file low small a b =
     let both : header_as number bytes ++ bytes ≡ header_as other second ++ second = sym a.parts ∙ b.parts in
-    (sym (kind_in-header number bytes low) ∙ ap kind_in both ∙ kind_in-header other second small, ap (drop 24) both)
+    (sym (kind_in-header number bytes bytes low) ∙ ap kind_in both ∙ kind_in-header other second second small, ap (drop 24) both)
 
 pub one_trie : (kind other : Kind) (trie second file : List ℕ) → IsSealed kind trie file → IsSealed other second file → (kind ≡ other) × (trie ≡ second)
 one_trie kind other trie second file a b =
@@ -215,7 +199,7 @@ one_trie kind other trie second file a b =
 length_in-more : (number : ℕ) (bytes more : List ℕ) → length bytes < 2 ^ 64 → length_in ((header_as number bytes ++ bytes) ++ more) ≡ length bytes
 length_in-more number bytes more low = from_le_bytes-to_le_bytes_8 (length bytes) low
 
-nothing : (more : List ℕ) → length more ≡ 0 → more ≡ []
+pub nothing : (more : List ℕ) → length more ≡ 0 → more ≡ []
 nothing [] e = refl
 nothing (x ∷ more) e = absurd (omega arith)
 
@@ -228,6 +212,6 @@ none_longer number other bytes second file more short a b =
     let two : length (file ++ more) ≡ 24 + length second = ap length b.parts ∙ length-sealed other second in
     let n : length_in (file ++ more) ≡ length bytes =
     ap (λ f. length_in (f ++ more)) a.parts ∙ length_in-more number bytes more (omega arith) in
-    let m : length_in (file ++ more) ≡ length second = ap length_in b.parts ∙ length_in-header other second (omega arith) in
+    let m : length_in (file ++ more) ≡ length second = ap length_in b.parts ∙ length_in-header other second second (omega arith) in
     let same : length bytes ≡ length second = sym n ∙ m in
     nothing more (omega arith)

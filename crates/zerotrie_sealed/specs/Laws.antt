@@ -1,7 +1,7 @@
 -- Laws of sealed files.
 use Rattle.std.specs.Prelude.{◌≡◌, ◌<◌, ◌^◌, ℕ, List, [], ◌∷◌, ◌++◌, length, slice_index}
 use Rattle.zerotrie_base.specs.Kind.{Kind}
-use Rattle.zerotrie_sealed.specs.Sealed.{IsSealed, IsSealedAs}
+use Rattle.zerotrie_sealed.specs.Sealed.{IsSealed, IsSealedAs, IsSealedIndex}
 
 -- no file is the seal of two tries, or of one trie in two kinds
 abbrev pub OneTrie : Type 0
@@ -26,3 +26,19 @@ abbrev pub OneByteShows : Type 0
 OneByteShows = (number other : ℕ) (bytes second front behind : List ℕ) (b d : ℕ)
     → AreBytes (front ++ (b ∷ behind)) → AreBytes (front ++ (d ∷ behind))
     → IsSealedAs number bytes (front ++ (b ∷ behind)) → IsSealedAs other second (front ++ (d ∷ behind)) → b ≡ d
+
+-- no file is two sealed indexes, or one and a sealed trie
+abbrev pub OneIndex : Type 0
+OneIndex = (index file : List ℕ) → IsSealedIndex index file
+    → ((second : List ℕ) → IsSealedIndex second file → index ≡ second) × ((kind : Kind) (trie : List ℕ) → IsSealed kind trie file → ⊥)
+
+-- no sealed index is the beginning of a longer one
+abbrev pub NoIndexLonger : Type 0
+NoIndexLonger = (index second file more : List ℕ) → length (file ++ more) < 2 ^ 64
+    → IsSealedIndex index file → IsSealedIndex second (file ++ more) → more ≡ []
+
+-- two sealed indexes that differ in one byte at most are one file
+abbrev pub OneByteOfIndexShows : Type 0
+OneByteOfIndexShows = (index second front behind : List ℕ) (b d : ℕ)
+    → AreBytes (front ++ (b ∷ behind)) → AreBytes (front ++ (d ∷ behind))
+    → IsSealedIndex index (front ++ (b ∷ behind)) → IsSealedIndex second (front ++ (d ∷ behind)) → b ≡ d

@@ -1,5 +1,5 @@
--- Sealed files: a header, and then the bytes of a trie or of an index.
-use Rattle.std.specs.Prelude.{◌≡◌, ℕ, List, [], ◌∷◌, ◌++◌, length}
+-- Sealed files: a header, and then the bytes of a trie or of an index, or the table of an index, which is behind it.
+use Rattle.std.specs.Prelude.{◌≡◌, ◌⊎◌, ℕ, zero, suc, ◌+◌, ◌/◌, ◌<◌, ◌^◌, List, [], ◌∷◌, ◌++◌, length, take, drop}
 use Rattle.std.specs.Int.{w16, w32, w64, to_le_bytes}
 use Rattle.zerotrie_base.specs.Kind.{Kind, tag}
 use Rattle.zerotrie_sealed.specs.Checksum.{crc32c}
@@ -12,9 +12,15 @@ magic = 0x7A ∷ 0x74 ∷ 0x72 ∷ 0x69 ∷ 0x89 ∷ 0x8A ∷ 0x0D ∷ 0x0A ∷ 
 abbrev pub version : ℕ
 version = 1
 
--- the number of an index in the header, which no kind has
+-- the numbers of an index in the header, which no kind has: of an index as a whole, and of the table of one in blocks
 abbrev pub index_number : ℕ
 index_number = 24
+
+abbrev pub blocks_number : ℕ
+blocks_number = 25
+
+abbrev pub IsIndexNumber : ℕ → Type 0
+IsIndexNumber number = (number ≡ index_number) ⊎ (number ≡ blocks_number)
 
 -- the header without its checksum: the magic, the version, the number of what is sealed, its length
 abbrev pub front_as : ℕ → List ℕ → List ℕ
@@ -36,6 +42,34 @@ pub record IsSealedAs (number : ℕ) (bytes file : List ℕ) : Type 0 where
 abbrev pub IsSealed : Kind → List ℕ → List ℕ → Type 0
 IsSealed kind trie file = IsSealedAs (tag kind) trie file
 
--- the file is the bytes of an index, sealed
+-- the bytes of a block; the last one of an index may have fewer
+abbrev pub block_len : ℕ
+block_len = 65536
+
+-- the number of blocks of as many bytes
+abbrev pub block_count : ℕ → ℕ
+block_count len = (len + 65535) / block_len
+
+-- the checksums of as many blocks, one after another
+abbrev pub sums : ℕ → List ℕ → List ℕ
+sums zero bytes = []
+sums (suc n) bytes = to_le_bytes w32 (crc32c (take block_len bytes)) ++ sums n (drop block_len bytes)
+
+-- the checksums of all blocks
+abbrev pub sums_of : List ℕ → List ℕ
+sums_of bytes = sums (block_count (length bytes)) bytes
+
+-- the table of an index in blocks: its length, and the checksums of its blocks
+abbrev pub table_of : List ℕ → List ℕ
+table_of index = to_le_bytes w64 (length index) ++ sums_of index
+
+-- The file is an index in blocks: its table, sealed, and then the index.
+pub record IsSealedInBlocks (index file : List ℕ) : Type 0 where
+  pub front : List ℕ
+  pub sealed : IsSealedAs blocks_number (table_of index) front
+  pub parts : file ≡ front ++ index
+  pub fits : length index < 2 ^ 64
+
+-- the file is the bytes of an index, sealed as a whole or in blocks
 abbrev pub IsSealedIndex : List ℕ → List ℕ → Type 0
-IsSealedIndex index file = IsSealedAs index_number index file
+IsSealedIndex index file = IsSealedAs index_number index file ⊎ IsSealedInBlocks index file

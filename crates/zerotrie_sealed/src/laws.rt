@@ -2,7 +2,7 @@
 //!
 //! Each function does nothing: a call brings its law into a proof.
 
-ghost use Rattle.zerotrie_sealed.specs.Laws.{OneTrie, OneContent, NoneLonger, OneByteShows};
+ghost use Rattle.zerotrie_sealed.specs.Laws.{OneTrie, OneContent, NoneLonger, OneByteShows, OneIndex, NoIndexLonger, OneByteOfIndexShows};
 
 /// A file is the seal of one trie at most, in one kind.
 pub fn one_trie()
@@ -24,4 +24,19 @@ pub fn none_longer()
 /// A sealed file in which one byte is replaced by another is no sealed file.
 pub fn one_byte_shows()
     ensures { OneByteShows }
+{}
+
+/// A file is the seal of one index at most, and of no trie as well.
+pub fn one_index()
+    ensures { OneIndex }
+{}
+
+/// No sealed index is the beginning of a longer one.
+pub fn no_index_longer()
+    ensures { NoIndexLonger }
+{}
+
+/// A sealed index in which one byte is replaced by another is no sealed index.
+pub fn one_byte_of_index_shows()
+    ensures { OneByteOfIndexShows }
 {}

@@ -1,14 +1,13 @@
-//! Opening: the trie or the index of a sealed file, or what is wrong with the file.
+//! Opening: the trie of a sealed file, or what is wrong with the file.
 
-ghost use Rattle.std.specs.Prelude.{◌≡◌, ℕ, ◌+◌, ◌≤◌, ◌↔◌, IsTrue, IfOk, IfErr, IfSome, IfNone, List, ◌++◌, length, take, drop};
+ghost use Rattle.std.specs.Prelude.{◌≡◌, ℕ, ◌+◌, ◌≤◌, ◌↔◌, IsTrue, IfOk, IfErr, IfSome, IfNone, List, length, take, drop};
 ghost use Rattle.zerotrie_base.specs.Kind.{Kind, tag};
 ghost use Rattle.zerotrie_base.specs.Kinds.{kind_of, IsTag};
-ghost use Rattle.zerotrie_sealed.specs.Checksum.{crc32c};
-ghost use Rattle.zerotrie_sealed.specs.Sealed.{magic, version, index_number, IsSealed, IsSealedIndex};
-ghost use Rattle.zerotrie_sealed.specs.Faults.{IsFileFault, IsSealFault, IsIndexFault, HasKnown, IsSealRightBefore, IsIndexRightBefore, version_in, kind_in, length_in, checksum_in};
+ghost use Rattle.zerotrie_sealed.specs.Sealed.{magic, version, IsIndexNumber, IsSealed};
+ghost use Rattle.zerotrie_sealed.specs.Faults.{IsFileFault, IsHeaderFault, IsSealFault, HasKnown, IsRightBefore, IsSealRightBefore, IsIndexRightBefore, version_in, kind_in, length_in, HasSumOf};
 
 use crate::checksum::crc32c_of_both;
-use crate::writing::{FRONT_LEN, HEADER_LEN, INDEX_NUMBER, MAGIC, VERSION};
+use crate::writing::{FRONT_LEN, HEADER_LEN, MAGIC, VERSION};
 use thiserror::Error;
 use zerotrie_base::TrieKind;
 
@@ -25,13 +24,15 @@ pub enum SealError {
     /// of an index.
     #[error("the file has the number {0}, which stands for nothing that is asked for")]
     UnknownKind(u16),
-    /// The file has fewer bytes than its header says, or not even a header.
+    /// The file has fewer bytes than its header says, or not even a header; of an index in blocks,
+    /// fewer than its table says.
     #[error("the file is cut short: get all of it")]
     CutShort,
-    /// The file has more bytes than its header says.
+    /// The file has more bytes than its header says; of an index in blocks, than its table says.
     #[error("bytes follow what is sealed: get the file alone")]
     TooLong,
-    /// The checksum in the header is not that of the rest of the file.
+    /// The checksum in the header is not that of the rest of the file; of an index in blocks, it is
+    /// not that of the table, or the table is not that of the index.
     #[error("the file is damaged: its bytes do not have the checksum that it was written with")]
     Checksum,
 }
@@ -62,12 +63,13 @@ pub fn begins_sealed(file: &[u8]) -> bool
 
 /// Returns the number in the header of a file, if it begins as a sealed one and its version is
 /// known.
-fn number_in(file: &[u8]) -> Result<u16, SealError>
+pub(crate) fn number_in(file: &[u8]) -> Result<u16, SealError>
     ensures magic { IfOk result (λ _. take 8 file.now ≡ magic) }
     ensures header { IfOk result (λ _. 24 ≤ length file.now) }
     ensures version { IfOk result (λ _. version_in file.now ≡ version) }
     ensures number { IfOk result (λ number. kind_in file.now ≡ number) }
     ensures fault { IfErr result (IsFileFault file.now) }
+    ensures alone { IfErr result (IsHeaderFault file.now) }
     ensures trie { IfErr result (IsSealRightBefore file.now) }
     ensures index { IfErr result (IsIndexRightBefore file.now) }
 {
@@ -99,6 +101,18 @@ fn kind_of(number: u16) -> Option<TrieKind>
     }
 }
 
+/// Returns the length in the header of a file.
+pub(crate) fn length_in(file: &[u8]) -> usize
+    requires { 24 ≤ length file.now }
+    ensures { result ≡ length_in file.now }
+{
+    let (_, numbers) = file.split_at(12);
+    usize::from_le_bytes([
+        numbers[0], numbers[1], numbers[2], numbers[3], numbers[4], numbers[5], numbers[6],
+        numbers[7],
+    ])
+}
+
 /// Returns the bytes behind the header of a file, if they are as many as it says.
 fn bytes_in(file: &[u8]) -> Result<&[u8], SealError>
     requires { 24 ≤ length file.now }
@@ -106,14 +120,10 @@ fn bytes_in(file: &[u8]) -> Result<&[u8], SealError>
     ensures length { IfOk result (λ _. 24 + length_in file.now ≡ length file.now) }
     ensures fault { IfErr result (IsFileFault file.now) }
     ensures trie { HasKnown IsTag file.now → IfErr result (IsSealRightBefore file.now) }
-    ensures index { HasKnown (λ number. number ≡ index_number) file.now
-        → IfErr result (IsIndexRightBefore file.now) }
+    ensures index { HasKnown IsIndexNumber file.now
+        → IfErr result (IsRightBefore IsIndexNumber file.now) }
 {
-    let (_, numbers) = file.split_at(12);
-    let length = usize::from_le_bytes([
-        numbers[0], numbers[1], numbers[2], numbers[3], numbers[4], numbers[5], numbers[6],
-        numbers[7],
-    ]);
+    let length = length_in(file);
     let (_, bytes) = file.split_at(HEADER_LEN);
     if bytes.len() < length {
         return Err(SealError::CutShort);
@@ -124,32 +134,30 @@ fn bytes_in(file: &[u8]) -> Result<&[u8], SealError>
     Ok(bytes)
 }
 
-/// Returns whether the checksum in the header of a file is that of the rest of the file.
-fn has_checksum(file: &[u8]) -> bool
+/// Returns whether the checksum in the header of a file is that of the rest of the header and of
+/// these bytes.
+pub(crate) fn has_checksum(file: &[u8], bytes: &[u8]) -> bool
     requires { 24 ≤ length file.now }
-    ensures { IsTrue result
-        ↔ (checksum_in file.now ≡ crc32c (take 20 file.now ++ drop 24 file.now)) }
+    ensures { IsTrue result ↔ HasSumOf bytes.now file.now }
 {
     let (front, numbers) = file.split_at(FRONT_LEN);
-    let (_, trie) = file.split_at(HEADER_LEN);
     let checksum = u32::from_le_bytes([numbers[0], numbers[1], numbers[2], numbers[3]]);
-    checksum == crc32c_of_both(front, trie)
+    checksum == crc32c_of_both(front, bytes)
 }
 
 /// Returns the bytes behind the header of a file, if its length and its checksum are right.
-fn whole_in(file: &[u8]) -> Result<&[u8], SealError>
+pub(crate) fn whole_in(file: &[u8]) -> Result<&[u8], SealError>
     requires { 24 ≤ length file.now }
     ensures bytes { IfOk result (λ bytes. bytes.now ≡ drop 24 file.now) }
     ensures length { IfOk result (λ _. 24 + length_in file.now ≡ length file.now) }
-    ensures checksum { IfOk result (λ _.
-        checksum_in file.now ≡ crc32c (take 20 file.now ++ drop 24 file.now)) }
+    ensures checksum { IfOk result (λ _. HasSumOf (drop 24 file.now) file.now) }
     ensures fault { IfErr result (IsFileFault file.now) }
     ensures trie { HasKnown IsTag file.now → IfErr result (IsSealRightBefore file.now) }
-    ensures index { HasKnown (λ number. number ≡ index_number) file.now
-        → IfErr result (IsIndexRightBefore file.now) }
+    ensures index { HasKnown IsIndexNumber file.now
+        → IfErr result (IsRightBefore IsIndexNumber file.now) }
 {
     let bytes = bytes_in(file)?;
-    if !has_checksum(file) {
+    if !has_checksum(file, bytes) {
         return Err(SealError::Checksum);
     }
     Ok(bytes)
@@ -187,32 +195,4 @@ pub fn open(file: &[u8]) -> Result<Sealed<'_>, SealError>
     };
     let trie = whole_in(file)?;
     Ok(Sealed { kind, trie })
-}
-
-/// Returns the index in a sealed file: the bytes that `seal_index` was given. Does not copy or
-/// validate them, and does not allocate.
-///
-/// ```
-/// let file = seal_index(rt.alloc(), b"an index")?;
-/// assert_eq!(rt; open_index(file.as_slice())?, b"an index".as_slice());
-/// assert!(rt; open(file.as_slice()).err() == Some(SealError::UnknownKind(INDEX_NUMBER)));
-///
-/// let trie = seal(rt.alloc(), TrieKind::Hash, b"a\x85")?;
-/// assert!(rt; open_index(trie.as_slice()).err() == Some(SealError::UnknownKind(3)));
-/// ```
-///
-/// A file is taken exactly if it is what `seal_index` returns for some bytes, and these are what is
-/// returned. What an error says is true of the file, and the parts are looked at in the order of
-/// `open`; `UnknownKind` says that it is sealed as no index.
-pub fn open_index(file: &[u8]) -> Result<&[u8], SealError>
-    ensures ok { IfOk result (λ index. IsSealedIndex index.now file.now) }
-    ensures fault { IfErr result (IsIndexFault file.now) }
-    ensures order { IfErr result (IsIndexRightBefore file.now) }
-    ensures none { IfErr result (λ _. (index : List ℕ) → IsSealedIndex index file.now → ⊥) }
-{
-    let number = number_in(file)?;
-    if number != INDEX_NUMBER {
-        return Err(SealError::UnknownKind(number));
-    }
-    whole_in(file)
 }

@@ -1,10 +1,11 @@
-//! Sealing: the header of a trie or an index, and each behind its header.
+//! Sealing: the header of a trie or of the table of an index, and what is behind it.
 
 ghost use Rattle.std.specs.Prelude.{◌≡◌, IfOk, ◌++◌};
 ghost use Rattle.std.specs.Int.{w32, to_le_bytes};
 ghost use Rattle.zerotrie_base.specs.Kinds.{kind_of};
-ghost use Rattle.zerotrie_sealed.specs.Sealed.{front_as, header_as, header, IsSealedAs, IsSealed, IsSealedIndex};
+ghost use Rattle.zerotrie_sealed.specs.Sealed.{front_as, header_as, header, table_of, IsSealedAs, IsSealed, IsSealedIndex};
 
+use crate::blocks::add_sums;
 use crate::checksum::crc32c_of_both;
 use std::alloc::{AllocError, Global};
 use zerotrie_base::TrieKind;
@@ -18,11 +19,16 @@ pub(crate) const VERSION: u16 = 1;
 /// The number of bytes in front of the checksum.
 pub(crate) const FRONT_LEN: usize = 20;
 
-/// The number of bytes in front of the trie or the index in a sealed file.
+/// The number of bytes in front of the trie or of the table of an index in a sealed file.
 pub const HEADER_LEN: usize = 24;
 
-/// The number in the header of the sealed file of an index. No kind of trie has it.
+/// The number in the header of an index that is sealed as a whole, which `open_index` reads. No kind
+/// of trie has it.
 pub const INDEX_NUMBER: u16 = 24;
+
+/// The number in the header of an index that is sealed in blocks, as `seal_index` does. No kind of
+/// trie has it.
+pub const BLOCKS_NUMBER: u16 = 25;
 
 /// Returns the header of these bytes, with this number and this checksum.
 fn header_with(number: u16, bytes: &[u8], checksum: u32) -> [u8; HEADER_LEN]
@@ -86,16 +92,34 @@ pub fn seal(alloc: Global, kind: TrieKind, trie: &[u8]) -> Result<Vec<u8>, Alloc
     seal_as(alloc, u16::from(kind.tag()), trie)
 }
 
+/// Returns the table of an index: its length, and the checksum of each of its blocks.
+fn table_of(alloc: Global, index: &[u8]) -> Result<Vec<u8>, AllocError>
+    ensures { IfOk result (λ table. table.items ≡ table_of index.now) }
+{
+    let mut table = Vec::new(alloc);
+    table.extend_from_slice(&index.len().to_le_bytes())?;
+    add_sums(index, &mut table)?;
+    Ok(table)
+}
+
 /// Returns the sealed file of this index, which `open_index` reads, and `open` does not.
 ///
 /// ```
 /// let file = seal_index(rt.alloc(), b"an index")?;
-/// assert_eq!(rt; file[8..12], b"\x01\x00\x18\x00"[..]);
+/// assert_eq!(rt; file[8..12], b"\x01\x00\x19\x00"[..]);
+/// assert_eq!(rt; file[24..32], 8u64.to_le_bytes()[..]);
+/// assert_eq!(rt; file[32..36], crc32c(b"an index").to_le_bytes()[..]);
+/// assert_eq!(rt; file[36..], b"an index"[..]);
 /// ```
 ///
-/// The bytes need not be an index. An error means that an allocation failed.
+/// In front of the index is a table, itself sealed: the length of the index, and the checksum of
+/// each block of `BLOCK_LEN` bytes. So a block can be read and tested without the others. The bytes
+/// need not be an index. An error means that an allocation failed.
 pub fn seal_index(alloc: Global, index: &[u8]) -> Result<Vec<u8>, AllocError>
     ensures { IfOk result (λ file. IsSealedIndex index.now file.items) }
 {
-    seal_as(alloc, INDEX_NUMBER, index)
+    let table = table_of(alloc, index)?;
+    let mut file = seal_as(alloc, BLOCKS_NUMBER, table.as_slice())?;
+    file.extend_from_slice(index)?;
+    Ok(file)
 }
