@@ -373,16 +373,42 @@ ZEROTRIE_READ_INLINE bool zerotrie_read_open(const void *file, size_t len, uint3
     return true;
 }
 
+/* Returns how many bytes are in front of an index that is sealed in blocks: a table, sealed by
+ * itself, with the length of the index and the checksum of each block of 65,536 bytes. Returns 0
+ * unless the file is such a one and whole. */
+ZEROTRIE_READ_INLINE size_t zerotrie_read_front(const uint8_t *file, size_t len) {
+    const uint8_t *at, *sum;
+    size_t front, left, block;
+    if (len < 32 || zerotrie_read_eight(file + 12) > len - 24)
+        return 0;
+    front = 24 + (size_t)zerotrie_read_eight(file + 12);
+    left = len - front;
+    if (front < 32 || !zerotrie_read_is_whole(file, front, 25)
+        || zerotrie_read_eight(file + 24) != left
+        || front - 32 != 4 * (left / 65536 + (left % 65536 != 0)))
+        return 0;
+    for (at = file + front, sum = file + 28; left; at += block, left -= block, sum += 4) {
+        block = left < 65536 ? left : 65536;
+        if (zerotrie_read_checksum(0, at, block) != (uint32_t)(zerotrie_read_eight(sum) >> 32))
+            return 0;
+    }
+    return front;
+}
+
 /* Finds the index in a sealed file, and sets *index and *index_len. Returns whether there is one in
- * a file that is whole, as its length and its checksum say; otherwise nothing is set. The index is
- * not validated. */
+ * a file that is whole, as its lengths and its checksums say; otherwise nothing is set. The index
+ * is not validated. */
 ZEROTRIE_READ_INLINE bool zerotrie_read_open_index(const void *file, size_t len,
                                                    const uint8_t **index, size_t *index_len) {
     const uint8_t *const bytes = (const uint8_t *)file;
-    if (!zerotrie_read_is_sealed(bytes, len) || !zerotrie_read_is_whole(bytes, len, 24))
+    size_t front;
+    if (!zerotrie_read_is_sealed(bytes, len))
         return false;
-    *index = bytes + 24;
-    *index_len = len - 24;
+    front = zerotrie_read_is_whole(bytes, len, 24) ? 24 : zerotrie_read_front(bytes, len);
+    if (!front)
+        return false;
+    *index = bytes + front;
+    *index_len = len - front;
     return true;
 }
 
