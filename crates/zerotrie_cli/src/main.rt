@@ -99,7 +99,7 @@ fn goes_to_terminal(rt: &HostRuntime, command: &Command<'_>) -> bool {
 }
 
 /// Returns why a command is not run here, if it is not: it would write a trie to a terminal, or
-/// replace one of its inputs by links.
+/// replace its input by links.
 fn refusal_here<'a>(rt: &HostRuntime, command: &Command<'a>) -> Option<Reply<'a>> {
     if goes_to_terminal(rt, command) {
         return Some(Reply::Refusal(OUTPUT_IS_TERMINAL));
@@ -107,18 +107,12 @@ fn refusal_here<'a>(rt: &HostRuntime, command: &Command<'a>) -> Option<Reply<'a>
     let Command::Build(build) = command else {
         return None;
     };
-    let Place::File(to) = build.to else {
-        return None;
-    };
-    for place in build.from {
-        match place {
-            Place::File(from) if lead_to_one_file(rt, from, to) => {
-                return Some(Reply::OneFile(from, to));
-            }
-            _ => {}
+    match (build.from, build.to) {
+        (Place::File(from), Place::File(to)) if lead_to_one_file(rt, from, to) => {
+            Some(Reply::OneFile(from, to))
         }
+        _ => None,
     }
-    None
 }
 
 /// Does what a request asks, for the file with this number.

@@ -1,5 +1,5 @@
 -- Which pairs are kept of those that have one key.
-use Rattle.std.specs.Prelude.{ℕ, ◌+◌, ◌^◌, ◌<◌, ◌≤◌, All, Bool, List, [], ◌∷◌, ◌++◌, map, filter, if◌then◌else◌, slice_index, slice_index_or, slice_set, Option, Some, None, ◌≡◌, ◌≢◌, ◌⊎◌}
+use Rattle.std.specs.Prelude.{ℕ, ◌+◌, ◌^◌, ◌<◌, ◌≤◌, All, Bool, List, [], ◌∷◌, ◌++◌, map, filter, if◌then◌else◌, slice_index, slice_index_or, slice_set, Option, Some, None, ◌≡◌}
 use Rattle.std.specs.Borrow.{Bor}
 use Rattle.std.specs.Option.{is_some, unwrap_or}
 use Rattle.std.specs.BTreeMap.{BTreeMap, get_by}
@@ -8,13 +8,13 @@ use Rattle.std.specs.Ordering.{nat_cmp}
 use Rattle.std.specs.List.{list_any}
 use Rattle.std.specs.Str.{bytes_eq}
 use Rattle.zerotrie_lines.specs.Tables.{Pair, Pairs, pairs_of}
-use Rattle.zerotrie_sets.specs.Selections.{as_one, one_of_two, AreSame, IsNoOne}
+use Rattle.zerotrie_sets.specs.Selections.{as_one, one_of_two, IsNoOne}
 use Rattle.zerotrie_sets.specs.declared.selection.Rule.{Rule}
 use Rattle.zerotrie_sets.specs.declared.selection.Rule.TheVariants as rules
 use Rattle.zerotrie_sets.specs.declared.selection.RuleError.TheVariants.{SumTooLarge}
 use Rattle.zerotrie_making.specs.declared.duplicates.Kept.{Kept}
 use Rattle.zerotrie_making.specs.declared.duplicates.Duplicates.{Duplicates}
-use Rattle.zerotrie_making.specs.declared.duplicates.Duplicates.TheVariants.{Refuse, First, Last, Sum, Min, Max, Equal}
+use Rattle.zerotrie_making.specs.declared.duplicates.Duplicates.TheVariants.{Refuse, First, Last, Sum, Min, Max}
 
 -- pairs, each after its number
 abbrev pub Numbered : Type 0
@@ -63,11 +63,6 @@ kept Last pairs = unnumbered (lasts (numbered 1 pairs))
 kept Sum pairs = unnumbered (merged rules.Sum pairs)
 kept Min pairs = unnumbered (merged rules.Min pairs)
 kept Max pairs = unnumbered (merged rules.Max pairs)
-kept Equal pairs = unnumbered (merged rules.Equal pairs)
-
--- all pairs of a key have one value, if they are to
-abbrev pub AreEqual : Duplicates → Pairs → Type 0
-AreEqual duplicates pairs = duplicates ≡ Equal → (key : List ℕ) → AreSame (values_of key pairs)
 
 -- the numbers of numbered pairs
 abbrev pub numbers : Numbered → List ℕ
@@ -85,7 +80,6 @@ number_at Last pairs index = number_in (numbers (lasts (numbered 1 pairs))) inde
 number_at Sum pairs index = number_in (numbers (merged rules.Sum pairs)) index
 number_at Min pairs index = number_in (numbers (merged rules.Min pairs)) index
 number_at Max pairs index = number_in (numbers (merged rules.Max pairs)) index
-number_at Equal pairs index = number_in (numbers (merged rules.Equal pairs)) index
 
 -- the values of one key in these pairs have a sum of 2^64 or more
 abbrev pub IsTooLarge : List ℕ → Pairs → Type 0
@@ -95,10 +89,6 @@ IsTooLarge key pairs = IsNoOne rules.Sum (values_of key pairs) SumTooLarge
 abbrev pub number_of : Option (Bor (List ℕ)) → ℕ → ℕ
 number_of None index = index + 1
 number_of (Some numbers) index = number_in numbers.now index
-
--- the same as a place, as if all pairs were of one input
-abbrev pub unplaced : Option (Bor (List ℕ)) → ℕ → ℕ × ℕ
-unplaced numbers index = (0, number_of numbers index)
 
 -- the pairs and their numbers are these
 abbrev pub IsKept : Numbered → Kept → Type 0
@@ -117,14 +107,10 @@ with_next rule (Some i) e pairs = slice_set pairs i ((slice_index_or pairs i e).
 abbrev pub AreSmall : Pairs → Type 0
 AreSmall pairs = All (λ e. e.1 < 2 ^ 64) pairs
 
--- the rule makes nothing of a value and the next one: their sum is 2^64 or more, or they differ and must not
-abbrev pub IsNoneOf : Rule → ℕ → ℕ → Type 0
-IsNoneOf rule value next = ((rule ≡ rules.Sum) × (2 ^ 64 ≤ value + next)) ⊎ ((rule ≡ rules.Equal) × (value ≢ next))
-
--- the same of the value at an index
-abbrev pub IsNoneWith : Rule → Option ℕ → Pair → Pairs → Type 0
-IsNoneWith rule None e pairs = ⊥
-IsNoneWith rule (Some i) e pairs = IsNoneOf rule (slice_index_or pairs i e).1 e.1
+-- the sum that would be merged is 2^64 or more
+abbrev pub IsNextTooLarge : Rule → Option ℕ → Pair → Pairs → Type 0
+IsNextTooLarge rule None e pairs = ⊥
+IsNextTooLarge rule (Some i) e pairs = (rule ≡ rules.Sum) × (2 ^ 64 ≤ (slice_index_or pairs i e).1 + e.1)
 
 -- a map has the key
 abbrev pub has_seen : BTreeMap (Bor (List ℕ)) (Unit {0}) → List ℕ → Bool

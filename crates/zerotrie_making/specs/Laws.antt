@@ -1,5 +1,5 @@
 -- A trie is listed as lines, and made of them again.
-use Rattle.std.specs.Prelude.{◌≡◌, ◌≢◌, ℕ, List, [], ◌∷◌, Some, false}
+use Rattle.std.specs.Prelude.{◌≡◌, ◌≢◌, ℕ, List, [], Some, false}
 use Rattle.zerotrie_core.specs.Maps.{Map, beginning}
 use Rattle.zerotrie_core.specs.Texts.{Means}
 use Rattle.zerotrie_lines.specs.declared.reading.Format.TheVariants.{Tsv}
@@ -14,8 +14,7 @@ use Rattle.zerotrie_core.specs.declared.ZeroTrieBuildError.TheVariants.{CouldNot
 use Rattle.zerotrie_index.specs.declared.error.ZeroIndexBuildError.TheVariants.{Crowded}
 use Rattle.zerotrie_making.specs.Plans.{IsFormOf}
 use Rattle.zerotrie_making.specs.Made.{IsFile, Explains}
-use Rattle.zerotrie_making.specs.Inputs.{IsUnreadAt}
-use Rattle.zerotrie_making.specs.declared.error.InputError.{InputError}
+use Rattle.zerotrie_making.specs.Sources.{NoPairs}
 use Rattle.zerotrie_making.specs.declared.error.MakeError.{MakeError}
 use Rattle.zerotrie_making.specs.declared.error.MakeError.TheVariants.{Refused, IndexRefused, OutOfMemory}
 use Rattle.zerotrie_making.specs.declared.plan.FileForm.TheVariants.{Index}
@@ -26,16 +25,16 @@ use Rattle.zerotrie_making.specs.declared.plan.Source.TheVariants.{Text}
 -- a trie file of this kind that is made of the lines in which all pairs of a trie are listed has bytes that mean the map of that trie
 abbrev pub ListedIsMadeAgain : Type 0
 ListedIsMadeAgain = (kind : TrieKind) (bytes file : List ℕ) (m : Map) (plan : Plan) (means : Means (kind_of kind) bytes m)
-    → (end : LineEnd) → plan.read.source ≡ Text Tsv end Absent → plan.file.form ≢ Index → plan.file.kind ≡ Some kind → plan.read.lower_case ≡ false → plan.read.duplicates ≡ Refuse → IsFile plan (listed (Lines style.Tsv) (beginning (kind_of kind) [] means.pairs) ∷ []) file
+    → (end : LineEnd) → plan.read.source ≡ Text Tsv end Absent → plan.file.form ≢ Index → plan.file.kind ≡ Some kind → plan.read.lower_case ≡ false → plan.read.duplicates ≡ Refuse → IsFile plan (listed (Lines style.Tsv) (beginning (kind_of kind) [] means.pairs)) file
     → (again : List ℕ) × IsFormOf plan.file.form (kind_of kind) again file × Means (kind_of kind) again m
 
--- an input that is no pairs makes no file, whatever others are
+-- an input that is no pairs makes no file
 abbrev pub UnreadMakesNoFile : Type 0
-UnreadMakesNoFile = (plan : Plan) (inputs : List (List ℕ)) (file : List ℕ) (number : ℕ) (why : InputError) → IsUnreadAt plan.read.source inputs number why → IsFile plan inputs file → ⊥
+UnreadMakesNoFile = (plan : Plan) (input file : List ℕ) (e : MakeError) → NoPairs plan.read.source input e → e ≢ OutOfMemory → IsFile plan input file → ⊥
 
--- Inputs for which an error has a reason make no file. Three errors are left out: an allocation may fail at any time; that a
+-- An input for which an error has a reason makes no file. Three errors are left out: an allocation may fail at any time; that a
 -- table has to be searched, which is all that is said of CouldNotSolvePerfectHash, does not exclude that the search finds one; and
 -- pairs that crowd under the seeds of a build have an index under another.
 abbrev pub RefusedMakesNoFile : Type 0
-RefusedMakesNoFile = (plan : Plan) (inputs : List (List ℕ)) (file : List ℕ) (e : MakeError) → Explains plan inputs e → e ≢ OutOfMemory → e ≢ Refused CouldNotSolvePerfectHash → e ≢ IndexRefused Crowded
-    → IsFile plan inputs file → ⊥
+RefusedMakesNoFile = (plan : Plan) (input file : List ℕ) (e : MakeError) → Explains plan input e → e ≢ OutOfMemory → e ≢ Refused CouldNotSolvePerfectHash → e ≢ IndexRefused Crowded
+    → IsFile plan input file → ⊥

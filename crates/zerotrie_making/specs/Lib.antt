@@ -6,7 +6,6 @@ pub mod Others
 pub mod Sources
 pub mod Unread
 pub mod JsonLines
-pub mod Inputs
 pub mod Made
 pub mod Combinations
 pub mod Laws

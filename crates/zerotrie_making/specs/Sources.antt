@@ -18,24 +18,28 @@ use Rattle.zerotrie_making.specs.Places.{IsPlaceIn}
 use Rattle.zerotrie_making.specs.declared.plan.Source.{Source}
 use Rattle.zerotrie_making.specs.declared.plan.Source.TheVariants.{Text, Json, JsonLines}
 use Rattle.zerotrie_making.specs.declared.error.NoPair.{NoPair}
-use Rattle.zerotrie_making.specs.declared.error.InputError.{InputError}
-use Rattle.zerotrie_making.specs.declared.error.InputError.TheVariants.{NotText, Line, NotJson, NotPairs, NotPair, OutOfMemory}
+use Rattle.zerotrie_making.specs.declared.error.MakeError.{MakeError}
+use Rattle.zerotrie_making.specs.declared.error.MakeError.TheVariants.{NotText, Line, NotJson, NotPairs, NotPair, Keys, SumTooLarge, Refused, IndexRefused, OutOfMemory}
 
 -- the input is the text of this JSON value, after the byte order mark that may be in front
 abbrev pub IsJson : List ℕ → Value → Type 0
 IsJson input j = IsUtf8 (strip_bom input) × (document (strip_bom input) ≡ Some j)
 
 -- why a text is no JSON value: it is none, or an allocation failed
-abbrev pub NoValue : List ℕ → InputError → Type 0
+abbrev pub NoValue : List ℕ → MakeError → Type 0
 NoValue text (NotText other) = ⊥
 NoValue text (Line number bad) = ⊥
 NoValue text (NotJson line column) = (document text ≡ None) × IsPlaceIn text line column
 NoValue text NotPairs = ⊥
 NoValue text (NotPair bad) = ⊥
+NoValue text (Keys s) = ⊥
+NoValue text (SumTooLarge k) = ⊥
+NoValue text (Refused e) = ⊥
+NoValue text (IndexRefused e) = ⊥
 NoValue text OutOfMemory = Unit {0}
 
 -- it says that a text is no JSON value, with a place in it
-abbrev pub IsNotJson : List ℕ → InputError → Type 0
+abbrev pub IsNotJson : List ℕ → MakeError → Type 0
 IsNotJson text e = (line column : ℕ) × (e ≡ NotJson line column) × IsPlaceIn text line column
 
 -- how many lines or records are in front of the pairs of a source: a header, which JSON has not
@@ -44,6 +48,10 @@ rows_before (Text format end header) = header_rows header
 rows_before Json = 0
 rows_before JsonLines = 0
 
+-- the number of a pair in a source, by its number among the pairs: the header is counted
+abbrev pub number_in_source : Source → ℕ → ℕ
+number_in_source source n = rows_before source + n
+
 -- the input is the pairs, in their order
 abbrev pub IsPairs : Source → List ℕ → Pairs → Type 0
 IsPairs (Text format end header) input pairs = Reads format end header input pairs
@@ -51,12 +59,16 @@ IsPairs Json input pairs = (j : Value) × IsJson input j × (pairs_in j ≡ Some
 IsPairs JsonLines input pairs = pairs_in_lines (json_lines input) ≡ Some pairs
 
 -- why an input is no text of pairs: it is another file, this line or record is none, or an allocation failed
-abbrev pub NoText : Format → LineEnd → Header → List ℕ → InputError → Type 0
+abbrev pub NoText : Format → LineEnd → Header → List ℕ → MakeError → Type 0
 NoText format end header input (NotText other) = IsOther input (Some other)
 NoText format end header input (Line number bad) = reads.Explains format end header input (fault.Line number bad)
 NoText format end header input (NotJson line column) = ⊥
 NoText format end header input NotPairs = ⊥
 NoText format end header input (NotPair bad) = ⊥
+NoText format end header input (Keys s) = ⊥
+NoText format end header input (SumTooLarge k) = ⊥
+NoText format end header input (Refused e) = ⊥
+NoText format end header input (IndexRefused e) = ⊥
 NoText format end header input OutOfMemory = Unit {0}
 
 -- the input is a JSON value in which there are no pairs, and this member or item of it is the first that is none, if it has any
@@ -65,25 +77,33 @@ IsUnread input bad = (j : Value) × IsJson input j × (pairs_in j ≡ None) × I
 
 -- why an input is no JSON value of pairs: it is another file, or no JSON value, or no object and no list, or this of its members or items
 -- is no pair, or an allocation failed
-abbrev pub NoJson : List ℕ → InputError → Type 0
+abbrev pub NoJson : List ℕ → MakeError → Type 0
 NoJson input (NotText other) = IsOther input (Some other)
 NoJson input (Line number bad) = ⊥
 NoJson input (NotJson line column) = (IsUtf8 (strip_bom input) → document (strip_bom input) ≡ None) × IsPlaceIn (strip_bom input) line column
 NoJson input NotPairs = IsUnread input None
 NoJson input (NotPair bad) = IsUnread input (Some bad)
+NoJson input (Keys s) = ⊥
+NoJson input (SumTooLarge k) = ⊥
+NoJson input (Refused e) = ⊥
+NoJson input (IndexRefused e) = ⊥
 NoJson input OutOfMemory = Unit {0}
 
 -- why an input is no lines of JSON with a pair in each: it is another file, or this line has none, or an allocation failed
-abbrev pub NoJsonLines : List ℕ → InputError → Type 0
+abbrev pub NoJsonLines : List ℕ → MakeError → Type 0
 NoJsonLines input (NotText other) = IsOther input (Some other)
 NoJsonLines input (Line number bad) = ⊥
 NoJsonLines input (NotJson line column) = ⊥
 NoJsonLines input NotPairs = IsUnreadLine input None
 NoJsonLines input (NotPair bad) = IsUnreadLine input (Some bad)
+NoJsonLines input (Keys s) = ⊥
+NoJsonLines input (SumTooLarge k) = ⊥
+NoJsonLines input (Refused e) = ⊥
+NoJsonLines input (IndexRefused e) = ⊥
 NoJsonLines input OutOfMemory = Unit {0}
 
 -- why an input is no pairs
-abbrev pub NoPairs : Source → List ℕ → InputError → Type 0
+abbrev pub NoPairs : Source → List ℕ → MakeError → Type 0
 NoPairs (Text format end header) input e = NoText format end header input e
 NoPairs Json input e = NoJson input e
 NoPairs JsonLines input e = NoJsonLines input e

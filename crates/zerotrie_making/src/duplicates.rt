@@ -4,9 +4,9 @@ ghost use Rattle.std.specs.Prelude.{◌≡◌, ◌≤◌, ◌<◌, ◌+◌, ◌^
 ghost use Rattle.std.specs.Bool.{OnTrue, OnFalse};
 ghost use Rattle.std.specs.Str.{bytes_eq};
 ghost use Rattle.zerotrie_core.specs.Items.{pairs_of};
-ghost use Rattle.zerotrie_making.specs.Kept.{numbered, firsts, lasts, merged, has_seen, place_in, with_next, AreSmall, IsKept, IsNoneOf, IsNoneWith, values_of};
+ghost use Rattle.zerotrie_making.specs.Kept.{numbered, firsts, lasts, merged, has_seen, place_in, with_next, AreSmall, IsKept, IsNextTooLarge};
 ghost use Rattle.zerotrie_making.specs.Made.{IsNotMerged};
-ghost use Rattle.zerotrie_sets.specs.Selections.{one_of_two, AreSame};
+ghost use Rattle.zerotrie_sets.specs.Selections.{one_of_two};
 ghost use Rattle.zerotrie_sets.specs.declared.selection.Rule.TheVariants as rules;
 
 use crate::error::{MakeError, numbered};
@@ -29,8 +29,6 @@ pub enum Duplicates {
     Min,
     /// The first of them is kept, with the greatest of their values.
     Max,
-    /// The first of them is kept. All must have its value.
-    Equal,
 }
 
 /// Pairs that are kept, and their numbers among all pairs, from 1 on.
@@ -109,17 +107,14 @@ pub(crate) fn lasts<'a>(alloc: Global, all: &[(&'a [u8], usize)]) -> Result<Kept
     Ok(kept)
 }
 
-/// Returns what a rule makes of a value and the next one. `None` if it is a sum of 2^64 or more, or
-/// they must be equal and are not.
+/// Returns what a rule makes of a value and the next one. `None` if it is a sum of 2^64 or more.
 fn one_of_two(rule: Rule, value: usize, next: usize) -> Option<usize>
     ensures some { IfSome result (λ one. one ≡ one_of_two rule value next) }
     ensures small { IfSome result (λ one. one < 2 ^ 64) }
-    ensures none { IfNone result (IsNoneOf rule value next) }
+    ensures none { IfNone result ((rule ≡ rules.Sum) × (2 ^ 64 ≤ value + next)) }
 {
     match rule {
         Rule::First | Rule::Refuse => Some(value),
-        Rule::Equal if value == next => Some(value),
-        Rule::Equal => None,
         Rule::Last => Some(next),
         Rule::Sum => value.checked_add(next),
         Rule::Min => Some(value.min(next)),
@@ -152,16 +147,16 @@ fn add_first<'a>(
     }
 }
 
-/// Merges a value into the item at a place, by the rule. Returns whether the rule makes one value of
-/// both.
+/// Merges a value into the item at a place, by the rule. Returns whether that is no sum of 2^64 or
+/// more.
 fn merge_at<'a>(items: &mut Vec<(&'a [u8], usize)>, rule: Rule, place: usize, next: usize) -> bool
     requires { place < length items.now.items }
     ensures merged { OnTrue result ((key : List ℕ) → pairs_of items.new.items
         ≡ with_next rule (Some place) (key, next) (pairs_of items.old.items)) }
     ensures small { OnTrue result (AreSmall (pairs_of items.old.items)
         → AreSmall (pairs_of items.new.items)) }
-    ensures apart { OnFalse result ((key : List ℕ)
-        → IsNoneWith rule (Some place) (key, next) (pairs_of items.old.items)) }
+    ensures too_large { OnFalse result ((key : List ℕ)
+        → IsNextTooLarge rule (Some place) (key, next) (pairs_of items.old.items)) }
 {
     let (key, value) = items[place];
     match one_of_two(rule, value, next) {
@@ -173,28 +168,6 @@ fn merge_at<'a>(items: &mut Vec<(&'a [u8], usize)>, rule: Rule, place: usize, ne
     }
 }
 
-/// Returns why the value of the second pair is not merged into that of the first one, which has the
-/// same key.
-fn not_merged(
-    alloc: Global,
-    rule: Rule,
-    all: &[(&[u8], usize)],
-    first: usize,
-    second: usize,
-) -> Result<MakeError, AllocError>
-    requires first { first < length all.now }
-    requires second { second < length all.now }
-{
-    let key = numbered(alloc, None, all, second)?;
-    match rule {
-        Rule::Equal => {
-            let before = numbered(alloc, None, all, first)?;
-            Ok(MakeError::DifferentValues(before, key))
-        }
-        _ => Ok(MakeError::SumTooLarge(key)),
-    }
-}
-
 /// Keeps the first pair of each key, with what the rule makes of the values of all pairs that have the
 /// key.
 pub(crate) fn merged<'a>(
@@ -203,8 +176,6 @@ pub(crate) fn merged<'a>(
     all: &[(&'a [u8], usize)],
 ) -> Result<Kept<'a>, MakeError>
     ensures ok { IfOk result (IsKept (merged rule (pairs_of all.now))) }
-    ensures equal { IfOk result (λ _. rule ≡ rules.Equal
-        → (key : List ℕ) → AreSame (values_of key (pairs_of all.now))) }
     ensures err { IfErr result (IsNotMerged rule (pairs_of all.now)) }
 {
     let mut places = BTreeMap::new(alloc);
@@ -220,7 +191,7 @@ pub(crate) fn merged<'a>(
             None => add_first(&mut places, &mut kept, done + 1, all[done])?,
             Some(place) => {
                 if !merge_at(&mut kept.items, rule, place, value) {
-                    return Err(not_merged(alloc, rule, all, kept.numbers[place] - 1, done)?);
+                    return Err(MakeError::SumTooLarge(numbered(alloc, None, all, done)?));
                 }
             }
         }

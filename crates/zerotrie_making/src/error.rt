@@ -1,32 +1,27 @@
 //! Why no file is made.
 
-ghost use Rattle.std.specs.Prelude.{◌≡◌, ◌<◌, ◌^◌, ℕ, length, IfOk, IfSome};
+ghost use Rattle.std.specs.Prelude.{◌≡◌, ◌<◌, ◌+◌, ◌^◌, ℕ, length, IfOk, IfSome};
 ghost use Rattle.zerotrie_build.specs.declared.refusal.Refusal.{Refusal};
 ghost use Rattle.zerotrie_core.specs.Items.{pairs_of};
 ghost use Rattle.zerotrie_core.specs.Maps.{Pairs};
 ghost use Rattle.zerotrie_making.specs.Made.{ExplainsKept, IsKeyAt, Shows, IsOfReading};
 ghost use Rattle.zerotrie_making.specs.declared.plan.Plan.{Plan};
-ghost use Rattle.zerotrie_making.specs.Kept.{number_of, unplaced};
-ghost use Rattle.zerotrie_making.specs.Inputs.{place_among};
-ghost use Rattle.zerotrie_making.specs.declared.error.InputError.TheVariants as inputs;
+ghost use Rattle.zerotrie_making.specs.Kept.{number_of};
 ghost use Rattle.zerotrie_making.specs.declared.error.CombinationError.TheVariants.{NotMade};
 ghost use Rattle.zerotrie_making.specs.declared.error.MakeError.TheVariants.{OutOfMemory};
 
 use crate::others::OtherFile;
-use std::alloc::{AllocError, AllocFailed, Global};
+use std::alloc::{AllocError, Global};
 use zerotrie_build::Refusal;
 use zerotrie_core::ZeroTrieBuildError;
 use zerotrie_index::ZeroIndexBuildError;
 use zerotrie_lines::{BadLine, ReadError};
 use zerotrie_sets::RuleError;
 
-/// A key, and the place of its pair.
+/// A key, and the number of its pair, from 1 on: that of its line, its record, or its member or item
+/// of a JSON value. A header is counted.
 #[derive(PartialEq, Eq, Debug, Drop)]
 pub struct NumberedKey {
-    /// The number of its input, from 0 on.
-    pub input: usize,
-    /// The number of the pair in this input, from 1 on: that of its line, its record, or its member
-    /// or item of a JSON value. A header is counted.
     pub number: usize,
     pub key: Vec<u8>,
 }
@@ -54,25 +49,6 @@ pub enum NoPair {
     Line(usize),
 }
 
-/// Why an input is no pairs.
-#[derive(PartialEq, Eq, Debug, Drop)]
-pub enum InputError {
-    /// It is no text, but this other file.
-    NotText(OtherFile),
-    /// The line, or record of comma-separated fields, with this number is no pair, and why.
-    Line(usize, BadLine),
-    /// It is no JSON value. At this line and column, both from 1 on, a token begins that can't be
-    /// there, or the text ends too early. Columns are characters.
-    NotJson(usize, usize),
-    /// It is a JSON value, and neither an object nor a list.
-    NotPairs,
-    /// It is a JSON object or list or lines of JSON, and this member, item or line is the first that
-    /// is no pair.
-    NotPair(NoPair),
-    /// An allocation failed.
-    OutOfMemory,
-}
-
 /// Why no file is made.
 ///
 /// ```
@@ -82,30 +58,32 @@ pub enum InputError {
 ///     duplicates: Duplicates::Refuse,
 /// };
 /// let file = FilePlan { kind: None, sorted: false, form: FileForm::Sealed };
-/// let mut inputs = Vec::new(rt.alloc());
-/// inputs.push(Vec::from_slice(rt.alloc(), b"[[\"a\", 18446744073709551615]]")?)?;
-/// inputs.push(Vec::from_slice(rt.alloc(), b"[\n  [\"ad\", 22}\n]\n")?)?;
-/// let why = MakeError::Unread(1, InputError::NotJson(2, 12));
-/// assert_eq!(rt; make(rt.alloc(), Plan { read, file }, inputs), Err(why));
+/// let input = Vec::from_slice(rt.alloc(), b"[\n  [\"ad\", 22}\n]\n")?;
+/// assert_eq!(rt; make(rt.alloc(), Plan { read, file }, input), Err(MakeError::NotJson(2, 12)));
 /// let read = ReadPlan { duplicates: Duplicates::Sum, ..read };
-/// let mut inputs = Vec::new(rt.alloc());
-/// inputs.push(Vec::from_slice(rt.alloc(), b"[[\"a\", 18446744073709551615]]")?)?;
-/// inputs.push(Vec::from_slice(rt.alloc(), b"[[\"b\", 1], [\"a\", 1]]")?)?;
-/// let key = NumberedKey { input: 1, number: 2, key: Vec::from_slice(rt.alloc(), b"a")? };
-/// assert_eq!(rt; make(rt.alloc(), Plan { read, file }, inputs), Err(MakeError::SumTooLarge(key)));
+/// let input = Vec::from_slice(rt.alloc(), b"[[\"a\", 18446744073709551615], [\"a\", 1]]")?;
+/// let key = NumberedKey { number: 2, key: Vec::from_slice(rt.alloc(), b"a")? };
+/// assert_eq!(rt; make(rt.alloc(), Plan { read, file }, input), Err(MakeError::SumTooLarge(key)));
 /// ```
 #[derive(PartialEq, Eq, Debug, Drop)]
 pub enum MakeError {
-    /// The input with this number, from 0 on, is no pairs, and why. It is not `OutOfMemory`.
-    Unread(usize, InputError),
+    /// The input is no text, but this other file.
+    NotText(OtherFile),
+    /// The line, or record of comma-separated fields, with this number is no pair, and why.
+    Line(usize, BadLine),
+    /// The input is no JSON value. At this line and column, both from 1 on, a token begins that can't
+    /// be there, or the text ends too early. Columns are characters.
+    NotJson(usize, usize),
+    /// The input is a JSON value, and neither an object nor a list.
+    NotPairs,
+    /// The input is a JSON object or list or lines of JSON, and this member, item or line is the first
+    /// that is no pair.
+    NotPair(NoPair),
     /// The build fails, and these keys show why.
     Keys(Shown),
     /// The values of pairs that have one key are to be added, and this is the first pair up to which
     /// those of its key have a sum of 2^64 or more.
     SumTooLarge(NumberedKey),
-    /// The values of pairs that have one key are to be equal. Both have the same key: the first of
-    /// its pairs, and the first pair that has another value.
-    DifferentValues(NumberedKey, NumberedKey),
     /// The build of a trie fails though no key is at fault: `CapacityExceeded` or
     /// `CouldNotSolvePerfectHash`.
     Refused(ZeroTrieBuildError),
@@ -115,26 +93,10 @@ pub enum MakeError {
     OutOfMemory,
 }
 
-impl From<AllocError> for InputError {
-    ghost from_gives = { λ _ e. e ≡ inputs.OutOfMemory };
-
-    fn from(_: AllocError) -> Self {
-        InputError::OutOfMemory
-    }
-}
-
 impl From<AllocError> for MakeError {
     ghost from_gives = { λ _ e. e ≡ OutOfMemory };
 
     fn from(_: AllocError) -> Self {
-        MakeError::OutOfMemory
-    }
-}
-
-impl<T: Drop> From<AllocFailed<T>> for MakeError {
-    ghost from_gives = { λ _ e. e ≡ OutOfMemory };
-
-    fn from(_: AllocFailed<T>) -> Self {
         MakeError::OutOfMemory
     }
 }
@@ -164,78 +126,55 @@ impl From<AllocError> for CombinationError {
     }
 }
 
-impl From<ReadError> for InputError {
+impl From<ReadError> for MakeError {
     ghost from_gives = { λ why e. IsOfReading why e };
 
     fn from(why: ReadError) -> Self {
         match why {
-            ReadError::Line(number, bad) => InputError::Line(number, bad),
-            ReadError::OutOfMemory => InputError::OutOfMemory,
+            ReadError::Line(number, bad) => MakeError::Line(number, bad),
+            ReadError::OutOfMemory => MakeError::OutOfMemory,
         }
     }
 }
 
-/// Returns the place of a pair, by its number among the pairs of all inputs: its input, and its number
-/// there. Each input has so many pairs, behind so many rows. `None` if a number is 2^64 or more.
-fn place_of(rows: usize, counts: &[usize], number: usize) -> Option<(usize, usize)>
-    ensures { IfSome result (λ place. place ≡ place_among rows counts.now number) }
+/// Returns the key with the number that it has behind so many rows. `None` if that is 2^64 or more.
+fn behind(rows: usize, key: NumberedKey) -> Option<NumberedKey>
+    ensures { IfSome result (λ behind. (behind.number ≡ rows + key.number)
+        × (behind.key.items ≡ key.key.items)) }
 {
-    let mut input = 0;
-    let mut left = number;
-    while input < counts.len() && counts[input] < left {
-        left -= counts[input];
-        input += 1;
-    }
-    Some((input, rows.checked_add(left)?))
-}
-
-/// Returns the key with the place of its pair, of whose number among all pairs it has.
-fn placed(rows: usize, counts: &[usize], key: NumberedKey) -> Option<NumberedKey>
-    ensures { IfSome result (λ placed. ((placed.input, placed.number) ≡ place_among rows counts.now key.number)
-        × (placed.key.items ≡ key.key.items)) }
-{
-    let (input, number) = place_of(rows, counts, key.number)?;
     Some(NumberedKey {
-        input,
-        number,
+        number: rows.checked_add(key.number)?,
         key: key.key,
     })
 }
 
-/// Returns the keys with the places of their pairs.
-fn shown_placed(rows: usize, counts: &[usize], shown: Shown) -> Option<Shown>
+/// Returns the keys with the numbers that they have behind so many rows.
+fn shown_behind(rows: usize, shown: Shown) -> Option<Shown>
     ensures { (number : ℕ → ℕ) (pairs : Pairs) (r : Refusal)
-        → Shows (λ i. (0, number i)) pairs r shown
-        → IfSome result (Shows (λ i. place_among rows counts.now (number i)) pairs r) }
+        → Shows number pairs r shown → IfSome result (Shows (λ i. rows + number i) pairs r) }
 {
     Some(Shown {
-        first: placed(rows, counts, shown.first)?,
-        second: placed(rows, counts, shown.second)?,
+        first: behind(rows, shown.first)?,
+        second: behind(rows, shown.second)?,
         error: shown.error,
     })
 }
 
-/// Returns the error with the places of pairs. It has their numbers among the pairs of all inputs, as
-/// if these were one.
-pub(crate) fn error_placed(rows: usize, counts: &[usize], error: MakeError) -> MakeError
-    ensures { (plan : Plan) (pairs : Pairs) → ExplainsKept plan (λ n. (0, n)) pairs error
-        → ExplainsKept plan (place_among rows counts.now) pairs result }
+/// Returns the error with the numbers that pairs have behind so many rows. It has those among the
+/// pairs.
+pub(crate) fn error_behind(rows: usize, error: MakeError) -> MakeError
+    ensures { (plan : Plan) (pairs : Pairs) → ExplainsKept plan (λ n. n) pairs error
+        → ExplainsKept plan (λ n. rows + n) pairs result }
 {
     match error {
-        MakeError::Keys(shown) => match shown_placed(rows, counts, shown) {
+        MakeError::Keys(shown) => match shown_behind(rows, shown) {
             Some(shown) => MakeError::Keys(shown),
             None => MakeError::OutOfMemory,
         },
-        MakeError::SumTooLarge(key) => match placed(rows, counts, key) {
+        MakeError::SumTooLarge(key) => match behind(rows, key) {
             Some(key) => MakeError::SumTooLarge(key),
             None => MakeError::OutOfMemory,
         },
-        MakeError::DifferentValues(first, second) => {
-            match (placed(rows, counts, first), placed(rows, counts, second)) {
-                (Some(first), Some(second)) => MakeError::DifferentValues(first, second),
-                _ => MakeError::OutOfMemory,
-            }
-        }
         other => other,
     }
 }
@@ -261,11 +200,10 @@ pub(crate) fn numbered(
 ) -> Result<NumberedKey, AllocError>
     requires within { index < length items.now }
     requires numbers { IfSome numbers (λ numbers. length numbers.now ≡ length items.now) }
-    ensures { IfOk result (IsKeyAt (unplaced numbers.entry) (pairs_of items.now) index) }
+    ensures { IfOk result (IsKeyAt (number_of numbers.entry) (pairs_of items.now) index) }
 {
     let (key, _) = items[index];
     Ok(NumberedKey {
-        input: 0,
         number: number_of(numbers, index),
         key: Vec::from_slice(alloc, key)?,
     })
@@ -281,7 +219,7 @@ pub(crate) fn show(
     requires first { refusal.first < length items.now }
     requires second { refusal.second < length items.now }
     requires numbers { IfSome numbers (λ numbers. length numbers.now ≡ length items.now) }
-    ensures { IfOk result (Shows (unplaced numbers.entry) (pairs_of items.now) refusal) }
+    ensures { IfOk result (Shows (number_of numbers.entry) (pairs_of items.now) refusal) }
 {
     Ok(Shown {
         first: numbered(alloc, numbers, items, refusal.first)?,

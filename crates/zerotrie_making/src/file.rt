@@ -1,19 +1,20 @@
-//! Makes the file of a trie or an index from the bytes of inputs.
+//! Makes the file of a trie or an index from the bytes of an input.
 
-ghost use Rattle.std.specs.Prelude.{◌≡◌, List, length, map, IfOk, IfErr, IfSome, Err};
+ghost use Rattle.std.specs.Prelude.{◌≡◌, length, IfOk, IfErr, IfSome, Err, None};
 ghost use Rattle.zerotrie_any.specs.Tagged.{tagged};
 ghost use Rattle.zerotrie_core.specs.Kinds.{kind_of};
 ghost use Rattle.zerotrie_core.specs.Items.{pairs_of};
 ghost use Rattle.zerotrie_core.specs.Routes.{IsRefusal};
+ghost use Rattle.zerotrie_making.specs.Others.{IsOther};
 ghost use Rattle.zerotrie_making.specs.Plans.{a_trie, an_index, content_of, route_of, IsFormOf};
-ghost use Rattle.zerotrie_making.specs.Made.{IsIndexed, IsBuiltAs, IsFileOf, IsMade, IsMadeOf, IsMadeOfKept, IsRefusedAs, Explains, ExplainsOf, ExplainsKept, ExplainsLists};
-ghost use Rattle.zerotrie_making.specs.Kept.{number_in, unplaced};
-ghost use Rattle.zerotrie_making.specs.Inputs.{AreJoined, joined as all_of};
-ghost use Rattle.zerotrie_core.specs.Maps.{Pairs};
+ghost use Rattle.zerotrie_making.specs.Made.{IsIndexed, IsBuiltAs, IsFileOf, IsMade, IsMadeOf, IsMadeOfKept, IsRefusedAs, Explains, ExplainsOf, ExplainsKept};
+ghost use Rattle.zerotrie_making.specs.Kept.{number_in, number_of};
+ghost use Rattle.zerotrie_making.specs.Sources.{number_in_source};
 
 use crate::duplicates::{Duplicates, Kept, firsts, lasts, merged};
-use crate::error::{MakeError, error_placed, show};
-use crate::input::{Joined, join_items, join_tables, read_tables};
+use crate::error::{MakeError, error_behind, show};
+use crate::input::{items_in, read_input};
+use crate::others::other_file;
 use crate::plan::{FileForm, FilePlan, Made, Plan};
 use crate::tries::{bytes_of, index_bytes_of, kind_for, why_refused, why_unindexed};
 use std::alloc::{AllocError, Global};
@@ -62,7 +63,7 @@ fn explain(
 ) -> Result<MakeError, AllocError>
     requires refusal { IsRefusal (route_of sorted) (kind_of kind) (pairs_of items.now) error }
     requires numbers { IfSome numbers (λ numbers. length numbers.now ≡ length items.now) }
-    ensures { IfOk result (IsRefusedAs (a_trie (kind_of kind)) sorted (unplaced numbers.entry)
+    ensures { IfOk result (IsRefusedAs (a_trie (kind_of kind)) sorted (number_of numbers.entry)
         (pairs_of items.now)) }
 {
     if error == ZeroTrieBuildError::OutOfMemory {
@@ -85,7 +86,7 @@ fn trie_of(
     requires { IfSome numbers (λ numbers. length numbers.now ≡ length items.now) }
     ensures ok { IfOk result (λ bytes.
         IsBuiltAs (a_trie (kind_of kind)) sorted (pairs_of items.now) bytes.items) }
-    ensures err { IfErr result (IsRefusedAs (a_trie (kind_of kind)) sorted (unplaced numbers.entry)
+    ensures err { IfErr result (IsRefusedAs (a_trie (kind_of kind)) sorted (number_of numbers.entry)
         (pairs_of items.now)) }
 {
     match bytes_of(alloc, kind, sorted, items) {
@@ -104,7 +105,7 @@ fn explain_index(
 ) -> Result<MakeError, AllocError>
     requires refusal { IsIndexed sorted (λ bytes. bytes) (pairs_of items.now) (Err error) }
     requires numbers { IfSome numbers (λ numbers. length numbers.now ≡ length items.now) }
-    ensures { IfOk result (IsRefusedAs an_index sorted (unplaced numbers.entry)
+    ensures { IfOk result (IsRefusedAs an_index sorted (number_of numbers.entry)
         (pairs_of items.now)) }
 {
     if error == ZeroIndexBuildError::OutOfMemory {
@@ -125,7 +126,7 @@ fn index_of(
 ) -> Result<Vec<u8>, MakeError>
     requires { IfSome numbers (λ numbers. length numbers.now ≡ length items.now) }
     ensures ok { IfOk result (λ bytes. IsBuiltAs an_index sorted (pairs_of items.now) bytes.items) }
-    ensures err { IfErr result (IsRefusedAs an_index sorted (unplaced numbers.entry)
+    ensures err { IfErr result (IsRefusedAs an_index sorted (number_of numbers.entry)
         (pairs_of items.now)) }
 {
     match index_bytes_of(alloc, sorted, items) {
@@ -147,7 +148,7 @@ fn build_of(
     ensures ok { IfOk result (λ bytes.
         IsBuiltAs (content_of form (kind_of kind)) sorted (pairs_of items.now) bytes.items) }
     ensures err { IfErr result (IsRefusedAs (content_of form (kind_of kind)) sorted
-        (unplaced numbers.entry) (pairs_of items.now)) }
+        (number_of numbers.entry) (pairs_of items.now)) }
 {
     match form {
         FileForm::Sealed | FileForm::Tagged | FileForm::Bare => {
@@ -167,7 +168,7 @@ pub(crate) fn make_of(
 ) -> Result<Made, MakeError>
     requires { IfSome numbers (λ numbers. length numbers.now ≡ length items.now) }
     ensures ok { IfOk result (IsMadeOf plan (pairs_of items.now)) }
-    ensures err { IfErr result (λ e. ExplainsOf plan (unplaced numbers.entry)
+    ensures err { IfErr result (λ e. ExplainsOf plan (number_of numbers.entry)
         (pairs_of items.now) e) }
 {
     let kind = kind_for(plan.kind, items);
@@ -183,7 +184,7 @@ pub(crate) fn make_of(
 fn make_kept(alloc: Global, plan: FilePlan, kept: Kept<'_>) -> Result<Made, MakeError>
     requires { length kept.numbers.items ≡ length kept.items.items }
     ensures ok { IfOk result (IsMadeOf plan (pairs_of kept.entry.items.items)) }
-    ensures err { IfErr result (λ e. ExplainsOf plan (λ i. (0, number_in kept.entry.numbers.items i))
+    ensures err { IfErr result (λ e. ExplainsOf plan (number_in kept.entry.numbers.items)
         (pairs_of kept.entry.items.items) e) }
 {
     make_of(
@@ -197,7 +198,7 @@ fn make_kept(alloc: Global, plan: FilePlan, kept: Kept<'_>) -> Result<Made, Make
 /// Makes the file of those of the pairs that are kept. An error has the numbers among the pairs.
 fn make_numbered(alloc: Global, plan: Plan, items: &[(&[u8], usize)]) -> Result<Made, MakeError>
     ensures ok { IfOk result (IsMadeOfKept plan (pairs_of items.now)) }
-    ensures err { IfErr result (λ e. ExplainsKept plan (λ n. (0, n)) (pairs_of items.now) e) }
+    ensures err { IfErr result (λ e. ExplainsKept plan (λ n. n) (pairs_of items.now) e) }
 {
     match plan.read.duplicates {
         Duplicates::Refuse => make_of(alloc, plan.file, None, items),
@@ -206,27 +207,38 @@ fn make_numbered(alloc: Global, plan: Plan, items: &[(&[u8], usize)]) -> Result<
         Duplicates::Sum => make_kept(alloc, plan.file, merged(alloc, Rule::Sum, items)?),
         Duplicates::Min => make_kept(alloc, plan.file, merged(alloc, Rule::Min, items)?),
         Duplicates::Max => make_kept(alloc, plan.file, merged(alloc, Rule::Max, items)?),
-        Duplicates::Equal => make_kept(alloc, plan.file, merged(alloc, Rule::Equal, items)?),
     }
 }
 
-/// Makes the file of those of the pairs of inputs that are kept. An error has their places.
-fn make_joined(alloc: Global, plan: Plan, joined: &Joined<'_>) -> Result<Made, MakeError>
-    ensures ok { (lists : List Pairs) → AreJoined lists joined.now
-        → IfOk result (IsMadeOfKept plan (all_of lists)) }
-    ensures err { (lists : List Pairs) → AreJoined lists joined.now
-        → IfErr result (ExplainsLists plan lists) }
+/// Makes the file of those of the pairs that are kept. An error has their numbers in the input.
+fn make_from(alloc: Global, plan: Plan, items: &[(&[u8], usize)]) -> Result<Made, MakeError>
+    ensures ok { IfOk result (IsMadeOfKept plan (pairs_of items.now)) }
+    ensures err { IfErr result (λ e.
+        ExplainsKept plan (number_in_source plan.read.source) (pairs_of items.now) e) }
 {
-    match make_numbered(alloc, plan, joined.items.as_slice()) {
+    match make_numbered(alloc, plan, items) {
         Ok(made) => Ok(made),
-        Err(error) => {
-            let rows = plan.read.source.rows_before();
-            Err(error_placed(rows, joined.counts.as_slice(), error))
-        }
+        Err(error) => Err(error_behind(plan.read.source.rows_before(), error)),
     }
 }
 
-/// Makes the file of the pairs of inputs, one after another, and counts its keys.
+/// Makes the file of the pairs of an input that is no other file. It takes the input. If keys must be
+/// copied from it, it is freed before the build.
+fn make_text(alloc: Global, plan: Plan, input: Vec<u8>) -> Result<Made, MakeError>
+    requires { IsOther input.items None }
+    ensures ok { IfOk result (IsMade plan input.items) }
+    ensures err { IfErr result (λ e. Explains plan input.items e) }
+{
+    if let Some(items) = items_in(alloc, plan.read, input.as_slice())? {
+        return make_from(alloc, plan, items.as_slice());
+    }
+    let table = read_input(alloc, plan.read, input.as_slice())?;
+    drop(input);
+    let items = table.items(alloc)?;
+    make_from(alloc, plan, items.as_slice())
+}
+
+/// Makes the file of the pairs of an input, and counts its keys.
 ///
 /// ```
 /// let read = ReadPlan {
@@ -235,45 +247,36 @@ fn make_joined(alloc: Global, plan: Plan, joined: &Joined<'_>) -> Result<Made, M
 ///     duplicates: Duplicates::Refuse,
 /// };
 /// let file = FilePlan { kind: None, sorted: false, form: FileForm::Tagged };
-/// let mut inputs = Vec::new(rt.alloc());
-/// inputs.push(Vec::from_slice(rt.alloc(), b"adef\t33\n")?)?;
-/// inputs.push(Vec::from_slice(rt.alloc(), b"ad\t22\n")?)?;
-/// let made = make(rt.alloc(), Plan { read, file }, inputs).map_err(|_| "refused")?;
+/// let input = Vec::from_slice(rt.alloc(), b"adef\t33\nad\t22\n")?;
+/// let made = make(rt.alloc(), Plan { read, file }, input).map_err(|_| "refused")?;
 /// assert_eq!(rt; made.file.as_slice(), b"\x00ad\x90\x06ef\x90\x11".as_slice());
 /// assert_eq!(rt; made.keys, 2);
 /// let summed = ReadPlan { duplicates: Duplicates::Sum, ..read };
-/// let mut inputs = Vec::new(rt.alloc());
-/// inputs.push(Vec::from_slice(rt.alloc(), b"ad\t2\nadef\t33\nad\t20\n")?)?;
-/// let made = make(rt.alloc(), Plan { read: summed, file }, inputs).map_err(|_| "refused")?;
+/// let input = Vec::from_slice(rt.alloc(), b"ad\t2\nadef\t33\nad\t20\n")?;
+/// let made = make(rt.alloc(), Plan { read: summed, file }, input).map_err(|_| "refused")?;
 /// assert_eq!(rt; made.file.as_slice(), b"\x00ad\x90\x06ef\x90\x11".as_slice());
 /// let source = Source::Text(Format::Csv, LineEnd::CrLf, Header::Present);
-/// let mut inputs = Vec::new(rt.alloc());
-/// inputs.push(Vec::from_slice(rt.alloc(), b"key,value\nad,22\nadef,33\n")?)?;
+/// let input = Vec::from_slice(rt.alloc(), b"key,value\nad,22\nadef,33\n")?;
 /// let plan = Plan { read: ReadPlan { source, ..read }, file };
-/// let made = make(rt.alloc(), plan, inputs).map_err(|_| "refused")?;
+/// let made = make(rt.alloc(), plan, input).map_err(|_| "refused")?;
 /// assert_eq!(rt; made.file.as_slice(), b"\x00ad\x90\x06ef\x90\x11".as_slice());
 /// let source = Source::Text(Format::Lines, LineEnd::CrLf, Header::Absent);
 /// let read = ReadPlan { source, ..read };
-/// let mut inputs = Vec::new(rt.alloc());
-/// inputs.push(Vec::from_slice(rt.alloc(), b"\xFF\xFEa\0\n\0")?)?;
-/// let why = MakeError::Unread(0, InputError::NotText(OtherFile::Utf16));
-/// assert_eq!(rt; make(rt.alloc(), Plan { read, file }, inputs), Err(why));
+/// let input = Vec::from_slice(rt.alloc(), b"\xFF\xFEa\0\n\0")?;
+/// let why = MakeError::NotText(OtherFile::Utf16);
+/// assert_eq!(rt; make(rt.alloc(), Plan { read, file }, input), Err(why));
 /// ```
 ///
-/// It takes the inputs. If keys must be copied from one, they are freed before the build. The error is
-/// `Unread` if an input is another file or no pairs, `SumTooLarge` if the plan adds values and a sum
-/// is 2^64 or more, `DifferentValues` if they are to be equal and are not, `Keys` if keys show why a
+/// It takes the input. If keys must be copied from it, it is freed before the build. The error is
+/// `NotText` if the input is another file, `Line`, `NotJson`, `NotPairs` or `NotPair` if it is no
+/// pairs, `SumTooLarge` if the plan adds values and a sum is 2^64 or more, `Keys` if keys show why a
 /// build of the pairs fails, `Refused` or `IndexRefused` if it fails and none do, and `OutOfMemory`.
-pub fn make(alloc: Global, plan: Plan, inputs: Vec<Vec<u8>>) -> Result<Made, MakeError>
-    ensures ok { IfOk result (IsMade plan (map (λ input. input.items) inputs.items)) }
-    ensures err { IfErr result (λ e.
-        Explains plan (map (λ input. input.items) inputs.items) e) }
+pub fn make(alloc: Global, plan: Plan, input: Vec<u8>) -> Result<Made, MakeError>
+    ensures ok { IfOk result (IsMade plan input.items) }
+    ensures err { IfErr result (λ e. Explains plan input.items e) }
 {
-    if let Some(joined) = join_items(alloc, plan.read, inputs.as_slice())? {
-        return make_joined(alloc, plan, &joined);
+    match other_file(input.as_slice()) {
+        Some(other) => Err(MakeError::NotText(other)),
+        None => make_text(alloc, plan, input),
     }
-    let tables = read_tables(alloc, plan.read, inputs.as_slice())?;
-    drop(inputs);
-    let joined = join_tables(alloc, tables.as_slice())?;
-    make_joined(alloc, plan, &joined)
 }

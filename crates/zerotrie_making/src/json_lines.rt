@@ -7,7 +7,7 @@ ghost use Rattle.zerotrie_making.specs.JsonLines.{first_bad_line, named_pair_in,
 ghost use Rattle.zerotrie_making.specs.Sources.{IsPairs, NoPairs};
 ghost use Rattle.zerotrie_making.specs.declared.plan.Source.TheVariants.{JsonLines};
 
-use crate::error::{InputError, NoPair};
+use crate::error::{MakeError, NoPair};
 use crate::json_pairs::{key_of, number_of, pair_of, value_of};
 use json::{Scratch, Value};
 use std::alloc::{AllocError, Global};
@@ -52,7 +52,7 @@ fn pair_of_line(alloc: Global, line: &[u8]) -> Result<(Vec<u8>, usize), JsonErro
     let mut scratch = Scratch::new(alloc);
     match value_of(alloc, text, &mut scratch) {
         Ok(value) => row_of(alloc, &value),
-        Err(InputError::OutOfMemory) => Err(JsonError::OutOfMemory),
+        Err(MakeError::OutOfMemory) => Err(JsonError::OutOfMemory),
         Err(_) => Err(JsonError::Shape),
     }
 }
@@ -84,7 +84,7 @@ fn first_bad_line(alloc: Global, lines: &[&[u8]]) -> Result<Option<usize>, Alloc
 }
 
 /// Reads the pairs in the lines of an input.
-pub(crate) fn read_json_lines(alloc: Global, input: &[u8]) -> Result<Table, InputError>
+pub(crate) fn read_json_lines(alloc: Global, input: &[u8]) -> Result<Table, MakeError>
     ensures ok { IfOk result (λ table. IsPairs JsonLines input.now table) }
     ensures err { IfErr result (λ e. NoPairs JsonLines input.now e) }
 {
@@ -92,9 +92,9 @@ pub(crate) fn read_json_lines(alloc: Global, input: &[u8]) -> Result<Table, Inpu
     match pairs_of_lines(alloc, lines.as_slice()) {
         Ok(table) => Ok(table),
         Err(JsonError::Shape) => Err(match first_bad_line(alloc, lines.as_slice())? {
-            Some(number) => InputError::NotPair(NoPair::Line(number)),
-            None => InputError::NotPairs,
+            Some(number) => MakeError::NotPair(NoPair::Line(number)),
+            None => MakeError::NotPairs,
         }),
-        Err(_) => Err(InputError::OutOfMemory),
+        Err(_) => Err(MakeError::OutOfMemory),
     }
 }

@@ -11,7 +11,7 @@ ghost use Rattle.zerotrie_making.specs.Sources.{NoValue, IsPairs, NoPairs};
 ghost use Rattle.zerotrie_making.specs.Unread.{first_unread, first_member, IsFirst};
 ghost use Rattle.zerotrie_making.specs.declared.plan.Source.TheVariants.{Json};
 
-use crate::error::{InputError, NoPair};
+use crate::error::{MakeError, NoPair};
 use crate::json_places::{not_json, why_no_json};
 use json::{Error, MAX_DEPTH, Reader, Scratch, Value};
 use std::alloc::{AllocError, Global};
@@ -188,7 +188,7 @@ pub(crate) fn value_of<'a>(
     alloc: Global,
     text: &'a str,
     scratch: &'a mut Scratch,
-) -> Result<Value<'a>, InputError>
+) -> Result<Value<'a>, MakeError>
     ensures ok { IfOk result (λ v. document text.now ≡ Some (value_view v)) }
     ensures err { IfErr result (λ e. NoValue text.now e) }
 {
@@ -200,13 +200,13 @@ pub(crate) fn value_of<'a>(
             }
             Ok(value)
         }
-        Err(Error::OutOfMemory) => Err(InputError::OutOfMemory),
+        Err(Error::OutOfMemory) => Err(MakeError::OutOfMemory),
         Err(_) => Err(why_no_json(alloc, text)?),
     }
 }
 
 /// Reads the pairs in the JSON value of an input.
-pub(crate) fn read_json(alloc: Global, input: &[u8]) -> Result<Table, InputError>
+pub(crate) fn read_json(alloc: Global, input: &[u8]) -> Result<Table, MakeError>
     ensures ok { IfOk result (λ table. IsPairs Json input.now table) }
     ensures err { IfErr result (λ e. NoPairs Json input.now e) }
 {
@@ -220,9 +220,9 @@ pub(crate) fn read_json(alloc: Global, input: &[u8]) -> Result<Table, InputError
     match pairs_of(alloc, &value) {
         Ok(table) => Ok(table),
         Err(JsonError::Shape) => Err(match first_bad(alloc, &value)? {
-            Some(bad) => InputError::NotPair(bad),
-            None => InputError::NotPairs,
+            Some(bad) => MakeError::NotPair(bad),
+            None => MakeError::NotPairs,
         }),
-        Err(_) => Err(InputError::OutOfMemory),
+        Err(_) => Err(MakeError::OutOfMemory),
     }
 }

@@ -3,9 +3,9 @@
 ghost use Rattle.std.specs.Prelude.{◌≡◌, IfOk, take};
 ghost use Rattle.zerotrie_making.specs.Places.{begins_character, line_after, column_after};
 ghost use Rattle.zerotrie_making.specs.Sources.{IsNotJson};
-ghost use Rattle.zerotrie_making.specs.declared.error.InputError.TheVariants.{NotJson};
+ghost use Rattle.zerotrie_making.specs.declared.error.MakeError.TheVariants.{NotJson};
 
-use crate::error::InputError;
+use crate::error::MakeError;
 use json::{MAX_DEPTH, Reader, Scratch, Token};
 use std::alloc::{AllocError, Global};
 
@@ -111,16 +111,16 @@ fn front_of(text: &[u8], place: usize) -> &[u8]
 }
 
 /// Returns the error of a text that is no JSON value from this place on.
-pub(crate) fn not_json(text: &[u8], place: usize) -> InputError
+pub(crate) fn not_json(text: &[u8], place: usize) -> MakeError
     ensures { let front = take place text.now in
         result ≡ NotJson (line_after front) (column_after front) }
 {
     let (line, column) = line_and_column(front_of(text, place));
-    InputError::NotJson(line, column)
+    MakeError::NotJson(line, column)
 }
 
 /// Returns the error of a text that is no JSON value, with the place that shows it.
-pub(crate) fn why_no_json(alloc: Global, text: &str) -> Result<InputError, AllocError>
+pub(crate) fn why_no_json(alloc: Global, text: &str) -> Result<MakeError, AllocError>
     ensures { IfOk result (IsNotJson text.now) }
 {
     let place = first_misfit(alloc, text)?;

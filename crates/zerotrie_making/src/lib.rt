@@ -16,7 +16,7 @@ mod tries;
 
 pub use combine::{kind_kept, make_combined};
 pub use duplicates::Duplicates;
-pub use error::{CombinationError, InputError, MakeError, NoPair, NumberedKey, Shown};
+pub use error::{CombinationError, MakeError, NoPair, NumberedKey, Shown};
 pub use file::make;
 pub use others::OtherFile;
 pub use plan::{Combination, FileForm, FilePlan, Made, Plan, ReadPlan, Source};

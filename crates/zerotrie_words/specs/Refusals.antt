@@ -1,5 +1,5 @@
 -- Why the words of a command are refused.
-use Rattle.std.specs.Prelude.{◌≡◌, ◌≢◌, ◌⊎◌, ◌<◌, ◌≤◌, ◌^◌, ◌+◌, ℕ, Any, List, [], ◌∷◌, Option, Some, None, Bool, true, false, codes, eqb, unwrap_or}
+use Rattle.std.specs.Prelude.{◌≡◌, ◌≢◌, ◌⊎◌, ◌<◌, ◌≤◌, ◌^◌, ◌+◌, ℕ, List, [], ◌∷◌, Option, Some, None, Bool, true, false, codes, eqb, unwrap_or}
 use Rattle.std.specs.Borrow.{Bor}
 use Rattle.std.specs.List.{starts_with}
 use Rattle.clap.specs.declared.parser.matches.ArgMatches.{ArgMatches}
@@ -14,7 +14,7 @@ use Rattle.zerotrie_queries.specs.declared.print.Form.{Form}
 use Rattle.zerotrie_search.specs.Automata.{IsWordError}
 use Rattle.zerotrie_search.specs.declared.any.SearchBy.{SearchBy}
 use Rattle.zerotrie_search.specs.declared.any.WordError.{WordError}
-use Rattle.zerotrie_words.specs.Words.{HasNoHyphen, IsFlag, IsForm, IsFormat, IsNumberOf, IsOfPath, IsTsv, duplicates_word, end_word, flag_of, form_by, form_word, format_word, inputs_of, is_alone, language_word, word_of, IsFoundBy, IsGlobBy, SeeksNothing}
+use Rattle.zerotrie_words.specs.Words.{HasNoHyphen, IsFlag, IsForm, IsFormat, IsNumberOf, IsTsv, duplicates_word, end_word, flag_of, form_by, form_word, format_word, is_alone, language_word, word_of, IsFoundBy, IsGlobBy, SeeksNothing}
 use Rattle.zerotrie_words.specs.declared.input.Input.{Input}
 use Rattle.zerotrie_words.specs.declared.input.Input.TheVariants as input
 use Rattle.zerotrie_words.specs.declared.task.Topic.{Topic}
@@ -73,14 +73,9 @@ abbrev pub IsNoInputOf : ArgMatches → Input → Type 0
 IsNoInputOf matches format = IsNoEnd format (word_of matches (codes "eol")) ⊎ ((HasNoHeader format × IsFlag (flag_of matches (codes "header")) true)
     ⊎ (IsNeverRaw format × IsFlag (flag_of matches (codes "raw")) true))
 
--- no format is named, and two paths have not the same one by their endings
-abbrev pub HaveTwoFormats : Option (List ℕ) → List (List ℕ) → Type 0
-HaveTwoFormats word paths = (word ≡ None) × (one other : Input) × (one ≢ other) × Any (λ path. IsOfPath path one) paths × Any (λ path. IsOfPath path other) paths
-
 abbrev pub IsNoInput : ArgMatches → Type 0
 IsNoInput matches = NamesNone format_word (word_of matches (codes "format"))
-    ⊎ (HaveTwoFormats (word_of matches (codes "format")) (inputs_of matches)
-    ⊎ ((format : Input) × IsFormat (word_of matches (codes "format")) (inputs_of matches) format × IsNoInputOf matches format))
+    ⊎ ((format : Input) × IsFormat (word_of matches (codes "format")) (word_of matches (codes "IN")) format × IsNoInputOf matches format)
 
 -- a word says nothing of keys that come again
 abbrev pub IsNoChoice : Option (List ℕ) → Type 0

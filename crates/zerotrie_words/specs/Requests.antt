@@ -1,11 +1,11 @@
 -- The command that the words of a command line ask for.
-use Rattle.std.specs.Prelude.{◌≡◌, ◌≢◌, ◌⊎◌, ℕ, All, Any, List, [], Option, Some, None, Bool, true, false, codes, length, nat_lt, if◌then◌else◌}
+use Rattle.std.specs.Prelude.{◌≡◌, ◌≢◌, ◌⊎◌, ℕ, List, [], Option, Some, None, Bool, true, false, codes, length, nat_lt, if◌then◌else◌}
 use Rattle.std.specs.Borrow.{Bor}
 use Rattle.std.specs.List.{AllZip, slice_get}
 use Rattle.std.specs.Option.{option_map}
 use Rattle.clap.specs.declared.parser.matches.ArgMatches.{ArgMatches}
 use Rattle.zerotrie_sets.specs.declared.selection.Rule.{Rule}
-use Rattle.zerotrie_sets.specs.declared.selection.Rule.TheVariants.{First, Last, Sum, Min, Max, Equal, Refuse}
+use Rattle.zerotrie_sets.specs.declared.selection.Rule.TheVariants.{First, Last, Sum, Min, Max, Refuse}
 use Rattle.zerotrie_sets.specs.declared.selection.Selection.{Selection}
 use Rattle.zerotrie_run.specs.declared.command.Build.{Build}
 use Rattle.zerotrie_run.specs.declared.command.Combine.{Combine}
@@ -14,19 +14,18 @@ use Rattle.zerotrie_run.specs.declared.command.Command.TheVariants as command
 use Rattle.zerotrie_run.specs.declared.command.Diff.{Diff}
 use Rattle.zerotrie_run.specs.declared.command.Place.{Place}
 use Rattle.zerotrie_run.specs.declared.command.Place.TheVariants.{File, Stream}
-use Rattle.zerotrie_run.specs.Runs.{HaveTwoStreams}
 use Rattle.zerotrie_words.specs.Diffs.{IsDiff}
 use Rattle.zerotrie_words.specs.Refusals.{IsNoBuild, IsNoContent, IsNoKind, IsNoProgress, IsNoQuestion, IsSaid, NamesNone}
-use Rattle.zerotrie_words.specs.Words.{AreTogether, IsAsk, IsFlag, IsForm, IsKind, IsPlan, IsSource, IsSummary, IsTarget, files_of, flag_of, given_words, inputs_of, word_of}
+use Rattle.zerotrie_words.specs.Words.{AreTogether, IsAsk, IsFlag, IsForm, IsKind, IsPlan, IsSource, IsSummary, IsTarget, files_of, flag_of, given_words, word_of}
 use Rattle.zerotrie_words.specs.declared.reply.Reply.{Reply}
 use Rattle.zerotrie_words.specs.declared.reply.Reply.TheVariants as reply
 use Rattle.zerotrie_words.specs.declared.task.Task.{Task}
 use Rattle.zerotrie_words.specs.declared.task.Task.TheVariants as task
 use Rattle.zerotrie_words.specs.declared.task.Topic.TheVariants as topic
 
--- The build that the words ask for, of the inputs in these places. What it made is told always if messages go to a terminal.
-pub record IsBuild (matches : ArgMatches) (places : List Place) (to_terminal : Bool) (build : Build) : Type 0 where
-  pub from : build.from.now ≡ places
+-- The build that the words ask for. What it made is told always if messages go to a terminal.
+pub record IsBuild (matches : ArgMatches) (to_terminal : Bool) (build : Build) : Type 0 where
+  pub from : IsSource (word_of matches (codes "IN")) build.from
   pub to : IsTarget (word_of matches (codes "output")) build.to
   pub plan : IsPlan matches build.plan
   pub no_clobber : IsFlag (flag_of matches (codes "no-clobber")) build.no_clobber
@@ -39,7 +38,6 @@ rule_word Last = codes "last"
 rule_word Sum = codes "sum"
 rule_word Min = codes "min"
 rule_word Max = codes "max"
-rule_word Equal = codes "equal"
 rule_word Refuse = codes "refuse"
 
 -- the rule of a word; without one it is that of the first
@@ -81,18 +79,10 @@ keys_by matches (task.Combine selection) = None
 abbrev pub AreSources : List (List ℕ) → List Place → Type 0
 AreSources words places = AllZip (λ word place. IsSource (Some word) place) words places
 
--- the places of the files of a task that takes several
+-- the places of the tries that a task combines
 abbrev pub ArePlaces : ArgMatches → Task → List Place → Type 0
-ArePlaces matches task.Build places = AreSources (inputs_of matches) places
-ArePlaces matches (task.Ask topic.Get) places = places ≡ []
-ArePlaces matches (task.Ask topic.Longest) places = places ≡ []
-ArePlaces matches (task.Ask topic.Keys) places = places ≡ []
-ArePlaces matches (task.Ask topic.List) places = places ≡ []
-ArePlaces matches (task.Ask topic.Search) places = places ≡ []
-ArePlaces matches (task.Ask topic.Verify) places = AreSources (files_of matches) places
-ArePlaces matches (task.Ask topic.Stats) places = AreSources (files_of matches) places
-ArePlaces matches (task.Ask topic.Inspect) places = places ≡ []
-ArePlaces matches (task.Ask topic.Code) places = places ≡ []
+ArePlaces matches task.Build places = places ≡ []
+ArePlaces matches (task.Ask topic) places = places ≡ []
 ArePlaces matches task.Diff places = places ≡ []
 ArePlaces matches (task.Combine selection) places = AreSources (files_of matches) places
 
@@ -111,10 +101,10 @@ file_count matches (task.Ask topic.Code) = 1
 file_count matches task.Diff = 1
 file_count matches (task.Combine selection) = 1
 
--- the command of a task for the file with this number: a build does not replace one of its inputs
+-- the command of a task for the file with this number: a build does not replace its own input
 abbrev pub IsCommand : ArgMatches → Option (List (List ℕ)) → List Place → Bool → ℕ → Task → Command → Type 0
-IsCommand matches texts places to_terminal n task.Build c = (build : Build) × IsBuild matches places to_terminal build × All (λ place. AreApart place build.to) places × (c ≡ command.Build build)
-IsCommand matches texts places to_terminal n (task.Ask topic) c = IsAsk matches topic n texts c × (HaveTwoStreams places → ⊥)
+IsCommand matches texts places to_terminal n task.Build c = (build : Build) × IsBuild matches to_terminal build × AreApart build.from build.to × (c ≡ command.Build build)
+IsCommand matches texts places to_terminal n (task.Ask topic) c = IsAsk matches topic n texts c
 IsCommand matches texts places to_terminal n task.Diff c = (diff : Diff) × IsDiff matches diff × (c ≡ command.Diff diff)
 IsCommand matches texts places to_terminal n (task.Combine selection) c = (of : Combine) × IsCombination matches selection places to_terminal of × (c ≡ command.Combine of)
 
@@ -152,29 +142,21 @@ IsQuiet (task.Combine selection) matches quiet = quiet ≡ false
 abbrev pub IsNoCombination : ArgMatches → Type 0
 IsNoCombination matches = IsNoContent matches ⊎ (NamesNone rule_word (word_of matches (codes "values")) ⊎ IsNoProgress (flag_of matches (codes "progress")) (flag_of matches (codes "quiet")))
 
--- a build would replace one of its inputs
-abbrev pub ReplacesInput : ArgMatches → Type 0
-ReplacesInput matches = (to : Place) × IsTarget (word_of matches (codes "output")) to × Any (λ word. (from : Place) × IsSource (Some word) from × AreOneFile from to) (inputs_of matches)
-
--- two of the files are standard input
-abbrev pub ReadsTwice : ArgMatches → Type 0
-ReadsTwice matches = (places : List Place) × AreSources (files_of matches) places × HaveTwoStreams places
-
--- the words of a task are no command, two of its files are standard input, or a build would replace one of its inputs
+-- the words of a task are no command, or a build would replace its own input
 abbrev pub IsNoCommand : ArgMatches → Option (List (List ℕ)) → Task → Type 0
-IsNoCommand matches texts task.Build = IsNoBuild matches ⊎ ReplacesInput matches
-IsNoCommand matches texts (task.Ask topic) = IsNoKind (word_of matches (codes "bare")) ⊎ (IsNoQuestion matches topic texts ⊎ ReadsTwice matches)
+IsNoCommand matches texts task.Build = IsNoBuild matches ⊎ ((from : Place) × (to : Place) × IsSource (word_of matches (codes "IN")) from × IsTarget (word_of matches (codes "output")) to × AreOneFile from to)
+IsNoCommand matches texts (task.Ask topic) = IsNoKind (word_of matches (codes "bare")) ⊎ IsNoQuestion matches topic texts
 IsNoCommand matches texts task.Diff = IsNoKind (word_of matches (codes "bare"))
 IsNoCommand matches texts (task.Combine selection) = IsNoCombination matches
 
--- a reply names the path that one of these places and another one have in common
-abbrev pub NamesOneFile : List Place → Place → Reply → Type 0
-NamesOneFile places to said = (path : Bor (List ℕ)) × (other : Bor (List ℕ)) × Any (λ from. from ≡ File path) places × (to ≡ File other) × (path.now ≡ other.now) × (said ≡ reply.OneFile path other)
+-- a reply names the path that two places have in common
+abbrev pub NamesOneFile : Place → Place → Reply → Type 0
+NamesOneFile from to said = (path : Bor (List ℕ)) × (other : Bor (List ℕ)) × (from ≡ File path) × (to ≡ File other) × (path.now ≡ other.now) × (said ≡ reply.OneFile path other)
 
--- what is said of words that are no command: a message, or the path that is an input of a build and its output
+-- what is said of words that are no command: a message, or the path of a build's input and its output
 abbrev pub IsRefusal : ArgMatches → Reply → Type 0
 IsRefusal matches (reply.Help text) = ⊥
 IsRefusal matches (reply.Misuse text) = ⊥
 IsRefusal matches (reply.Refusal why) = IsSaid why
-IsRefusal matches (reply.OneFile path other) = Any (λ word. word ≡ path.now) (inputs_of matches) × (word_of matches (codes "output") ≡ Some other.now) × (path.now ≡ other.now)
+IsRefusal matches (reply.OneFile path other) = (word_of matches (codes "IN") ≡ Some path.now) × (word_of matches (codes "output") ≡ Some other.now) × (path.now ≡ other.now)
 IsRefusal matches reply.OutOfMemory = ⊥

@@ -1,5 +1,5 @@
 -- The words of a command line, and what they ask for.
-use Rattle.std.specs.Prelude.{◌≡◌, ◌≢◌, ◌⊎◌, ℕ, ◌-◌, All, List, [], ◌∷◌, Option, Some, None, Bool, true, false, Vec, codes, drop, eqb, length, map, unwrap_or}
+use Rattle.std.specs.Prelude.{◌≡◌, ◌≢◌, ◌⊎◌, ℕ, ◌-◌, List, [], ◌∷◌, Option, Some, None, Bool, true, false, Vec, codes, drop, eqb, length, map, unwrap_or}
 use Rattle.std.specs.Char.{to_ascii_lowercase}
 use Rattle.std.specs.Global.{Global}
 use Rattle.std.specs.Borrow.{Bor}
@@ -73,10 +73,6 @@ use Rattle.zerotrie_run.specs.declared.command.Place.TheVariants.{File, Stream}
 abbrev pub word_of : ArgMatches → List ℕ → Option (List ℕ)
 word_of matches name = first_value (found_of matches) name
 
--- the words of an argument, of all its uses
-abbrev pub words_of : ArgMatches → List ℕ → Option (List (List ℕ))
-words_of matches name = option_map raw_values (matched_of (found_of matches) name)
-
 -- the word that says whether a flag is there
 abbrev pub flag_of : ArgMatches → List ℕ → Option (List ℕ)
 flag_of matches name = one_text (found_of matches) name
@@ -106,10 +102,10 @@ IsOfPath path input.Lines = EndsIn path (codes ".txt")
 IsOfPath path input.Tsv = (EndsIn path (codes ".csv") → ⊥) × (EndsIn path (codes ".json") → ⊥) × (EndsIn path (codes ".jsonl") → ⊥) × (EndsIn path (codes ".ndjson") → ⊥)
     × (EndsIn path (codes ".txt") → ⊥)
 
--- the format of inputs: the one that is named, or the one that they all have by the endings of their paths
-abbrev pub IsFormat : Option (List ℕ) → List (List ℕ) → Input → Type 0
-IsFormat (Some word) paths format = word ≡ format_word format
-IsFormat None paths format = All (λ path. IsOfPath path format) paths
+-- the format of an input: the one that is named, or by the ending of its path
+abbrev pub IsFormat : Option (List ℕ) → Option (List ℕ) → Input → Type 0
+IsFormat (Some word) path format = word ≡ format_word format
+IsFormat None path format = IsOfPath (unwrap_or path []) format
 
 -- what ends a line, by its word
 abbrev pub end_word : LineEnd → List ℕ
@@ -151,14 +147,10 @@ IsSourceOf input.Lines raw end header source = (raw ≡ false) × (source ≡ Te
 IsSourceOf input.Json raw end header source = (raw ≡ false) × (source ≡ Json)
 IsSourceOf input.JsonLines raw end header source = (raw ≡ false) × (source ≡ JsonLines)
 
--- the words of the inputs of a build
-abbrev pub inputs_of : ArgMatches → List (List ℕ)
-inputs_of matches = unwrap_or (words_of matches (codes "IN")) []
-
--- What the inputs of a build are, by its words.
+-- What the input of a build is, by its words.
 pub record IsInput (matches : ArgMatches) (source : Source) : Type 0 where
   pub format : Input
-  pub named : IsFormat (word_of matches (codes "format")) (inputs_of matches) format
+  pub named : IsFormat (word_of matches (codes "format")) (word_of matches (codes "IN")) format
   pub end : LineEnd
   pub ended : IsEnd (word_of matches (codes "eol")) end
   pub lines : MayNameEnd format (word_of matches (codes "eol"))
@@ -177,7 +169,6 @@ duplicates_word again.Last = codes "last"
 duplicates_word again.Sum = codes "sum"
 duplicates_word again.Min = codes "min"
 duplicates_word again.Max = codes "max"
-duplicates_word again.Equal = codes "equal"
 
 -- what a file has, by whether it is to be tagged, bare or an index
 abbrev pub form_by : Bool → Bool → Bool → Option FileForm
@@ -370,6 +361,10 @@ summary_by to_terminal true true = None
 
 abbrev pub IsSummary : Bool → Option (List ℕ) → Option (List ℕ) → Summary → Type 0
 IsSummary to_terminal progress quiet s = (p : Bool) × (q : Bool) × IsFlag progress p × IsFlag quiet q × (summary_by to_terminal p q ≡ Some s)
+
+-- the words of an argument, of all its uses
+abbrev pub words_of : ArgMatches → List ℕ → Option (List (List ℕ))
+words_of matches name = option_map raw_values (matched_of (found_of matches) name)
 
 -- the keys, texts or values that are words of the command line
 abbrev pub given_words : ArgMatches → Topic → Option (List (List ℕ))

@@ -1,56 +1,33 @@
 //! The build that the command line asks for.
 
-ghost use Rattle.std.specs.Prelude.{◌≡◌, ◌⊎◌, All, None, Some, map, true, IfErr, IfOk, IfSome, IfNone, codes};
-ghost use Rattle.zerotrie_words.specs.Refusals.{ExcludeEachOther, HasNoHeader, HaveTwoFormats, IsNoBuild, IsNoChoice, IsNoContent, IsNoEnd, IsNoInput, IsNoPlan, IsNoProgress, IsSaid, NamesNone};
+ghost use Rattle.std.specs.Prelude.{◌≡◌, Some, true, IfErr, IfOk, IfSome, IfNone, codes};
+ghost use Rattle.zerotrie_words.specs.Refusals.{ExcludeEachOther, HasNoHeader, IsNoBuild, IsNoChoice, IsNoContent, IsNoEnd, IsNoInput, IsNoPlan, IsNoProgress, IsSaid, NamesNone};
 ghost use Rattle.zerotrie_words.specs.Requests.{IsBuild};
-ghost use Rattle.zerotrie_words.specs.Words.{AreTogether, IsEnd, IsFlag, IsForm, IsFormat, IsInput, IsOfPath, IsKind, IsPlan, IsSummary, IsTarget, MayHaveHeader, MayNameEnd, duplicates_word, end_word, flag_of, format_word, has_header, inputs_of, word_of};
+ghost use Rattle.zerotrie_words.specs.Words.{AreTogether, IsEnd, IsFlag, IsForm, IsFormat, IsInput, IsKind, IsPlan, IsSummary, IsTarget, MayHaveHeader, MayNameEnd, duplicates_word, end_word, flag_of, format_word, has_header, word_of};
 ghost use Rattle.zerotrie_lines.specs.declared.reading.LineEnd.{LineEnd};
 ghost use Rattle.zerotrie_making.specs.declared.duplicates.Duplicates.{Duplicates};
 
 use crate::input::Input;
-use crate::names::{kind_in, place_in};
+use crate::names::{kind_in, place_in, source_in};
 use clap::ArgMatches;
 use zerotrie_core::TrieKind;
 use zerotrie_lines::{Format, Header, LineEnd};
 use zerotrie_making::{Duplicates, FileForm, FilePlan, Plan, ReadPlan, Source};
 use zerotrie_run::{Build, Place, Summary};
 
-const NO_CHOICE: &str = "--duplicates asks for refuse, first, last, sum, min, max or equal";
+const NO_CHOICE: &str = "--duplicates asks for refuse, first, last, sum, min or max";
 
-/// Returns the format that all files have by the endings of their paths.
-fn format_of(paths: &[&str]) -> Result<Input, &'static str>
-    ensures format { IfOk result (λ format.
-        All (λ path. IsOfPath path.now format) paths.now) }
-    ensures refused { IfErr result (λ _.
-        HaveTwoFormats None (map (λ path. path.now) paths.now)) }
-    ensures said { IfErr result IsSaid }
-{
-    let Some(first) = paths.first() else {
-        return Ok(Input::Tsv);
-    };
-    let format = Input::of_path(first);
-    for path in paths {
-        if Input::of_path(path) != format {
-            return Err("the endings of the files are those of several formats: give --format");
-        }
-    }
-    Ok(format)
-}
-
-/// Returns the format of the inputs: the one that is named, or the one that all have by the endings
-/// of their paths.
+/// Returns the format of the input: the one that is named, or by the ending of its path.
 fn format_in(matches: &ArgMatches<'_>) -> Result<Input, &'static str>
     ensures format { IfOk result (IsFormat (word_of matches.now (codes "format"))
-        (inputs_of matches.now)) }
+        (word_of matches.now (codes "IN"))) }
     ensures refused { IfErr result (λ _.
-        NamesNone format_word (word_of matches.now (codes "format"))
-        ⊎ HaveTwoFormats (word_of matches.now (codes "format")) (inputs_of matches.now)) }
+        NamesNone format_word (word_of matches.now (codes "format"))) }
     ensures said { IfErr result IsSaid }
 {
-    match (matches.get_str("format"), matches.get_strs("IN")) {
-        (Some(name), _) => Input::named(name).ok_or("--format asks for a format"),
-        (None, Some(paths)) => format_of(paths),
-        (None, None) => Ok(Input::Tsv),
+    match matches.get_str("format") {
+        Some(name) => Input::named(name).ok_or("--format asks for a format"),
+        None => Ok(Input::of_path(matches.get_str("IN").unwrap_or(""))),
     }
 }
 
@@ -137,7 +114,6 @@ fn duplicates_named(name: &str) -> Option<Duplicates>
         "sum" => Some(Duplicates::Sum),
         "min" => Some(Duplicates::Min),
         "max" => Some(Duplicates::Max),
-        "equal" => Some(Duplicates::Equal),
         _ => None,
     }
 }
@@ -245,19 +221,15 @@ pub fn summary_in(matches: &ArgMatches<'_>, to_terminal: bool) -> Result<Summary
     }
 }
 
-/// Returns the build that is asked for, of the inputs in these places. It is an error, with the
-/// message, if an option has a wrong word, or options exclude each other.
-pub fn build_in<'w, 'a: 'w>(
-    matches: &ArgMatches<'a>,
-    places: &'w [Place<'a>],
-    to_terminal: bool,
-) -> Result<Build<'w>, &'static str>
-    ensures build { IfOk result (IsBuild matches.now places.now to_terminal) }
+/// Returns the build that is asked for. It is an error, with the message, if an option has a wrong
+/// word, or options exclude each other.
+pub fn build_in<'a>(matches: &ArgMatches<'a>, to_terminal: bool) -> Result<Build<'a>, &'static str>
+    ensures build { IfOk result (IsBuild matches.now to_terminal) }
     ensures refused { IfErr result (λ _. IsNoBuild matches.now) }
     ensures said { IfErr result IsSaid }
 {
     Ok(Build {
-        from: places,
+        from: source_in(matches, "IN"),
         to: target_in(matches),
         plan: plan_in(matches)?,
         no_clobber: matches.get_flag("no-clobber"),

@@ -1,14 +1,14 @@
 //! The combination of tries that the command line asks for.
 
-ghost use Rattle.std.specs.Prelude.{◌≡◌, [], IfErr, IfNone, IfOk, IfSome, codes, map, unwrap_or};
+ghost use Rattle.std.specs.Prelude.{◌≡◌, IfErr, IfNone, IfOk, IfSome, codes, map};
 ghost use Rattle.zerotrie_sets.specs.declared.selection.Rule.{Rule};
 ghost use Rattle.zerotrie_words.specs.Refusals.{IsSaid, NamesNone};
 ghost use Rattle.zerotrie_words.specs.Requests.{ArePlaces, AreSources, IsCombination, IsNoCombination, IsRule, rule_word};
-ghost use Rattle.zerotrie_words.specs.Words.{word_of, words_of};
+ghost use Rattle.zerotrie_words.specs.Words.{files_of, word_of};
 
 use crate::build::{content_in, summary_in, target_in};
 use crate::names::source_of;
-use crate::task::{Task, Topic};
+use crate::task::Task;
 use clap::ArgMatches;
 use std::alloc::{AllocError, Global};
 use zerotrie_making::Combination;
@@ -26,22 +26,17 @@ fn sources_of<'a>(alloc: Global, words: &[&'a str]) -> Result<Vec<Place<'a>>, Al
     Ok(places)
 }
 
-/// Returns the places of all files that an argument names.
-fn sources_in<'a>(
-    alloc: Global,
-    matches: &ArgMatches<'a>,
-    name: &str,
-) -> Result<Vec<Place<'a>>, AllocError>
-    ensures { IfOk result (λ places.
-        AreSources (unwrap_or (words_of matches.now name.now) []) places.items) }
+/// Returns the places of all files that are named.
+fn sources_in<'a>(alloc: Global, matches: &ArgMatches<'a>) -> Result<Vec<Place<'a>>, AllocError>
+    ensures { IfOk result (λ places. AreSources (files_of matches.now) places.items) }
 {
-    match matches.get_strs(name) {
+    match matches.get_strs("FILE") {
         Some(words) => sources_of(alloc, words),
         None => Ok(Vec::new(alloc)),
     }
 }
 
-/// Returns the places of the files of a task that takes several.
+/// Returns the places of the tries that a task combines.
 pub fn places_in<'a>(
     alloc: Global,
     matches: &ArgMatches<'a>,
@@ -50,11 +45,8 @@ pub fn places_in<'a>(
     ensures { IfOk result (λ places. ArePlaces matches.now task places.items) }
 {
     match task {
-        Task::Build => sources_in(alloc, matches, "IN"),
-        Task::Combine(_) | Task::Ask(Topic::Verify | Topic::Stats) => {
-            sources_in(alloc, matches, "FILE")
-        }
-        Task::Ask(_) | Task::Diff => Ok(Vec::new(alloc)),
+        Task::Combine(_) => sources_in(alloc, matches),
+        Task::Build | Task::Ask(_) | Task::Diff => Ok(Vec::new(alloc)),
     }
 }
 
@@ -69,7 +61,6 @@ fn rule_named(name: &str) -> Option<Rule>
         "sum" => Some(Rule::Sum),
         "min" => Some(Rule::Min),
         "max" => Some(Rule::Max),
-        "equal" => Some(Rule::Equal),
         "refuse" => Some(Rule::Refuse),
         _ => None,
     }
@@ -84,7 +75,7 @@ fn rule_in(matches: &ArgMatches<'_>) -> Result<Rule, &'static str>
 {
     match matches.get_str("values") {
         Some(name) => {
-            rule_named(name).ok_or("--values asks for refuse, first, last, sum, min, max or equal")
+            rule_named(name).ok_or("--values asks for refuse, first, last, sum, min or max")
         }
         None => Ok(Rule::First),
     }

@@ -1,6 +1,6 @@
 //! The words of a command line as a command.
 
-ghost use Rattle.std.specs.Prelude.{◌≡◌, All, Any, List, IfOk, IfErr, IfSome, OnOk, map, string_bytes};
+ghost use Rattle.std.specs.Prelude.{◌≡◌, List, IfOk, IfErr, IfSome, map, string_bytes};
 ghost use Rattle.zerotrie_run.specs.declared.status.Status.TheVariants.{BadUsage};
 ghost use Rattle.zerotrie_words.specs.Arguments.{program_by};
 ghost use Rattle.zerotrie_words.specs.Reads.{IsFaultSaid, IsFoundIn, IsNoRequest, IsRequest};
@@ -11,7 +11,7 @@ ghost use Rattle.zerotrie_words.specs.Words.{texts_of};
 ghost use Rattle.zerotrie_words.specs.declared.arguments.Subcommand.{Subcommand};
 
 use crate::arguments::{Subcommand, program};
-use crate::build::{build_in, target_in};
+use crate::build::build_in;
 use crate::combine::{combine_in, places_in};
 use crate::completions::script_for;
 use crate::diff::diff_in;
@@ -23,7 +23,7 @@ use crate::table::commands;
 use crate::task::{Task, Topic, task_in};
 use clap::ArgMatches;
 use std::alloc::{AllocError, Global};
-use zerotrie_run::{Command, Place, have_two_streams};
+use zerotrie_run::{Build, Command, Place};
 
 /// The words of a command line that name a command.
 #[derive(Drop)]
@@ -32,7 +32,7 @@ pub struct Request<'a> {
     matches: ArgMatches<'a>,
     /// The words that are keys or texts.
     keys: Option<Vec<&'a [u8]>>,
-    /// The places of the files of a task that takes several.
+    /// The places of the tries that are combined.
     places: Vec<Place<'a>>,
 }
 
@@ -72,23 +72,18 @@ fn page_in(
     }
 }
 
-/// Tests that a build would not replace one of its inputs. Paths that lead to one file by links are
+/// Returns a build, unless it would replace its own input. Paths that lead to one file by links are
 /// not seen here.
-fn test_apart<'a>(places: &[Place<'a>], to: Place<'a>) -> Result<(), Reply<'a>>
-    ensures apart { OnOk result (All (λ place. AreApart place to.entry) places.now) }
-    ensures refused { IfErr result (λ reply. Any (λ place. AreOneFile place to.entry) places.now
+fn kept_apart<'a>(build: Build<'a>) -> Result<Build<'a>, Reply<'a>>
+    ensures apart { IfOk result (λ same. (same ≡ build.entry) × AreApart same.from same.to) }
+    ensures refused { IfErr result (λ reply. AreOneFile build.entry.from build.entry.to
         × (status_of reply ≡ BadUsage)) }
-    ensures said { IfErr result (NamesOneFile places.now to.entry) }
+    ensures said { IfErr result (NamesOneFile build.entry.from build.entry.to) }
 {
-    for place in places {
-        match (*place, to) {
-            (Place::File(from), Place::File(to)) if from == to => {
-                return Err(Reply::OneFile(from, to));
-            }
-            _ => {}
-        }
+    match (build.from, build.to) {
+        (Place::File(from), Place::File(to)) if from == to => Err(Reply::OneFile(from, to)),
+        _ => Ok(build),
     }
-    Ok(())
 }
 
 impl<'a> Request<'a> {
@@ -176,8 +171,8 @@ impl<'a> Request<'a> {
 
     /// Returns the command that the words ask for, for the file with this number. What is made is
     /// reported always if messages go to a terminal, but not if it is to be quiet. It is an error if an
-    /// option has a wrong word, if options exclude each other, or if a build would replace one of its
-    /// inputs.
+    /// option has a wrong word, if options exclude each other, or if a build would replace its own
+    /// input.
     pub fn command(&self, file: usize, to_terminal: bool) -> Result<Command<'_>, Reply<'a>>
         ensures command { IfOk result
             (IsCommand self.now.matches (texts_of self.now.keys) self.now.places.items to_terminal
@@ -189,17 +184,10 @@ impl<'a> Request<'a> {
     {
         match self.task {
             Task::Build => {
-                let places = self.places.as_slice();
-                let build = build_in(&self.matches, places, to_terminal)?;
-                test_apart(places, target_in(&self.matches))?;
-                Ok(Command::Build(build))
+                let build = build_in(&self.matches, to_terminal)?;
+                Ok(Command::Build(kept_apart(build)?))
             }
-            Task::Ask(topic) => {
-                if have_two_streams(self.places.as_slice()) {
-                    return Err(Reply::Refusal("only one file can be standard input"));
-                }
-                Ok(ask_in(&self.matches, topic, file, &self.keys)?)
-            }
+            Task::Ask(topic) => Ok(ask_in(&self.matches, topic, file, &self.keys)?),
             Task::Diff => Ok(Command::Diff(diff_in(&self.matches)?)),
             Task::Combine(selection) => {
                 let places = self.places.as_slice();

@@ -13,7 +13,7 @@ const OUTPUTS: &[&str] = &["tsv", "csv", "keys", "values", "json", "jsonl"];
 const ENDS: &[&str] = &["crlf", "lf"];
 
 /// What can become of a key that several pairs have.
-const CHOICES: &[&str] = &["refuse", "first", "last", "sum", "min", "max", "equal"];
+const CHOICES: &[&str] = &["refuse", "first", "last", "sum", "min", "max"];
 
 const LANGUAGES: &[&str] = &["rust", "c", "rattle", "js"];
 
@@ -228,7 +228,7 @@ pub const STATUSES: &str = "Status: 0 if all is done or found; 1 if a key is not
 const LOOK_UPS: &[Subcommand] = &[
     Subcommand {
         name: "build",
-        about: "Make a trie or an index from files of pairs",
+        about: "Make a trie or an index from a file of pairs",
         help: "Example: zerotrie build names.tsv -o names.trie\n\
             In every format of text a byte order mark in front is left out,\n\
             and a carriage return before a line feed.\n\
@@ -236,15 +236,15 @@ const LOOK_UPS: &[Subcommand] = &[
         arguments: &[
             Argument {
                 name: "IN",
-                form: Form::Words,
-                help: "Files of pairs in one format, read one after another; - is standard input",
+                form: Form::Place,
+                help: "A file of pairs, or - for standard input",
             },
             OUTPUT,
             NO_CLOBBER,
             Argument {
                 name: "format",
                 form: Form::OneOf("F", Some('f'), INPUTS, Otherwise::Nothing),
-                help: "The format of all IN, else by their endings, else tsv",
+                help: "The format of IN, else by its ending, else tsv",
             },
             Argument {
                 name: "raw",
