@@ -114,7 +114,7 @@ fn one_of_two(rule: Rule, value: usize, next: usize) -> Option<usize>
     ensures none { IfNone result ((rule ≡ rules.Sum) × (2 ^ 64 ≤ value + next)) }
 {
     match rule {
-        Rule::First | Rule::Refuse => Some(value),
+        Rule::First | Rule::Equal | Rule::Refuse => Some(value),
         Rule::Last => Some(next),
         Rule::Sum => value.checked_add(next),
         Rule::Min => Some(value.min(next)),

@@ -8,7 +8,7 @@ use Rattle.zerotrie_core.specs.declared.TrieKind.TheVariants.{Simple, Ignore, Ha
 use Rattle.zerotrie_any.specs.Tagged.{tagged, IsTagFault}
 use Rattle.zerotrie_any.specs.declared.bytes.TagError.{TagError}
 use Rattle.zerotrie_sealed.specs.Sealed.{IsSealedAs, IsSealedIndex, index_number}
-use Rattle.zerotrie_sealed.specs.Laws.{OneTrie, OneContent}
+use Rattle.zerotrie_sealed.specs.Laws.{OneTrie, OneIndex}
 use Rattle.zerotrie_sealed.specs.declared.reading.SealError.{SealError}
 use Rattle.zerotrie_queries.specs.Files.{Holds, HoldsUnsealed, HoldsSealed, HasMagic, HasNoKind, IsDamaged}
 use Rattle.zerotrie_queries.specs.declared.file.OpenError.{OpenError}
@@ -82,23 +82,15 @@ held_once one named file j k a b (inl h) (inr i) = absurd (apart named file j k 
 held_once one named file j k a b (inr h) (inl i) = absurd (apart named file k j b a i h)
 held_once one named file j k a b (inr h) (inr i) = same_unsealed named file j k a b h i
 
-tag_below : (k : Kind) → tag k < 2 ^ 16
-tag_below simple_ascii = omega arith
-tag_below ignore_case = omega arith
-tag_below perfect_hash = omega arith
-tag_below extended_capacity = omega arith
-
--- the number of an index is that of no kind
-no_index_tag : (k : Kind) → index_number ≡ tag k → ⊥
-no_index_tag simple_ascii is = omega (arith, is)
-no_index_tag ignore_case is = omega (arith, is)
-no_index_tag perfect_hash is = omega (arith, is)
-no_index_tag extended_capacity is = omega (arith, is)
+-- an index begins as a sealed file does
+index_magic : (index file : List ℕ) → IsSealedIndex index file → HasMagic file
+index_magic index file (inl whole) = sealed_magic index_number index file whole
+index_magic index file (inr blocks) = ap (take 8) (blocks.parts ∙ ap (λ front. front ++ index) blocks.sealed.parts)
 
 -- the file of an index has no trie
-pub no_trie : OneContent → (file : List ℕ) (k : TrieKind) (index b : List ℕ) → IsSealedIndex index file → Holds None file k b → ⊥
-no_trie one file k index b is (inl sealed) = no_index_tag (kind_of k) (one index_number (tag (kind_of k)) index b file (omega arith) (tag_below (kind_of k)) is sealed).0
-no_trie one file k index b is (inr bare) = tagged_magic (kind_of k) b file bare (sealed_magic index_number index file is)
+pub no_trie : OneIndex → (file : List ℕ) (k : TrieKind) (index b : List ℕ) → IsSealedIndex index file → Holds None file k b → ⊥
+no_trie one file k index b is (inl sealed) = (one index file is).1 (kind_of k) b sealed
+no_trie one file k index b is (inr bare) = tagged_magic (kind_of k) b file bare (index_magic index file is)
 
 -- what is opened of a file it has
 pub holds_of : (by : Check) (named : Option TrieKind) (file : List ℕ) (k : TrieKind) (b : List ℕ) → OpensBy by named file k b → Holds named file k b

@@ -8,8 +8,8 @@ use Rattle.zerotrie_core.specs.Texts.{Means}
 use Rattle.zerotrie_core.specs.WellFormed.{IsWellFormed}
 use Rattle.zerotrie_lines.specs.Tables.{lowered}
 use Rattle.zerotrie_any.specs.Tagged.{tagged}
-use Rattle.zerotrie_sealed.specs.Sealed.{IsSealed, IsSealedIndex, index_number}
-use Rattle.zerotrie_sealed.specs.Laws.{OneTrie, OneContent}
+use Rattle.zerotrie_sealed.specs.Sealed.{IsSealed, IsSealedIndex}
+use Rattle.zerotrie_sealed.specs.Laws.{OneTrie, OneIndex}
 use Rattle.zerotrie_index.specs.Built.{IsIndexOf}
 use Rattle.zerotrie_core.specs.Kinds.{kind_of}
 use Rattle.zerotrie_queries.specs.Files.{Holds}
@@ -106,16 +106,16 @@ index_built true pairs bytes built = built.1.0
 index_built false pairs bytes built = built.0
 
 -- what is opened of a file that is a sealed index is that index
-index_opened : OneContent → (pairs : Pairs) (bytes made : List ℕ) (file : TrieFile) → file.bare ≡ None → IsSealedIndex bytes made → IsIndexOf pairs bytes
+index_opened : OneIndex → (pairs : Pairs) (bytes made : List ℕ) (file : TrieFile) → file.bare ≡ None → IsSealedIndex bytes made → IsIndexOf pairs bytes
     → (question : Question) (content : Content) → OpensFor file question made content → IsIndexAsMade pairs made content
 index_opened one pairs bytes made file plain is index question (of_trie k b) opens =
     absurd (no_trie one made k bytes b is (subst (λ o. Holds o made k b) plain (holds_of file.check file.bare made k b opens)))
 index_opened one pairs bytes made file plain is index question (of_index b) opens =
-    let same = (one index_number index_number bytes b made (omega arith) (omega arith) is opens.1.1).1 in
+    let same = (one bytes made is).0 b opens.1.1 in
     (opens.1.1, subst (λ x. IsIndexOf pairs x) same index)
 
 -- a file that holds a sealed index opens as it
-index_opens : OneContent → (pairs : Pairs) (bytes made : List ℕ) (file : TrieFile) (stdin : Option (List ℕ)) (files : Option Story)
+index_opens : OneIndex → (pairs : Pairs) (bytes made : List ℕ) (file : TrieFile) (stdin : Option (List ℕ)) (files : Option Story)
     → ((got : List ℕ) → IsRead file.place stdin files got → got ≡ made) → file.bare ≡ None → IsSealedIndex bytes made → IsIndexOf pairs bytes
     → IndexOpensAsMade file stdin files pairs made
 index_opens one pairs bytes made file stdin files back plain is index = record {
@@ -125,7 +125,7 @@ index_opens one pairs bytes made file stdin files back plain is index = record {
       index_opened one pairs bytes made file plain is index question content (subst (λ x. OpensFor file question x content) (back got read) opens);
 }
 
-pub made_index_opens : OneContent → MadeIndexOpens
+pub made_index_opens : OneIndex → MadeIndexOpens
 made_index_opens one build input before after held files known same made file stdin away at as_index plain =
     let f = made.made.3 in
     let pairs = kept build.plan.read.duplicates (lowered build.plan.read.lower_case made.made.1) in

@@ -4,7 +4,7 @@
 ghost use Rattle.zerotrie_run.specs.CombinedLaws.{CombinedOpens, CombineRefusedExactly};
 ghost use Rattle.zerotrie_run.specs.Laws.{MadeIndexOpens, MadeOpens, RefusedExactly, UnmadeIsRefused};
 
-use zerotrie_sealed::laws::{one_content, one_trie};
+use zerotrie_sealed::laws::{one_index, one_trie};
 
 /// States that the file of a trie that a build made opens as the trie of the pairs that the build read,
 /// if its kind is named as it was for the build. So each question to it is answered by them.
@@ -19,7 +19,7 @@ pub fn made_opens()
 pub fn made_index_opens()
     ensures { MadeIndexOpens }
 {
-    one_content();
+    one_index();
 }
 
 /// States that a question to a file is refused exactly if the file has no trie, nor an index that

@@ -10,8 +10,8 @@ use std::alloc::Global;
 use zerotrie_core::{Trie, TrieKind, TrieRef};
 use zerotrie_index::is_well_formed;
 use zerotrie_queries::{OpenError, open_unchecked};
-use zerotrie_sealed::laws::one_content;
-use zerotrie_sealed::{INDEX_NUMBER, SealError};
+use zerotrie_sealed::laws::one_index;
+use zerotrie_sealed::{SealError, is_index_number};
 
 /// Opens the trie in the bytes of a file, and validates its bytes, also if they are sealed.
 pub fn open_in_full(
@@ -72,7 +72,7 @@ pub fn open_index<'a>(
     ensures none { IfNone result ((bytes : List ℕ)
         → OpensFor file.entry question.entry held.now (of_index bytes) → ⊥) }
 {
-    one_content();
+    one_index();
     if file.bare.is_some() || !asks_index(question) {
         return None;
     }
@@ -101,7 +101,10 @@ pub fn open_trie<'a>(
         Ok(trie) => return Ok(trie),
         Err(why) => why,
     };
-    let is_index = why == OpenError::Damaged(SealError::UnknownKind(INDEX_NUMBER));
+    let is_index = match why {
+        OpenError::Damaged(SealError::UnknownKind(number)) => is_index_number(number),
+        _ => false,
+    };
     if is_index && asks_index(question) {
         if let Err(fault) = zerotrie_sealed::open_index(held) {
             return Err(OpenError::Damaged(fault));

@@ -22,12 +22,10 @@ pub(crate) const FRONT_LEN: usize = 20;
 /// The number of bytes in front of the trie or of the table of an index in a sealed file.
 pub const HEADER_LEN: usize = 24;
 
-/// The number in the header of an index that is sealed as a whole, which `open_index` reads. No kind
-/// of trie has it.
+/// The number in the header of an index that is sealed as a whole. No kind of trie has it.
 pub const INDEX_NUMBER: u16 = 24;
 
-/// The number in the header of an index that is sealed in blocks, as `seal_index_in_blocks` does. No kind of
-/// trie has it.
+/// The number in the header of an index that is sealed in blocks. No kind of trie has it.
 pub const BLOCKS_NUMBER: u16 = 25;
 
 /// Returns the header of these bytes, with this number and this checksum.

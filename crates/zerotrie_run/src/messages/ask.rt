@@ -21,7 +21,7 @@ use zerotrie_any::TagError;
 use zerotrie_core::{Fault, TrieKind};
 use zerotrie_files::Noted;
 use zerotrie_queries::{OpenError, of_tagged};
-use zerotrie_sealed::{INDEX_NUMBER, SealError};
+use zerotrie_sealed::{SealError, is_index_number};
 
 const TWO_INPUTS: &str = "zerotrie: standard input can't be both the file and the keys";
 
@@ -71,11 +71,19 @@ fn tag_words(why: &TagError, is_text: bool) -> &'static str
     }
 }
 
+/// Returns whether a file is sealed as an index, by why it is no sealed trie.
+pub fn is_sealed_index(why: SealError) -> bool {
+    match why {
+        SealError::UnknownKind(number) => is_index_number(number),
+        _ => false,
+    }
+}
+
 /// Returns a line that says that a sealed file is damaged, or holds an index.
 fn damaged(alloc: Global, place: &str, why: SealError) -> Result<Vec<u8>, AllocError>
     ensures { IfOk result (λ text. IsLineOn place.now text.items) }
 {
-    if why == SealError::UnknownKind(INDEX_NUMBER) {
+    if is_sealed_index(why) {
         return line_on(
             alloc,
             place,
@@ -226,7 +234,7 @@ pub fn ask_text(alloc: Global, file: TrieFile<'_>, error: &AskError) -> Result<V
 /// error of the test.
 fn is_index(question: Question<'_>, why: SealError) -> bool {
     match question {
-        Question::Verify => why == SealError::UnknownKind(INDEX_NUMBER),
+        Question::Verify => is_sealed_index(why),
         _ => false,
     }
 }
