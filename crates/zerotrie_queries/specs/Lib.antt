@@ -3,6 +3,7 @@ pub mod Files
 pub mod Json
 pub mod Printed
 pub mod Chosen
+pub mod Found
 pub mod Kept
 pub mod Sorted
 pub mod Listed

@@ -23,7 +23,8 @@ mod json_object;
 mod nearest;
 
 use crate::folding::FoldedWords;
-use crate::kept::{conditions, part_of};
+use crate::found::Found;
+use crate::kept::conditions;
 use crate::listing::forms::write_first;
 use crate::listing::nearest::write_nearest;
 use crate::print::Form;
@@ -37,23 +38,53 @@ use std::ops::Bound;
 use zerotrie_core::{PairStream, Trie, TrieKind, TrieRef};
 use zerotrie_files::Noted;
 use zerotrie_search::{
-    Automaton, BeginsWith, Both, ByKind, KeyRange, Not, Search, StartsWith, by_automaton,
+    AnyAutomaton, Automaton, BeginsWith, Both, ByKind, KeyRange, Not, Search, StartsWith,
+    by_automaton,
 };
 
-/// Does what is written with the automaton of a word, as a kind compares keys: that of the keys which
-/// the word finds, or if it is so, of those that begin with one.
+/// Does what is written with an automaton, as a kind compares keys, that accepts what this one does or, if it
+/// is so, the keys that begin with one.
+macro_rules! by_word {
+    ($word:expr, $kind:expr, $begins:expr, $automaton:ident => $result:expr) => {{
+        let found = Found {
+            word: BeginsWith($word),
+            begins: $begins,
+        };
+        let $automaton = ByKind($kind, found);
+        $result
+    }};
+}
+
+/// Does the same with the automaton alone where that is enough, as `Found` costs patterns a tenth of their time.
+macro_rules! by_pattern {
+    ($word:expr, $kind:expr, $begins:expr, $automaton:ident => $result:expr) => {
+        if $begins {
+            by_word!($word, $kind, $begins, $automaton => $result)
+        } else {
+            let $automaton = ByKind($kind, $word);
+            $result
+        }
+    };
+}
+
+/// Does what is written with an automaton of the keys that a word finds, as a kind compares keys, or if it is
+/// so, of those that begin with one.
 macro_rules! by_found {
     ($any:expr, $kind:expr, $begins:expr, $automaton:ident => $result:expr) => {
-        if $begins {
-            by_automaton!($any, word => {
-                let $automaton = ByKind($kind, BeginsWith(word));
-                $result
-            })
-        } else {
-            by_automaton!($any, word => {
-                let $automaton = ByKind($kind, word);
-                $result
-            })
+        match $any {
+            AnyAutomaton::Prefix(word) => by_word!(word, $kind, $begins, $automaton => $result),
+            AnyAutomaton::Range(word) => by_word!(word, $kind, $begins, $automaton => $result),
+            AnyAutomaton::Glob(word) => by_pattern!(word, $kind, $begins, $automaton => $result),
+            AnyAutomaton::GlobChars(word) => {
+                by_pattern!(word, $kind, $begins, $automaton => $result)
+            }
+            AnyAutomaton::Subsequence(word) => {
+                by_pattern!(word, $kind, $begins, $automaton => $result)
+            }
+            AnyAutomaton::Fuzzy(word) => by_word!(word, $kind, $begins, $automaton => $result),
+            AnyAutomaton::FuzzyChars(word) => by_word!(word, $kind, $begins, $automaton => $result),
+            AnyAutomaton::Swaps(word) => by_word!(word, $kind, $begins, $automaton => $result),
+            AnyAutomaton::SwapsChars(word) => by_word!(word, $kind, $begins, $automaton => $result),
         }
     };
 }
@@ -207,11 +238,7 @@ fn write_matched<T: Automaton + Copy + Drop, W: Write>(
     if is_free(choice) {
         return write_accepted(alloc, trie, form, automaton, limit, output);
     }
-    if choice.without.is_some() {
-        let kept = conditions(trie.kind, choice);
-        return write_with_all(alloc, trie, form, choice, automaton, kept, limit, output);
-    }
-    let kept = part_of(trie.kind, choice);
+    let kept = conditions(trie.kind, choice);
     write_with_all(alloc, trie, form, choice, automaton, kept, limit, output)
 }
 
@@ -247,7 +274,7 @@ fn write_unmatched<W: Write>(
 }
 
 /// Writes the first pairs whose keys are chosen, in the order of the trie.
-#[tactic(auto, using(crate::proofs::EditsLemmas::found_begins, crate::proofs::EditsLemmas::found_whole, crate::proofs::FoldLemmas::none_found))]
+#[tactic(auto, using(crate::proofs::FoldLemmas::found_folded, crate::proofs::EditsLemmas::found_whole, crate::proofs::FoldLemmas::none_found))]
 fn write_stored<W: Write>(
     alloc: Global,
     trie: &TrieRef<'_>,
@@ -276,7 +303,8 @@ fn write_stored<W: Write>(
         return write_matched(alloc, trie, form, choice, no_key, limit, output);
     };
     let kind = trie.kind;
-    by_found!(any, kind, sought.begins, automaton => {
+    let begins = sought.begins;
+    by_found!(any, kind, begins, automaton => {
         write_matched(alloc, trie, form, choice, automaton, limit, output)
     })
 }
@@ -350,17 +378,13 @@ fn write_matched_between<T: Automaton + Copy + Drop, W: Write>(
             alloc, trie, form, choice, automaton, limit, from, to, output,
         );
     }
-    if choice.without.is_some() {
-        let chosen = Both(conditions(trie.kind, choice), automaton);
-        return write_accepted_between(alloc, trie, form, choice, chosen, limit, from, to, output);
-    }
-    let chosen = Both(part_of(trie.kind, choice), automaton);
+    let chosen = Both(conditions(trie.kind, choice), automaton);
     write_accepted_between(alloc, trie, form, choice, chosen, limit, from, to, output)
 }
 
 /// Writes the first pairs whose keys are chosen, in the order of their bytes. All of these keys are
 /// between the bounds.
-#[tactic(auto, using(crate::proofs::EditsLemmas::found_begins, crate::proofs::EditsLemmas::found_whole, crate::proofs::FoldLemmas::none_found))]
+#[tactic(auto, using(crate::proofs::FoldLemmas::found_folded, crate::proofs::EditsLemmas::found_whole, crate::proofs::FoldLemmas::none_found))]
 fn write_between<W: Write>(
     alloc: Global,
     trie: &TrieRef<'_>,
@@ -394,7 +418,8 @@ fn write_between<W: Write>(
         return write_matched_between(alloc, trie, form, choice, no_key, limit, from, to, output);
     };
     let kind = trie.kind;
-    by_found!(any, kind, sought.begins, automaton => {
+    let begins = sought.begins;
+    by_found!(any, kind, begins, automaton => {
         write_matched_between(alloc, trie, form, choice, automaton, limit, from, to, output)
     })
 }
@@ -522,16 +547,12 @@ fn has_matched<T: Automaton + Drop>(
     ensures { IfOk result (λ found. (m : Map) → Means (kind_of trie.now.kind) trie.now.bytes.now m
         → (length (chosen trie.now.kind choice.entry (entries m)) == 0) ≡ not found) }
 {
-    if choice.without.is_some() {
-        let kept = conditions(trie.kind, choice);
-        return has_with_all(alloc, trie, choice, automaton, kept);
-    }
-    let kept = part_of(trie.kind, choice);
+    let kept = conditions(trie.kind, choice);
     has_with_all(alloc, trie, choice, automaton, kept)
 }
 
 /// Returns whether a trie has a pair whose key is chosen.
-#[tactic(auto, using(crate::proofs::EditsLemmas::found_begins, crate::proofs::EditsLemmas::found_whole, crate::proofs::FoldLemmas::none_found))]
+#[tactic(auto, using(crate::proofs::FoldLemmas::found_folded, crate::proofs::FoldLemmas::none_found))]
 fn has_chosen(alloc: Global, trie: &TrieRef<'_>, choice: Choice<'_>) -> Result<bool, AllocError>
     requires valid { IsWellFormed (kind_of trie.now.kind) trie.now.bytes.now }
     requires folded { IsFolded trie.now.kind choice }
@@ -545,7 +566,10 @@ fn has_chosen(alloc: Global, trie: &TrieRef<'_>, choice: Choice<'_>) -> Result<b
         return has_matched(alloc, trie, choice, Not(StartsWith(b"")));
     };
     let kind = trie.kind;
-    by_found!(any, kind, sought.begins, automaton => has_matched(alloc, trie, choice, automaton))
+    let begins = sought.begins;
+    by_automaton!(any, word => {
+        by_word!(word, kind, begins, automaton => has_matched(alloc, trie, choice, automaton))
+    })
 }
 
 /// Returns the fewest edits of the word of a choice with which a pair is chosen, or as many as it allows if
