@@ -6,6 +6,7 @@ pub mod Chosen
 pub mod Found
 pub mod Kept
 pub mod Sorted
+pub mod Readings
 pub mod Listed
 pub mod Recased
 pub mod Diffs

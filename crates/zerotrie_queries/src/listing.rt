@@ -1,6 +1,6 @@
 //! The pairs of a trie, printed as they come.
 
-ghost use Rattle.std.specs.Prelude.{◌≡◌, ◌==◌, length, not, ◌≢◌, ℕ, List, [], None, true, IfOk, IfErr, IfSome, IfNone, OnOk, OnErr};
+ghost use Rattle.std.specs.Prelude.{◌≡◌, ◌==◌, length, not, ◌≢◌, ℕ, List, [], None, Some, true, IfOk, IfErr, IfSome, IfNone, OnOk, OnErr};
 ghost use Rattle.std.specs.FinMap.{entries};
 ghost use Rattle.zerotrie_core.specs.Maps.{Map, beginning, begins_with};
 ghost use Rattle.zerotrie_core.specs.Texts.{Means};
@@ -12,6 +12,7 @@ ghost use Rattle.zerotrie_core.specs.declared.TrieKind.{TrieKind};
 ghost use Rattle.zerotrie_core.specs.declared.TrieKind.TheVariants.{Ignore};
 ghost use Rattle.zerotrie_queries.specs.Chosen.{at_edits, chosen, closest, edits_of, is_chosen, is_in, is_kept, is_matched, IsFolded};
 ghost use Rattle.zerotrie_queries.specs.Sorted.{AreWithin, picked};
+ghost use Rattle.zerotrie_queries.specs.Readings.{read_order, IsReadWithin};
 ghost use Rattle.zerotrie_queries.specs.declared.question.Order.TheVariants.{ByBytes, Closest};
 ghost use Rattle.zerotrie_queries.specs.Listed.{AreListed, AreListedInPart, AreNoText, AreUnlisted, IsListingNoted};
 ghost use Rattle.zerotrie_files.specs.Faults.{IsNoted};
@@ -28,7 +29,7 @@ use crate::kept::conditions;
 use crate::listing::forms::write_first;
 use crate::listing::nearest::write_nearest;
 use crate::print::Form;
-use crate::question::{Choice, Order};
+use crate::question::{Choice, Order, Sought};
 use crate::sorted::{above_prefix, stream_chosen, upper_bound};
 pub use distances::write_distances;
 use std::alloc::{AllocError, Global};
@@ -273,42 +274,6 @@ fn write_unmatched<W: Write>(
     }
 }
 
-/// Writes the first pairs whose keys are chosen, in the order of the trie.
-#[tactic(auto, using(crate::proofs::FoldLemmas::found_folded, crate::proofs::EditsLemmas::found_whole, crate::proofs::FoldLemmas::none_found))]
-fn write_stored<W: Write>(
-    alloc: Global,
-    trie: &TrieRef<'_>,
-    form: Form,
-    choice: Choice<'_>,
-    limit: Option<usize>,
-    output: &mut Noted<W>,
-) -> io::Result<Option<Vec<u8>>>
-    requires { IsFolded trie.now.kind choice }
-    ensures all { IfOk result (λ key. IfNone key (AreListed form (chosen trie.now.kind choice.entry)
-        limit trie.now.kind trie.now.bytes.now (W.contents output.old.inner)
-        (W.contents output.new.inner))) }
-    ensures none { IfOk result (λ key. IfSome key (λ k. AreNoText form
-        (chosen trie.now.kind choice.entry) limit trie.now.kind trie.now.bytes.now k.items
-        × (output.new ≡ output.old))) }
-    ensures part { OnErr result (AreListedInPart form (chosen trie.now.kind choice.entry) limit
-        trie.now.kind trie.now.bytes.now (W.contents output.old.inner)
-        (W.contents output.new.inner)) }
-    ensures noted { IsNoted result output.old.failed output.new.failed }
-{
-    let Some(sought) = choice.sought else {
-        return write_unmatched(alloc, trie, form, choice, limit, output);
-    };
-    let Some(any) = sought.automaton(trie.kind) else {
-        let no_key = Not(StartsWith(b""));
-        return write_matched(alloc, trie, form, choice, no_key, limit, output);
-    };
-    let kind = trie.kind;
-    let begins = sought.begins;
-    by_found!(any, kind, begins, automaton => {
-        write_matched(alloc, trie, form, choice, automaton, limit, output)
-    })
-}
-
 /// Writes the first pairs that an automaton accepts, in the order of their bytes. It accepts just the
 /// keys that are chosen, and all of these are between the bounds. It reads no part of the trie outside
 /// them, but for a test of all bytes, and writes nothing if they are malformed.
@@ -382,9 +347,129 @@ fn write_matched_between<T: Automaton + Copy + Drop, W: Write>(
     write_accepted_between(alloc, trie, form, choice, chosen, limit, from, to, output)
 }
 
+/// How a trie is read.
+#[derive(Clone, Copy, Debug)]
+enum Reading<'b> {
+    /// In its own order.
+    Stored,
+    /// In the order of bytes, between two bounds.
+    Between(Bound<&'b [u8]>, Bound<&'b [u8]>),
+}
+
+/// Writes the first pairs whose keys are chosen, as the trie is read. The automaton accepts what that of
+/// the choice does.
+fn write_read<T: Automaton + Copy + Drop, W: Write>(
+    alloc: Global,
+    trie: &TrieRef<'_>,
+    form: Form,
+    choice: Choice<'_>,
+    automaton: T,
+    reading: Reading<'_>,
+    limit: Option<usize>,
+    output: &mut Noted<W>,
+) -> io::Result<Option<Vec<u8>>>
+    requires folded { IsFolded trie.now.kind choice }
+    requires within { IsReadWithin trie.now.kind choice reading }
+    requires matched { (key : List ℕ) → T.accepts automaton key ≡ is_matched trie.now.kind choice.sought key }
+    ensures all { IfOk result (λ key. IfNone key (AreListed form
+        (picked (read_order reading.entry) trie.now.kind choice.entry) limit trie.now.kind
+        trie.now.bytes.now (W.contents output.old.inner) (W.contents output.new.inner))) }
+    ensures none { IfOk result (λ key. IfSome key (λ k. AreNoText form
+        (picked (read_order reading.entry) trie.now.kind choice.entry) limit trie.now.kind
+        trie.now.bytes.now k.items × (output.new ≡ output.old))) }
+    ensures part { OnErr result (AreListedInPart form
+        (picked (read_order reading.entry) trie.now.kind choice.entry) limit trie.now.kind
+        trie.now.bytes.now (W.contents output.old.inner) (W.contents output.new.inner)) }
+    ensures noted { IsNoted result output.old.failed output.new.failed }
+{
+    match reading {
+        Reading::Stored => write_matched(alloc, trie, form, choice, automaton, limit, output),
+        Reading::Between(from, to) => {
+            write_matched_between(
+                alloc, trie, form, choice, automaton, limit, from, to, output,
+            )
+        }
+    }
+}
+
+/// Writes the first pairs whose keys a word finds, as the trie is read, and of which the other conditions of
+/// the choice hold.
+#[tactic(auto, using(crate::proofs::FoldLemmas::found_folded, crate::proofs::EditsLemmas::found_whole, crate::proofs::FoldLemmas::none_found))]
+fn write_sought<W: Write>(
+    alloc: Global,
+    trie: &TrieRef<'_>,
+    form: Form,
+    choice: Choice<'_>,
+    sought: Sought<'_>,
+    reading: Reading<'_>,
+    limit: Option<usize>,
+    output: &mut Noted<W>,
+) -> io::Result<Option<Vec<u8>>>
+    requires folded { IsFolded trie.now.kind choice }
+    requires within { IsReadWithin trie.now.kind choice reading }
+    requires sought { choice.sought ≡ Some sought }
+    ensures all { IfOk result (λ key. IfNone key (AreListed form
+        (picked (read_order reading.entry) trie.now.kind choice.entry) limit trie.now.kind
+        trie.now.bytes.now (W.contents output.old.inner) (W.contents output.new.inner))) }
+    ensures none { IfOk result (λ key. IfSome key (λ k. AreNoText form
+        (picked (read_order reading.entry) trie.now.kind choice.entry) limit trie.now.kind
+        trie.now.bytes.now k.items × (output.new ≡ output.old))) }
+    ensures part { OnErr result (AreListedInPart form
+        (picked (read_order reading.entry) trie.now.kind choice.entry) limit trie.now.kind
+        trie.now.bytes.now (W.contents output.old.inner) (W.contents output.new.inner)) }
+    ensures noted { IsNoted result output.old.failed output.new.failed }
+{
+    let Some(any) = sought.automaton(trie.kind) else {
+        let no_key = Not(StartsWith(b""));
+        return write_read(alloc, trie, form, choice, no_key, reading, limit, output);
+    };
+    let kind = trie.kind;
+    let begins = sought.begins;
+    by_found!(any, kind, begins, automaton => {
+        write_read(alloc, trie, form, choice, automaton, reading, limit, output)
+    })
+}
+
+/// Writes the first pairs whose keys are chosen, in the order of the trie.
+fn write_stored<W: Write>(
+    alloc: Global,
+    trie: &TrieRef<'_>,
+    form: Form,
+    choice: Choice<'_>,
+    limit: Option<usize>,
+    output: &mut Noted<W>,
+) -> io::Result<Option<Vec<u8>>>
+    requires { IsFolded trie.now.kind choice }
+    ensures all { IfOk result (λ key. IfNone key (AreListed form (chosen trie.now.kind choice.entry)
+        limit trie.now.kind trie.now.bytes.now (W.contents output.old.inner)
+        (W.contents output.new.inner))) }
+    ensures none { IfOk result (λ key. IfSome key (λ k. AreNoText form
+        (chosen trie.now.kind choice.entry) limit trie.now.kind trie.now.bytes.now k.items
+        × (output.new ≡ output.old))) }
+    ensures part { OnErr result (AreListedInPart form (chosen trie.now.kind choice.entry) limit
+        trie.now.kind trie.now.bytes.now (W.contents output.old.inner)
+        (W.contents output.new.inner)) }
+    ensures noted { IsNoted result output.old.failed output.new.failed }
+{
+    match choice.sought {
+        None => write_unmatched(alloc, trie, form, choice, limit, output),
+        Some(sought) => {
+            write_sought(
+                alloc,
+                trie,
+                form,
+                choice,
+                sought,
+                Reading::Stored,
+                limit,
+                output,
+            )
+        }
+    }
+}
+
 /// Writes the first pairs whose keys are chosen, in the order of their bytes. All of these keys are
 /// between the bounds.
-#[tactic(auto, using(crate::proofs::FoldLemmas::found_folded, crate::proofs::EditsLemmas::found_whole, crate::proofs::FoldLemmas::none_found))]
 fn write_between<W: Write>(
     alloc: Global,
     trie: &TrieRef<'_>,
@@ -409,19 +494,16 @@ fn write_between<W: Write>(
         (W.contents output.new.inner)) }
     ensures noted { IsNoted result output.old.failed output.new.failed }
 {
-    let Some(sought) = choice.sought else {
-        let any_key = StartsWith(b"");
-        return write_matched_between(alloc, trie, form, choice, any_key, limit, from, to, output);
-    };
-    let Some(any) = sought.automaton(trie.kind) else {
-        let no_key = Not(StartsWith(b""));
-        return write_matched_between(alloc, trie, form, choice, no_key, limit, from, to, output);
-    };
-    let kind = trie.kind;
-    let begins = sought.begins;
-    by_found!(any, kind, begins, automaton => {
-        write_matched_between(alloc, trie, form, choice, automaton, limit, from, to, output)
-    })
+    match choice.sought {
+        None => {
+            let any_key = StartsWith(b"");
+            write_matched_between(alloc, trie, form, choice, any_key, limit, from, to, output)
+        }
+        Some(sought) => {
+            let reading = Reading::Between(from, to);
+            write_sought(alloc, trie, form, choice, sought, reading, limit, output)
+        }
+    }
 }
 
 /// Writes the first pairs whose keys are chosen, in the order of their bytes. It reads the part of the
