@@ -7,11 +7,11 @@ ghost use Rattle.zerotrie_queries.specs.Found.{found_left};
 use zerotrie_core::ByteSet;
 use zerotrie_search::{Automaton, BeginsWith};
 
-/// Accepts the keys that the automaton of a word accepts, or if `begins` is set, those that begin with one.
-/// So a search by edits needs one automaton for both.
+/// Accepts the keys that the automaton of a word accepts, or if `begins` is set, those that begin
+/// with one. So a search by edits needs one automaton for both.
 ///
-/// A state is that of the automaton of the word, or `None` once it accepted the bytes so far and `begins` is
-/// set.
+/// A state is that of the word's automaton, or `None` if `begins` is set and it accepted the bytes so
+/// far.
 #[derive(Clone, Copy, Debug)]
 pub(crate) struct Found<S> {
     pub(crate) word: BeginsWith<S>,

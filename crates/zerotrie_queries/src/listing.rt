@@ -43,8 +43,8 @@ use zerotrie_search::{
     by_automaton,
 };
 
-/// Does what is written with an automaton, as a kind compares keys, that accepts what this one does or, if it
-/// is so, the keys that begin with one.
+/// Does what is written with an automaton, as a kind compares keys, that accepts what this one does
+/// or, if `$begins` is set, the keys that begin with one.
 macro_rules! by_word {
     ($word:expr, $kind:expr, $begins:expr, $automaton:ident => $result:expr) => {{
         let found = Found {
@@ -56,7 +56,8 @@ macro_rules! by_word {
     }};
 }
 
-/// Does the same with the automaton alone where that is enough, as `Found` costs patterns a tenth of their time.
+/// Does the same with the automaton alone where that is enough: `Found` costs patterns a tenth of
+/// their time.
 macro_rules! by_pattern {
     ($word:expr, $kind:expr, $begins:expr, $automaton:ident => $result:expr) => {
         if $begins {
@@ -68,8 +69,8 @@ macro_rules! by_pattern {
     };
 }
 
-/// Does what is written with an automaton of the keys that a word finds, as a kind compares keys, or if it is
-/// so, of those that begin with one.
+/// Does what is written with an automaton of the keys that a word finds, as a kind compares keys, or
+/// if `$begins` is set, of those that begin with one.
 macro_rules! by_found {
     ($any:expr, $kind:expr, $begins:expr, $automaton:ident => $result:expr) => {
         match $any {
@@ -356,8 +357,8 @@ enum Reading<'b> {
     Between(Bound<&'b [u8]>, Bound<&'b [u8]>),
 }
 
-/// Writes the first pairs whose keys are chosen, as the trie is read. The automaton accepts what that of
-/// the choice does.
+/// Writes the first pairs whose keys are chosen, as the trie is read. The automaton accepts what
+/// that of the choice does.
 fn write_read<T: Automaton + Copy + Drop, W: Write>(
     alloc: Global,
     trie: &TrieRef<'_>,
@@ -392,8 +393,8 @@ fn write_read<T: Automaton + Copy + Drop, W: Write>(
     }
 }
 
-/// Writes the first pairs whose keys a word finds, as the trie is read, and of which the other conditions of
-/// the choice hold.
+/// Writes the first pairs whose keys are chosen, as the trie is read. `sought` is the word of the
+/// choice.
 #[tactic(auto, using(crate::proofs::FoldLemmas::found_folded, crate::proofs::EditsLemmas::found_whole, crate::proofs::FoldLemmas::none_found))]
 fn write_sought<W: Write>(
     alloc: Global,
