@@ -17,6 +17,7 @@ mod DiffLemmas
 mod NearLemmas
 mod FoldLemmas
 mod EditsLemmas
+mod BeginsLemmas
 mod KeptLemmas
 mod MeasuredLemmas
 mod WordLemmas

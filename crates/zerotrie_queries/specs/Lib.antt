@@ -3,8 +3,10 @@ pub mod Files
 pub mod Json
 pub mod Printed
 pub mod Chosen
+pub mod Found
 pub mod Kept
 pub mod Sorted
+pub mod Readings
 pub mod Listed
 pub mod Recased
 pub mod Diffs

@@ -136,13 +136,11 @@ fn no_pattern(kind: TrieKind, without: Option<Pattern<'_>>) -> NoPattern<'_>
 }
 
 /// Returns the automaton of the keys with the prefix of a choice, in its range. Its bounds are as the
-/// kind compares keys. Without a pattern these are all conditions but that of the word.
-pub(crate) fn part_of(kind: TrieKind, choice: Choice<'_>) -> Part<'_>
+/// kind compares keys.
+fn part_of(kind: TrieKind, choice: Choice<'_>) -> Part<'_>
     requires { IsFolded kind choice }
-    ensures part { (key : List ℕ) → in_part result key ≡ (begins_with (kind_of kind) choice.entry.prefix.now key
+    ensures { (key : List ℕ) → in_part result key ≡ (begins_with (kind_of kind) choice.entry.prefix.now key
         && is_in kind choice.entry.range key) }
-    ensures all { choice.entry.without ≡ None → (key : List ℕ)
-        → in_part result key ≡ is_kept kind choice.entry key }
 {
     let prefix = KindPrefix {
         kind,

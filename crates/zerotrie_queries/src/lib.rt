@@ -13,6 +13,7 @@ mod exact;
 mod file;
 mod first_pairs;
 mod folding;
+mod found;
 mod json_text;
 mod kept;
 mod listing;
@@ -26,7 +27,7 @@ mod sorted;
 mod text;
 mod views;
 
-pub use any_case::{collect, ignore_case, look_up_all, of_sorted, recased};
+pub use any_case::{collect, look_up_all, of_sorted, recased};
 pub use code::{Language, is_name, write_trie_code};
 pub use diff::write_diff;
 pub use file::{OpenError, of_tagged, open, open_unchecked};

@@ -1,6 +1,6 @@
 //! The pairs of a trie, printed as they come.
 
-ghost use Rattle.std.specs.Prelude.{◌≡◌, ◌==◌, length, not, ◌≢◌, ℕ, List, [], None, true, IfOk, IfErr, IfSome, IfNone, OnOk, OnErr};
+ghost use Rattle.std.specs.Prelude.{◌≡◌, ◌==◌, length, not, ◌≢◌, ℕ, List, [], None, Some, true, IfOk, IfErr, IfSome, IfNone, OnOk, OnErr};
 ghost use Rattle.std.specs.FinMap.{entries};
 ghost use Rattle.zerotrie_core.specs.Maps.{Map, beginning, begins_with};
 ghost use Rattle.zerotrie_core.specs.Texts.{Means};
@@ -12,6 +12,7 @@ ghost use Rattle.zerotrie_core.specs.declared.TrieKind.{TrieKind};
 ghost use Rattle.zerotrie_core.specs.declared.TrieKind.TheVariants.{Ignore};
 ghost use Rattle.zerotrie_queries.specs.Chosen.{at_edits, chosen, closest, edits_of, is_chosen, is_in, is_kept, is_matched, IsFolded};
 ghost use Rattle.zerotrie_queries.specs.Sorted.{AreWithin, picked};
+ghost use Rattle.zerotrie_queries.specs.Readings.{read_order, IsReadWithin};
 ghost use Rattle.zerotrie_queries.specs.declared.question.Order.TheVariants.{ByBytes, Closest};
 ghost use Rattle.zerotrie_queries.specs.Listed.{AreListed, AreListedInPart, AreNoText, AreUnlisted, IsListingNoted};
 ghost use Rattle.zerotrie_files.specs.Faults.{IsNoted};
@@ -23,11 +24,12 @@ mod json_object;
 mod nearest;
 
 use crate::folding::FoldedWords;
-use crate::kept::{conditions, part_of};
+use crate::found::Found;
+use crate::kept::conditions;
 use crate::listing::forms::write_first;
 use crate::listing::nearest::write_nearest;
 use crate::print::Form;
-use crate::question::{Choice, Order};
+use crate::question::{Choice, Order, Sought};
 use crate::sorted::{above_prefix, stream_chosen, upper_bound};
 pub use distances::write_distances;
 use std::alloc::{AllocError, Global};
@@ -37,23 +39,54 @@ use std::ops::Bound;
 use zerotrie_core::{PairStream, Trie, TrieKind, TrieRef};
 use zerotrie_files::Noted;
 use zerotrie_search::{
-    Automaton, BeginsWith, Both, ByKind, KeyRange, Not, Search, StartsWith, by_automaton,
+    AnyAutomaton, Automaton, BeginsWith, Both, ByKind, KeyRange, Not, Search, StartsWith,
+    by_automaton,
 };
 
-/// Does what is written with the automaton of a word, as a kind compares keys: that of the keys which
-/// the word finds, or if it is so, of those that begin with one.
+/// Does what is written with an automaton, as a kind compares keys, that accepts what this one does
+/// or, if `$begins` is set, the keys that begin with one.
+macro_rules! by_word {
+    ($word:expr, $kind:expr, $begins:expr, $automaton:ident => $result:expr) => {{
+        let found = Found {
+            word: BeginsWith($word),
+            begins: $begins,
+        };
+        let $automaton = ByKind($kind, found);
+        $result
+    }};
+}
+
+/// Does the same with the automaton alone where that is enough: `Found` costs patterns a tenth of
+/// their time.
+macro_rules! by_pattern {
+    ($word:expr, $kind:expr, $begins:expr, $automaton:ident => $result:expr) => {
+        if $begins {
+            by_word!($word, $kind, $begins, $automaton => $result)
+        } else {
+            let $automaton = ByKind($kind, $word);
+            $result
+        }
+    };
+}
+
+/// Does what is written with an automaton of the keys that a word finds, as a kind compares keys, or
+/// if `$begins` is set, of those that begin with one.
 macro_rules! by_found {
     ($any:expr, $kind:expr, $begins:expr, $automaton:ident => $result:expr) => {
-        if $begins {
-            by_automaton!($any, word => {
-                let $automaton = ByKind($kind, BeginsWith(word));
-                $result
-            })
-        } else {
-            by_automaton!($any, word => {
-                let $automaton = ByKind($kind, word);
-                $result
-            })
+        match $any {
+            AnyAutomaton::Prefix(word) => by_word!(word, $kind, $begins, $automaton => $result),
+            AnyAutomaton::Range(word) => by_word!(word, $kind, $begins, $automaton => $result),
+            AnyAutomaton::Glob(word) => by_pattern!(word, $kind, $begins, $automaton => $result),
+            AnyAutomaton::GlobChars(word) => {
+                by_pattern!(word, $kind, $begins, $automaton => $result)
+            }
+            AnyAutomaton::Subsequence(word) => {
+                by_pattern!(word, $kind, $begins, $automaton => $result)
+            }
+            AnyAutomaton::Fuzzy(word) => by_word!(word, $kind, $begins, $automaton => $result),
+            AnyAutomaton::FuzzyChars(word) => by_word!(word, $kind, $begins, $automaton => $result),
+            AnyAutomaton::Swaps(word) => by_word!(word, $kind, $begins, $automaton => $result),
+            AnyAutomaton::SwapsChars(word) => by_word!(word, $kind, $begins, $automaton => $result),
         }
     };
 }
@@ -207,11 +240,7 @@ fn write_matched<T: Automaton + Copy + Drop, W: Write>(
     if is_free(choice) {
         return write_accepted(alloc, trie, form, automaton, limit, output);
     }
-    if choice.without.is_some() {
-        let kept = conditions(trie.kind, choice);
-        return write_with_all(alloc, trie, form, choice, automaton, kept, limit, output);
-    }
-    let kept = part_of(trie.kind, choice);
+    let kept = conditions(trie.kind, choice);
     write_with_all(alloc, trie, form, choice, automaton, kept, limit, output)
 }
 
@@ -244,41 +273,6 @@ fn write_unmatched<W: Write>(
         let any_key = StartsWith(b"");
         write_matched(alloc, trie, form, choice, any_key, limit, output)
     }
-}
-
-/// Writes the first pairs whose keys are chosen, in the order of the trie.
-#[tactic(auto, using(crate::proofs::EditsLemmas::found_begins, crate::proofs::EditsLemmas::found_whole, crate::proofs::FoldLemmas::none_found))]
-fn write_stored<W: Write>(
-    alloc: Global,
-    trie: &TrieRef<'_>,
-    form: Form,
-    choice: Choice<'_>,
-    limit: Option<usize>,
-    output: &mut Noted<W>,
-) -> io::Result<Option<Vec<u8>>>
-    requires { IsFolded trie.now.kind choice }
-    ensures all { IfOk result (λ key. IfNone key (AreListed form (chosen trie.now.kind choice.entry)
-        limit trie.now.kind trie.now.bytes.now (W.contents output.old.inner)
-        (W.contents output.new.inner))) }
-    ensures none { IfOk result (λ key. IfSome key (λ k. AreNoText form
-        (chosen trie.now.kind choice.entry) limit trie.now.kind trie.now.bytes.now k.items
-        × (output.new ≡ output.old))) }
-    ensures part { OnErr result (AreListedInPart form (chosen trie.now.kind choice.entry) limit
-        trie.now.kind trie.now.bytes.now (W.contents output.old.inner)
-        (W.contents output.new.inner)) }
-    ensures noted { IsNoted result output.old.failed output.new.failed }
-{
-    let Some(sought) = choice.sought else {
-        return write_unmatched(alloc, trie, form, choice, limit, output);
-    };
-    let Some(any) = sought.automaton(trie.kind) else {
-        let no_key = Not(StartsWith(b""));
-        return write_matched(alloc, trie, form, choice, no_key, limit, output);
-    };
-    let kind = trie.kind;
-    by_found!(any, kind, sought.begins, automaton => {
-        write_matched(alloc, trie, form, choice, automaton, limit, output)
-    })
 }
 
 /// Writes the first pairs that an automaton accepts, in the order of their bytes. It accepts just the
@@ -350,17 +344,133 @@ fn write_matched_between<T: Automaton + Copy + Drop, W: Write>(
             alloc, trie, form, choice, automaton, limit, from, to, output,
         );
     }
-    if choice.without.is_some() {
-        let chosen = Both(conditions(trie.kind, choice), automaton);
-        return write_accepted_between(alloc, trie, form, choice, chosen, limit, from, to, output);
-    }
-    let chosen = Both(part_of(trie.kind, choice), automaton);
+    let chosen = Both(conditions(trie.kind, choice), automaton);
     write_accepted_between(alloc, trie, form, choice, chosen, limit, from, to, output)
+}
+
+/// How a trie is read.
+#[derive(Clone, Copy, Debug)]
+enum Reading<'b> {
+    /// In its own order.
+    Stored,
+    /// In the order of bytes, between two bounds.
+    Between(Bound<&'b [u8]>, Bound<&'b [u8]>),
+}
+
+/// Writes the first pairs whose keys are chosen, as the trie is read. The automaton accepts what
+/// that of the choice does.
+fn write_read<T: Automaton + Copy + Drop, W: Write>(
+    alloc: Global,
+    trie: &TrieRef<'_>,
+    form: Form,
+    choice: Choice<'_>,
+    automaton: T,
+    reading: Reading<'_>,
+    limit: Option<usize>,
+    output: &mut Noted<W>,
+) -> io::Result<Option<Vec<u8>>>
+    requires folded { IsFolded trie.now.kind choice }
+    requires within { IsReadWithin trie.now.kind choice reading }
+    requires matched { (key : List ℕ) → T.accepts automaton key ≡ is_matched trie.now.kind choice.sought key }
+    ensures all { IfOk result (λ key. IfNone key (AreListed form
+        (picked (read_order reading.entry) trie.now.kind choice.entry) limit trie.now.kind
+        trie.now.bytes.now (W.contents output.old.inner) (W.contents output.new.inner))) }
+    ensures none { IfOk result (λ key. IfSome key (λ k. AreNoText form
+        (picked (read_order reading.entry) trie.now.kind choice.entry) limit trie.now.kind
+        trie.now.bytes.now k.items × (output.new ≡ output.old))) }
+    ensures part { OnErr result (AreListedInPart form
+        (picked (read_order reading.entry) trie.now.kind choice.entry) limit trie.now.kind
+        trie.now.bytes.now (W.contents output.old.inner) (W.contents output.new.inner)) }
+    ensures noted { IsNoted result output.old.failed output.new.failed }
+{
+    match reading {
+        Reading::Stored => write_matched(alloc, trie, form, choice, automaton, limit, output),
+        Reading::Between(from, to) => {
+            write_matched_between(
+                alloc, trie, form, choice, automaton, limit, from, to, output,
+            )
+        }
+    }
+}
+
+/// Writes the first pairs whose keys are chosen, as the trie is read. `sought` is the word of the
+/// choice.
+#[tactic(auto, using(crate::proofs::FoldLemmas::found_folded, crate::proofs::EditsLemmas::found_whole, crate::proofs::FoldLemmas::none_found))]
+fn write_sought<W: Write>(
+    alloc: Global,
+    trie: &TrieRef<'_>,
+    form: Form,
+    choice: Choice<'_>,
+    sought: Sought<'_>,
+    reading: Reading<'_>,
+    limit: Option<usize>,
+    output: &mut Noted<W>,
+) -> io::Result<Option<Vec<u8>>>
+    requires folded { IsFolded trie.now.kind choice }
+    requires within { IsReadWithin trie.now.kind choice reading }
+    requires sought { choice.sought ≡ Some sought }
+    ensures all { IfOk result (λ key. IfNone key (AreListed form
+        (picked (read_order reading.entry) trie.now.kind choice.entry) limit trie.now.kind
+        trie.now.bytes.now (W.contents output.old.inner) (W.contents output.new.inner))) }
+    ensures none { IfOk result (λ key. IfSome key (λ k. AreNoText form
+        (picked (read_order reading.entry) trie.now.kind choice.entry) limit trie.now.kind
+        trie.now.bytes.now k.items × (output.new ≡ output.old))) }
+    ensures part { OnErr result (AreListedInPart form
+        (picked (read_order reading.entry) trie.now.kind choice.entry) limit trie.now.kind
+        trie.now.bytes.now (W.contents output.old.inner) (W.contents output.new.inner)) }
+    ensures noted { IsNoted result output.old.failed output.new.failed }
+{
+    let Some(any) = sought.automaton(trie.kind) else {
+        let no_key = Not(StartsWith(b""));
+        return write_read(alloc, trie, form, choice, no_key, reading, limit, output);
+    };
+    let kind = trie.kind;
+    let begins = sought.begins;
+    by_found!(any, kind, begins, automaton => {
+        write_read(alloc, trie, form, choice, automaton, reading, limit, output)
+    })
+}
+
+/// Writes the first pairs whose keys are chosen, in the order of the trie.
+fn write_stored<W: Write>(
+    alloc: Global,
+    trie: &TrieRef<'_>,
+    form: Form,
+    choice: Choice<'_>,
+    limit: Option<usize>,
+    output: &mut Noted<W>,
+) -> io::Result<Option<Vec<u8>>>
+    requires { IsFolded trie.now.kind choice }
+    ensures all { IfOk result (λ key. IfNone key (AreListed form (chosen trie.now.kind choice.entry)
+        limit trie.now.kind trie.now.bytes.now (W.contents output.old.inner)
+        (W.contents output.new.inner))) }
+    ensures none { IfOk result (λ key. IfSome key (λ k. AreNoText form
+        (chosen trie.now.kind choice.entry) limit trie.now.kind trie.now.bytes.now k.items
+        × (output.new ≡ output.old))) }
+    ensures part { OnErr result (AreListedInPart form (chosen trie.now.kind choice.entry) limit
+        trie.now.kind trie.now.bytes.now (W.contents output.old.inner)
+        (W.contents output.new.inner)) }
+    ensures noted { IsNoted result output.old.failed output.new.failed }
+{
+    match choice.sought {
+        None => write_unmatched(alloc, trie, form, choice, limit, output),
+        Some(sought) => {
+            write_sought(
+                alloc,
+                trie,
+                form,
+                choice,
+                sought,
+                Reading::Stored,
+                limit,
+                output,
+            )
+        }
+    }
 }
 
 /// Writes the first pairs whose keys are chosen, in the order of their bytes. All of these keys are
 /// between the bounds.
-#[tactic(auto, using(crate::proofs::EditsLemmas::found_begins, crate::proofs::EditsLemmas::found_whole, crate::proofs::FoldLemmas::none_found))]
 fn write_between<W: Write>(
     alloc: Global,
     trie: &TrieRef<'_>,
@@ -385,18 +495,16 @@ fn write_between<W: Write>(
         (W.contents output.new.inner)) }
     ensures noted { IsNoted result output.old.failed output.new.failed }
 {
-    let Some(sought) = choice.sought else {
-        let any_key = StartsWith(b"");
-        return write_matched_between(alloc, trie, form, choice, any_key, limit, from, to, output);
-    };
-    let Some(any) = sought.automaton(trie.kind) else {
-        let no_key = Not(StartsWith(b""));
-        return write_matched_between(alloc, trie, form, choice, no_key, limit, from, to, output);
-    };
-    let kind = trie.kind;
-    by_found!(any, kind, sought.begins, automaton => {
-        write_matched_between(alloc, trie, form, choice, automaton, limit, from, to, output)
-    })
+    match choice.sought {
+        None => {
+            let any_key = StartsWith(b"");
+            write_matched_between(alloc, trie, form, choice, any_key, limit, from, to, output)
+        }
+        Some(sought) => {
+            let reading = Reading::Between(from, to);
+            write_sought(alloc, trie, form, choice, sought, reading, limit, output)
+        }
+    }
 }
 
 /// Writes the first pairs whose keys are chosen, in the order of their bytes. It reads the part of the
@@ -522,16 +630,12 @@ fn has_matched<T: Automaton + Drop>(
     ensures { IfOk result (λ found. (m : Map) → Means (kind_of trie.now.kind) trie.now.bytes.now m
         → (length (chosen trie.now.kind choice.entry (entries m)) == 0) ≡ not found) }
 {
-    if choice.without.is_some() {
-        let kept = conditions(trie.kind, choice);
-        return has_with_all(alloc, trie, choice, automaton, kept);
-    }
-    let kept = part_of(trie.kind, choice);
+    let kept = conditions(trie.kind, choice);
     has_with_all(alloc, trie, choice, automaton, kept)
 }
 
 /// Returns whether a trie has a pair whose key is chosen.
-#[tactic(auto, using(crate::proofs::EditsLemmas::found_begins, crate::proofs::EditsLemmas::found_whole, crate::proofs::FoldLemmas::none_found))]
+#[tactic(auto, using(crate::proofs::FoldLemmas::found_folded, crate::proofs::FoldLemmas::none_found))]
 fn has_chosen(alloc: Global, trie: &TrieRef<'_>, choice: Choice<'_>) -> Result<bool, AllocError>
     requires valid { IsWellFormed (kind_of trie.now.kind) trie.now.bytes.now }
     requires folded { IsFolded trie.now.kind choice }
@@ -545,7 +649,10 @@ fn has_chosen(alloc: Global, trie: &TrieRef<'_>, choice: Choice<'_>) -> Result<b
         return has_matched(alloc, trie, choice, Not(StartsWith(b"")));
     };
     let kind = trie.kind;
-    by_found!(any, kind, sought.begins, automaton => has_matched(alloc, trie, choice, automaton))
+    let begins = sought.begins;
+    by_automaton!(any, word => {
+        by_word!(word, kind, begins, automaton => has_matched(alloc, trie, choice, automaton))
+    })
 }
 
 /// Returns the fewest edits of the word of a choice with which a pair is chosen, or as many as it allows if

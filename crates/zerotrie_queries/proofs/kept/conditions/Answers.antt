@@ -10,5 +10,5 @@ pub returns : goal.returns
 returns c key =
     let kind = c.args.kind in
     let choice = c.args.choice in
-    ap (λ b. b && spares c.no_pattern.result key) (c.part_of.ensures.part key)
+    ap (λ b. b && spares c.no_pattern.result key) (c.part_of.ensures key)
     ∙ ap (λ b. (begins_with (kind_of kind) choice.prefix.now key && is_in kind choice.range key) && b) (c.no_pattern.ensures key)
