@@ -20,7 +20,7 @@ use Rattle.zerotrie_making.specs.declared.error.Shown.{Shown}
 use Rattle.zerotrie_making.specs.declared.error.MakeError.{MakeError}
 use Rattle.zerotrie_making.specs.declared.error.MakeError.TheVariants as made
 use Rattle.zerotrie_sets.specs.declared.selection.RuleError.{RuleError}
-use Rattle.zerotrie_sets.specs.declared.selection.RuleError.TheVariants.{SeveralValues, SumTooLarge}
+use Rattle.zerotrie_sets.specs.declared.selection.RuleError.TheVariants.{SeveralValues, DifferentValues, SumTooLarge}
 use Rattle.zerotrie_core.specs.Kinds.{kind_name}
 use Rattle.zerotrie_core.specs.declared.TrieKind.{TrieKind}
 use Rattle.zerotrie_making.specs.declared.error.CombinationError.{CombinationError}
@@ -182,6 +182,7 @@ TellsBuild from to unit (build.Unfound e) text = IsLineOn to text
 -- why a key that is taken gets no value
 abbrev pub value_words : RuleError → List ℕ
 value_words SeveralValues = codes "more than one file has this key: "
+value_words DifferentValues = codes "files have different values for this key: "
 value_words SumTooLarge = codes "the sum of the values of this key is 2^64 or more: "
 
 -- a message tells why no file is made of maps: which key gets no value, and why; or as of pairs that are in no input
