@@ -61,6 +61,7 @@ fn rule_named(name: &str) -> Option<Rule>
         "sum" => Some(Rule::Sum),
         "min" => Some(Rule::Min),
         "max" => Some(Rule::Max),
+        "equal" => Some(Rule::Equal),
         "refuse" => Some(Rule::Refuse),
         _ => None,
     }
@@ -75,7 +76,7 @@ fn rule_in(matches: &ArgMatches<'_>) -> Result<Rule, &'static str>
 {
     match matches.get_str("values") {
         Some(name) => {
-            rule_named(name).ok_or("--values asks for refuse, first, last, sum, min or max")
+            rule_named(name).ok_or("--values asks for refuse, first, last, sum, min, max or equal")
         }
         None => Ok(Rule::First),
     }

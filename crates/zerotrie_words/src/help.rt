@@ -54,12 +54,37 @@ fn wrapped(alloc: Global, text: &str) -> Result<String, AllocError> {
     Ok(help)
 }
 
+/// Returns whether a line of an error is said: not the tip to pass an option as a value, which is
+/// wrong where no value is asked for, nor where help is.
+fn is_said(line: &str) -> bool {
+    !line.starts_with("  tip: to pass") && !line.starts_with("For more information")
+}
+
+/// Returns an error of clap as the program says it. Words that are lacking may be `-`.
+fn error_of(alloc: Global, error: &str) -> Result<String, AllocError> {
+    let mut text = String::new(alloc);
+    text.push_str("zerotrie: ")?;
+    let mut was_empty = false;
+    for line in error.lines() {
+        let is_empty = line.is_empty();
+        if is_said(line) && !(is_empty && was_empty) {
+            text.push_str(line)?;
+            if line.starts_with("  <") && line.ends_with(">...") {
+                text.push_str(", or - for standard input")?;
+            }
+            text.push_str("\n")?;
+            was_empty = is_empty;
+        }
+    }
+    Ok(text)
+}
+
 /// Returns what clap says as the program says it: an error as its other messages, help with short
 /// lines.
 pub fn text_of(alloc: Global, said: &clap::Error) -> Result<String, AllocError> {
     let text = format!(in alloc; "{said}")?;
     match text.as_str().strip_prefix("error: ") {
-        Some(error) => format!(in alloc; "zerotrie: {error}"),
+        Some(error) => error_of(alloc, error),
         None => wrapped(alloc, text.as_str()),
     }
 }

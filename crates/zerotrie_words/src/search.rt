@@ -25,18 +25,21 @@ fn word_refused(by: SearchBy, error: WordError) -> &'static str
 {
     match (by, error) {
         (SearchBy::Glob | SearchBy::GlobChars, WordError::Malformed) => {
-            "--glob and --not ask for a pattern: a class or braces lack their end, a class its letters, braces their beginning, a range ends before it begins, or a backslash escapes nothing"
+            "--glob and --not ask for a pattern: a class or braces lack their end, a class its letters, braces their beginning, braces are inside braces, a range ends before it begins, or a backslash escapes nothing"
         }
         (SearchBy::Glob | SearchBy::GlobChars, WordError::TooLong) => {
             "--glob and --not ask for a pattern of at most 63 parts"
         }
-        (SearchBy::Swaps(_) | SearchBy::SwapsChars(_), _) => {
+        (SearchBy::SwapsChars(_), _) => {
             "--fuzzy asks for at most 63 characters and 7 edits; --no-transpose allows 254 edits"
         }
-        (
-            SearchBy::Fuzzy(_) | SearchBy::FuzzyChars(_) | SearchBy::Prefix | SearchBy::Subsequence,
-            _,
-        ) => "--fuzzy asks for at most 63 characters and 254 edits",
+        (SearchBy::Swaps(_), _) => {
+            "--fuzzy --bytes asks for at most 63 bytes and 7 edits; --no-transpose allows 254 edits"
+        }
+        (SearchBy::FuzzyChars(_), _) => "--fuzzy asks for at most 63 characters and 254 edits",
+        (SearchBy::Fuzzy(_) | SearchBy::Prefix | SearchBy::Subsequence, _) => {
+            "--fuzzy --bytes asks for at most 63 bytes and 254 edits"
+        }
     }
 }
 

@@ -15,6 +15,9 @@ const ENDS: &[&str] = &["crlf", "lf"];
 /// What can become of a key that several pairs have.
 const CHOICES: &[&str] = &["refuse", "first", "last", "sum", "min", "max"];
 
+/// What becomes of a key that several tries have.
+const RULES: &[&str] = &["refuse", "first", "last", "sum", "min", "max", "equal"];
+
 const LANGUAGES: &[&str] = &["rust", "c", "rattle", "js"];
 
 const VIEWS: &[&str] = &["dump", "dot"];
@@ -186,7 +189,7 @@ const COMBINED: Argument = Argument {
 
 const VALUES: Argument = Argument {
     name: "values",
-    form: Form::OneOf("V", None, CHOICES, Otherwise::Is("first")),
+    form: Form::OneOf("V", None, RULES, Otherwise::Is("first")),
     help: "The value of a key that several FILEs have, or an error",
 };
 
