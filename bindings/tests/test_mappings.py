@@ -198,6 +198,10 @@ for size in (0, 1, 2, 40, 3000):
     noise[10:16] = bytes(6)
     assert len(Index(noise, check=False)) <= len(noise)
 
+# a length that does not end, in a file whose checksum is right
+endless = Index(Index(bytes(24) + b"\xff" * (1 << 22), check=False).seal())
+assert len(endless) == 0 and list(endless.items()) == [] and not endless and repr(endless).startswith("<Index {},")
+
 with tempfile.TemporaryDirectory() as room:
     path = pathlib.Path(room, "a file")
     for made in (trie, index, table, large, big_index):

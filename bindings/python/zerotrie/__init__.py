@@ -86,7 +86,7 @@ from ._readers import (
 from ._reverse import Reverse as Reverse, reverse as reverse
 from ._search import BY_SUBSEQUENCE, Search
 from ._sets import (
-    DIFFERENCE, INTERSECTION, SYMMETRIC_DIFFERENCE, UNION, Keyed, difference, in_any_case,
+    DIFFERENCE, INTERSECTION, SYMMETRIC_DIFFERENCE, UNION, Keyed, difference, in_any_case, keys_in,
     intersection, kind_of, made_of, symmetric_difference, union,
 )
 from ._tables import dense_parts, index_entries
@@ -286,7 +286,9 @@ class _Trie(Reader[Word], _InBytes, Mapping[Any, int]):
         """Writes a sealed file, or tagged bytes, which open() reads.
 
         They go to a new file in the same folder, which then replaces the old one at once, and has
-        its permissions: whoever has that one open keeps it, and a failure leaves it as it was.
+        its permissions: whoever has that one open keeps it, and a failure leaves it as it was. A
+        link stays, and the file that it leads to is replaced. A device or a pipe is written in
+        place.
         """
         view, *lent = self._lent()
         replace(path, *([bytes([lent[0]]), view] if tagged else [sealed(*lent)]))
@@ -544,7 +546,7 @@ class _Trie(Reader[Word], _InBytes, Mapping[Any, int]):
         if kind_of(self, other) == IGNORE_CASE:
             return type(self).build(in_any_case(self, other, wanted), IGNORE_CASE)
         if not isinstance(other, _Trie):
-            other = ZeroTrie.build(dict.fromkeys(map(key_bytes, other), 0))
+            other = ZeroTrie.build(dict.fromkeys(keys_in(other), 0))
         selection = INTERSECTION if wanted else DIFFERENCE
         return made_of(selection, "first", (self, other), None, type(self))
 

@@ -15,9 +15,9 @@ use Rattle.zerotrie_sets.specs.Selections.{IsSelection, IsSelectionError}
 use Rattle.zerotrie_sets.specs.declared.selection.Selection.{Selection}
 use Rattle.zerotrie_sets.specs.declared.selection.Selection.TheVariants.{Union, Intersection, Difference, SymmetricDifference}
 use Rattle.zerotrie_sets.specs.declared.selection.Rule.{Rule as SetRule}
-use Rattle.zerotrie_sets.specs.declared.selection.Rule.TheVariants.{First, Last, Sum, Min, Max, Refuse}
+use Rattle.zerotrie_sets.specs.declared.selection.Rule.TheVariants.{First, Last, Sum, Min, Max, Equal, Refuse}
 use Rattle.zerotrie_sets.specs.declared.selection.RuleError.{RuleError}
-use Rattle.zerotrie_sets.specs.declared.selection.RuleError.TheVariants.{SeveralValues, SumTooLarge}
+use Rattle.zerotrie_sets.specs.declared.selection.RuleError.TheVariants.{SeveralValues, DifferentValues, SumTooLarge}
 use Rattle.zerotrie_c.specs.Builds.{IsBuildTold}
 use Rattle.zerotrie_c.specs.Listed.{joined, ends_from, values_of}
 use Rattle.zerotrie_c.specs.Numbers.{kind_of}
@@ -41,7 +41,8 @@ rule_with number =
     else (if number == 2 then Some Sum
     else (if number == 3 then Some Min
     else (if number == 4 then Some Max
-    else (if number == 5 then Some Refuse else None)))))
+    else (if number == 5 then Some Refuse
+    else (if number == 6 then Some Equal else None))))))
 
 abbrev pub plan_with : ℕ → ℕ → Option (Selection × SetRule)
 plan_with selection rule = option_zip (selection_with selection) (rule_with rule)
@@ -83,6 +84,7 @@ abbrev pub set_status_of : SetError → ℕ
 set_status_of UnknownKind = unknown_kind
 set_status_of Malformed = malformed_trie
 set_status_of (Rule SeveralValues) = status_of build.DuplicateKey
+set_status_of (Rule DifferentValues) = status_of build.DuplicateKey
 set_status_of (Rule SumTooLarge) = sum_too_large
 set_status_of OutOfMemory = status_of build.OutOfMemory
 
