@@ -113,7 +113,7 @@ for made, pairs in (
     assert {**made} == dict(made.items()) and all(key in made and made[key] == made.get(key) for key in made)
     assert made.nbytes == made._lent()[3] and sys.getsizeof(made) > made.nbytes
     assert type(made).__name__ in repr(made) and f"{made.nbytes} bytes" in repr(made) and len(repr(made)) < 200
-    if zerotrie.accelerated and not isinstance(made, DenseTable) or sys.version_info >= (3, 12):
+    if zerotrie.accelerated or sys.version_info >= (3, 12):
         view = memoryview(made)
         assert view.readonly and view.nbytes == made.nbytes and view == made._lent()[0]
         assert bytes(made)[isinstance(made, StrTrie) :] == view

@@ -81,7 +81,7 @@ from ._pairs import (
     key_bytes, known_kind, tagged, whole_number,
 )
 from ._readers import (
-    COUNT, INDEX, PAIRS, AnyPlace, Place, Reader, Table, Word, accelerated as accelerated,
+    COUNT, INDEX, PAIRS, AnyPlace, Place, Reader, Record, Table, Word, accelerated as accelerated,
 )
 from ._reverse import Reverse as Reverse, reverse as reverse
 from ._search import BY_SUBSEQUENCE, Search
@@ -637,7 +637,7 @@ class StrTrie(_Trie[str]):
     _as_text = True
 
 
-class DenseTable(_InBytes, Mapping[Any, int]):
+class DenseTable(Record, _InBytes, Mapping[Any, int]):
     """A map from two texts to numbers, over the record of a dense table, which is not copied.
 
     >>> table = DenseTable(build_dense({"de": {"AT": 8, "CH": 9}, "en": {"US": 5}}))
@@ -650,11 +650,11 @@ class DenseTable(_InBytes, Mapping[Any, int]):
     ZeroTrieError if the bytes are no record.
     """
 
-    __slots__ = ("_record", "__weakref__")
-    _record: tuple[memoryview, int]
+    __slots__ = ("__weakref__",)
 
     def __init__(self, record: Any) -> None:
-        self._record = in_place(view_of(record, "a dense table"))
+        view, at = in_place(view_of(record, "a dense table"))
+        self._hold(view, 0, at, len(view))
 
     @classmethod
     def build(
@@ -682,10 +682,6 @@ class DenseTable(_InBytes, Mapping[Any, int]):
         """Writes the record to a file, which replaces the old one at once."""
         replace(path, self._lent()[0])
 
-    def _lent(self) -> tuple[memoryview, int, int, int]:
-        view, at = self._record
-        return view, 0, at, len(view)
-
     def _remakes(self, data: Any) -> tuple[Any, ...]:
         return DenseTable, data
 
@@ -704,9 +700,9 @@ class DenseTable(_InBytes, Mapping[Any, int]):
         return self._find(prefix, suffix, default)
 
     def _find(self, prefix: Key, suffix: Key, default: Any = None) -> Any:
-        view, at = self._record
+        view, _, at, length = self._lent()
         p, s, value = key_bytes(prefix), key_bytes(suffix), c_size_t()
-        status = lib.zerotrie_dense_get(at, len(view), p, len(p), s, len(s), value)
+        status = lib.zerotrie_dense_get(at, length, p, len(p), s, len(s), value)
         if status == NO_ENTRY:
             return default
         check_status(status)
