@@ -1256,7 +1256,7 @@ private:
 
 /// A key that changed from one trie to another.
 struct Change {
-    std::string_view key;         ///< the key, until the iterator is moved on
+    std::string key;              ///< the key
     std::optional<size_t> before; ///< its value in the first trie; nullopt: the key was added
     std::optional<size_t> after;  ///< its value in the second trie; nullopt: the key was removed
 };
@@ -1279,15 +1279,15 @@ public:
         };
         iterator() noexcept = default;
         explicit iterator(const Diff &diff) : parts_(std::make_shared<Parts>(diff)) { next_part(); }
-        Change operator*() const noexcept {
+        Change operator*() const {
             const auto &it = parts_->changes[at_];
             const size_t from = at_ == 0 ? 0 : parts_->changes[at_ - 1].key_end;
-            Change made{std::string_view(parts_->keys).substr(from, it.key_end - from), {}, {}};
+            Change made{parts_->keys.substr(from, it.key_end - from), {}, {}};
             if (it.how != ZEROTRIE_ADDED) made.before = it.before;
             if (it.how != ZEROTRIE_REMOVED) made.after = it.after;
             return made;
         }
-        pointer operator->() const noexcept { return {**this}; }
+        pointer operator->() const { return {**this}; }
         iterator &operator++() {
             if (++at_ == parts_->count) next_part();
             return *this;

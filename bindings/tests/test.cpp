@@ -504,6 +504,13 @@ static void changes() {
             if (old.get(key) != fresh.get(key)) wanted.emplace_back(key, old.get(key), fresh.get(key));
         for (const auto [key, before, after] : zerotrie::diff(old.trie(), fresh.trie())) found.emplace_back(key, before, after);
         CHECK(found == wanted);
+        // what lasts: keys that outlive the iterator
+        const zerotrie::Trie old_trie = old.trie(), fresh_trie = fresh.trie();
+        const zerotrie::Diff all(old_trie, fresh_trie);
+        const std::vector kept(all.begin(), all.end());
+        CHECK(std::equal(kept.begin(), kept.end(), wanted.begin(), wanted.end(), [](const auto &one, const auto &row) {
+            return std::tie(one.key, one.before, one.after) == row;
+        }));
         found.clear();
         const zerotrie::Diff part(old.trie(), fresh.trie(), "b", "m");
         for (auto it = part.begin(); it != part.end(); ++it) found.emplace_back(it->key, it->before, it->after);
