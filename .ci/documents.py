@@ -83,7 +83,7 @@ DEFINED = ["routes?", "means? no map", "tells?|told", "(is|are|was|were) refused
 JUDGED = ["Kind", "Numbers", "Branches", "Texts", "Maps", "Fits", "Causes", "Routes"]
 JUDGING = {"README.md": "[eight files]", "docs/MODEL.md": "To judge the definitions"}
 # Names of others that pages speak of.
-ELSEWHERE = {"O_TMPFILE", "ZeroFrom", "get_or_panic"}
+ELSEWHERE = {"BinaryHeap", "O_TMPFILE", "ZeroFrom", "get_or_panic", "heapq", "nlargest", "partial_sort_copy"}
 
 
 def prose(text):

@@ -132,6 +132,18 @@ def crate_tests():
     run("cargo", "test", "--quiet", "--offline", cwd=HOME / f"rust/zerotrie-{VERSION}")
 
 
+def by_cargo(place, which):
+    """The crate, by the cargo and the compiler of a folder."""
+    if not shutil.which("cargo", path=place):
+        print(f"skipped: the crate{which}: rustup does not have it", flush=True)
+        return
+    path = os.environ["PATH"]
+    os.environ["PATH"] = f"{place}:{path}"
+    tried(f"the crate, by cargo add --path{which}", crate)
+    tried(f"the crate's tests{which}", crate_tests)
+    os.environ["PATH"] = path
+
+
 def package(python, what, extension):
     """The wheel or the sdist, installed in a folder of its own, with no other package."""
     room, body = folder("python"), fragments()["python"]
@@ -247,10 +259,8 @@ def unpacked():
     tried("C++ by find_package, as CMake chooses", lambda: by_cmake("cmake", "zerotrie", prefix, VERSION))
     tried("find_package refuses another version", lambda: refuses_another_version(prefix))
     of_the_folder(prefix)
-    if shutil.which("cargo", path="/tried/rust/bin"):
-        os.environ["PATH"] = f"/tried/rust/bin:{os.environ['PATH']}"
-        tried("the crate, by cargo add --path", crate)
-        tried("the crate's tests", crate_tests)
+    by_cargo("/tried/rust/bin", "")
+    by_cargo("/tried/oldest/bin", ", by the oldest Rust that it is for")
     for name, python in pythons().items():
         tried(f"the wheel in {name} Python", lambda: package(python, "*_x86_64.whl", True))
         tried(f"the sdist in {name} Python", lambda: package(python, f"zerotrie-{VERSION}.tar.gz", True))

@@ -151,7 +151,7 @@ typedef enum zerotrie_status ZEROTRIE_ENUM {
     /** zerotrie_dense_build(): a text has the delimiter in it */
     ZEROTRIE_ILLEGAL_DELIMITER = 5,
     /** zerotrie_build() and zerotrie_index_build(): a key comes twice; zerotrie_combine(): more than
-     * one trie has a key, and the rule is ZEROTRIE_REFUSE */
+     * one trie has a key, and the rule is ZEROTRIE_REFUSE, or ZEROTRIE_EQUAL and values differ */
     ZEROTRIE_DUPLICATE_KEY = 6,
     /** zerotrie_build_sorted(): the keys don't ascend strictly by their bytes */
     ZEROTRIE_UNSORTED = 7,
@@ -341,7 +341,9 @@ typedef enum zerotrie_rule ZEROTRIE_ENUM {
     /** the greatest value */
     ZEROTRIE_MAX = 4,
     /** none: ZEROTRIE_DUPLICATE_KEY */
-    ZEROTRIE_REFUSE = 5
+    ZEROTRIE_REFUSE = 5,
+    /** the value that all of them are; ZEROTRIE_DUPLICATE_KEY if they differ */
+    ZEROTRIE_EQUAL = 6
 } zerotrie_rule;
 
 /** How a key changed from one trie to another. */

@@ -35,6 +35,7 @@
 #include <cstddef>
 #include <cstdio>
 #include <cstdlib>
+#include <fcntl.h>
 #include <initializer_list>
 #include <iterator>
 #include <memory>
@@ -43,6 +44,7 @@
 #include <stdexcept>
 #include <string>
 #include <string_view>
+#include <sys/stat.h>
 #include <system_error>
 #include <tuple>
 #include <type_traits>
@@ -109,6 +111,8 @@ enum class Rule : uint32_t {
     Max = ZEROTRIE_MAX,
     /// none: an Error
     Refuse = ZEROTRIE_REFUSE,
+    /// the value that all of them are; an Error if they differ
+    Equal = ZEROTRIE_EQUAL,
 };
 
 /// Where bytes are malformed, and by which rule of the format.
@@ -234,6 +238,7 @@ template <class T> size_t number_of(T value) {
 }
 struct Closing {
     void operator()(std::FILE *file) const noexcept { (void)std::fclose(file); }
+    void operator()(char *text) const noexcept { std::free(text); }
 };
 using File = std::unique_ptr<std::FILE, Closing>;
 [[noreturn]] inline void refuse_file(const std::string &path) {
@@ -248,23 +253,67 @@ inline std::string read_file(const std::string &path) {
     if (std::ferror(file.get())) refuse_file(path);
     return bytes;
 }
-inline void replace_file(const std::string &path, std::string_view bytes) {
+// A file that is open for writing. Null: errno says why not.
+inline File writable(const std::string &path, int flags, mode_t mode = 0) {
+    const int number = ::open(path.c_str(), O_WRONLY | O_CLOEXEC | flags, mode);
+    File file(number < 0 ? nullptr : ::fdopen(number, "wb"));
+    if (number >= 0 && !file) (void)::close(number);
+    return file;
+}
+// Writes the bytes, to the disk too if the file is a new one, and closes it.
+inline bool is_filled(File file, std::string_view bytes, bool is_new) {
+    const bool written = std::fwrite(bytes.data(), 1, bytes.size(), file.get()) == bytes.size() &&
+                         std::fflush(file.get()) == 0 &&
+                         (!is_new || ::fsync(::fileno(file.get())) == 0);
+    const int why = errno;
+    const bool closed = std::fclose(file.release()) == 0;
+    if (!written) errno = why;
+    return written && closed;
+}
+// Replaces the file of a path at once by a new one, which has this mode.
+inline bool is_replaced(const std::string &path, std::optional<mode_t> mode,
+                        std::string_view bytes) {
     std::string beside = path + ".new";
-    File file(std::fopen(beside.c_str(), "wbx"));
+    // nobody else may open it before it has its mode
+    const mode_t first = mode ? 0600 : 0666;
+    File file = writable(beside, O_CREAT | O_EXCL, first);
     // a file of that name is somebody else's
     for (int turn = 1; !file && errno == EEXIST && turn < 1000; turn++) {
         beside = path + ".new" + std::to_string(turn);
-        file.reset(std::fopen(beside.c_str(), "wbx"));
+        file = writable(beside, O_CREAT | O_EXCL, first);
     }
-    if (!file) refuse_file(path);
-    const bool written = std::fwrite(bytes.data(), 1, bytes.size(), file.get()) == bytes.size() &&
-                         std::fflush(file.get()) == 0 && fsync(fileno(file.get())) == 0;
-    const bool closed = std::fclose(file.release()) == 0;
-    if (written && closed && std::rename(beside.c_str(), path.c_str()) == 0) return;
+    if (!file) return false;
+    if ((!mode || ::fchmod(::fileno(file.get()), *mode & 0777) == 0) &&
+        is_filled(std::move(file), bytes, true) && std::rename(beside.c_str(), path.c_str()) == 0)
+        return true;
     const int why = errno;
     (void)std::remove(beside.c_str());
     errno = why;
-    refuse_file(path);
+    return false;
+}
+// Whether a path names an open file of a process, which is written to and not replaced.
+inline bool names_open_file(const std::string &path) {
+    return path.rfind("/dev/fd/", 0) == 0 || path.rfind("/dev/std", 0) == 0 ||
+           path.rfind("/proc/", 0) == 0;
+}
+inline void save_file(const std::string &path, std::string_view bytes) {
+    struct stat found;
+    File old = writable(path, O_APPEND);
+    if (!old) {
+        // a link that leads nowhere is no new file
+        if (errno != ENOENT || ::lstat(path.c_str(), &found) == 0 ||
+            !is_replaced(path, std::nullopt, bytes))
+            refuse_file(path);
+        return;
+    }
+    if (::fstat(::fileno(old.get()), &found) != 0) refuse_file(path);
+    if (!S_ISREG(found.st_mode) || names_open_file(path)) {
+        if (!is_filled(std::move(old), bytes, false)) refuse_file(path);
+        return;
+    }
+    // a link stays
+    const std::unique_ptr<char, Closing> real(::realpath(path.c_str(), nullptr));
+    if (!real || !is_replaced(real.get(), found.st_mode, bytes)) refuse_file(path);
 }
 inline void check(uint32_t status) {
     if (status == ZEROTRIE_OUT_OF_MEMORY) refuse(std::bad_alloc());
@@ -606,10 +655,10 @@ private:
     std::vector<size_t> ends_, values_;
 };
 
-// The pairs that overload `->` of an iterator whose elements are made as it is read.
-struct Pointer {
-    std::pair<std::string_view, size_t> pair;
-    const std::pair<std::string_view, size_t> *operator->() const noexcept { return &pair; }
+// What `->` of an iterator returns whose elements are made as it is read.
+template <class Element> struct Pointer {
+    Element element;
+    const Element *operator->() const noexcept { return &element; }
 };
 } // namespace detail
 /// @endcond
@@ -686,7 +735,7 @@ public:
         using value_type = Items::value_type;
         using difference_type = std::ptrdiff_t;
         using reference = value_type;
-        using pointer = detail::Pointer;
+        using pointer = detail::Pointer<value_type>;
         iterator() = default;
         value_type operator*() const noexcept { return (*items_)[static_cast<size_t>(at_)]; }
         pointer operator->() const noexcept { return {**this}; }
@@ -763,6 +812,20 @@ private:
 /// A pair of a key and a value, as it is read.
 using Entry = std::pair<std::string_view, size_t>;
 
+/// The pair that a StreamIterator is at. Its key is a view that is valid until the iterator is moved
+/// on, so it makes no Entry, which could be kept, but a std::pair of a std::string.
+struct StreamEntry {
+    std::string_view first; ///< the key
+    size_t second;          ///< its value
+    /// A pair whose key is a copy, and no view: a view is trivially copyable.
+    template <class Key, class Value,
+              class = std::enable_if_t<std::is_constructible_v<Key, std::string_view> &&
+                                       !std::is_trivially_copyable_v<std::remove_cv_t<Key>>>>
+    operator std::pair<Key, Value>() const {
+        return {Key(first), Value(second)};
+    }
+};
+
 /// An iterator over the pairs of a trie, in the order of its bytes. It lists a part of them at a
 /// time, so the first few cost little. Copies share their place. A key is a view that is valid
 /// until the iterator is moved on.
@@ -773,8 +836,8 @@ public:
     // what outlives the next step: std::vector(begin(), end()) copies the keys
     using value_type = std::pair<std::string, size_t>;
     using difference_type = std::ptrdiff_t;
-    using reference = Entry;
-    using pointer = detail::Pointer;
+    using reference = StreamEntry;
+    using pointer = detail::Pointer<StreamEntry>;
     /// @endcond
     /// After the last pair.
     StreamIterator() noexcept = default;
@@ -787,7 +850,10 @@ public:
     StreamIterator(Kind kind, Bytes bytes, std::string_view prefix)
         : StreamIterator(kind, bytes, Search().within(prefix)) {}
     /// The pair.
-    Entry operator*() const noexcept { return (*parts_)[at_]; }
+    StreamEntry operator*() const noexcept {
+        const auto [key, value] = (*parts_)[at_];
+        return {key, value};
+    }
     /// The pair.
     pointer operator->() const noexcept { return {**this}; }
     /// Moves on to the next pair.
@@ -1190,7 +1256,7 @@ private:
 
 /// A key that changed from one trie to another.
 struct Change {
-    std::string_view key;         ///< the key, until the iterator is moved on
+    std::string key;              ///< the key
     std::optional<size_t> before; ///< its value in the first trie; nullopt: the key was added
     std::optional<size_t> after;  ///< its value in the second trie; nullopt: the key was removed
 };
@@ -1213,15 +1279,15 @@ public:
         };
         iterator() noexcept = default;
         explicit iterator(const Diff &diff) : parts_(std::make_shared<Parts>(diff)) { next_part(); }
-        Change operator*() const noexcept {
+        Change operator*() const {
             const auto &it = parts_->changes[at_];
             const size_t from = at_ == 0 ? 0 : parts_->changes[at_ - 1].key_end;
-            Change made{std::string_view(parts_->keys).substr(from, it.key_end - from), {}, {}};
+            Change made{parts_->keys.substr(from, it.key_end - from), {}, {}};
             if (it.how != ZEROTRIE_ADDED) made.before = it.before;
             if (it.how != ZEROTRIE_REMOVED) made.after = it.after;
             return made;
         }
-        pointer operator->() const noexcept { return {**this}; }
+        pointer operator->() const { return {**this}; }
         iterator &operator++() {
             if (++at_ == parts_->count) next_part();
             return *this;
@@ -1473,8 +1539,10 @@ public:
         return open(detail::read_file(path));
     }
     /// Writes a sealed file under a new name, with ".new" after its path, and replaces the file of the
-    /// path by it at once. Throws std::system_error, and then the old file is as it was.
-    void save(const std::string &path) const { detail::replace_file(path, seal()); }
+    /// path by it at once, which keeps its permissions. A link stays, and the file that it leads to is
+    /// replaced. A device or a pipe is written in place. Throws std::system_error, and then the old
+    /// file is as it was.
+    void save(const std::string &path) const { detail::save_file(path, seal()); }
     /// A sealed file.
     [[nodiscard]] std::string seal() const { return zerotrie::seal(kind_, bytes_); }
     /// See Trie::first_fault().
@@ -1642,8 +1710,9 @@ private:
         return zerotrie_trie_of(static_cast<zerotrie_kind>(trie.kind()), at.ptr, at.len);
     }
     static zerotrie_trie raw(const Map &map) noexcept { return raw(map.trie()); }
-    // Throws the error of the first key that a rule makes one, with the first two tries that have it.
-    static void check_keys(zerotrie_selection selection, uint32_t status,
+    // Throws the error of the first key that a rule makes one, with the first two tries that have it,
+    // or have other values of it.
+    static void check_keys(zerotrie_selection selection, Rule rule, uint32_t status,
                            const std::vector<zerotrie_trie> &tries) {
         std::vector<StreamIterator> at;
         for (const auto &one : tries)
@@ -1655,22 +1724,27 @@ private:
                 if (it != StreamIterator() && (!key || it->first < *key)) key = it->first;
             if (!key) return;
             std::vector<size_t> places;
-            size_t sum = 0;
+            size_t sum = 0, first = 0, other = 0;
             bool fits = true;
             for (size_t place = 0; place < at.size(); place++) {
                 if (at[place] == StreamIterator() || at[place]->first != *key) continue;
+                const size_t value = at[place]->second;
                 places.push_back(place);
-                fits = fits && at[place]->second <= SIZE_MAX - sum;
-                sum += at[place]->second;
+                if (places.size() == 1) first = value;
+                if (other == 0 && places.size() > 1 && (rule != Rule::Equal || value != first))
+                    other = place;
+                fits = fits && value <= SIZE_MAX - sum;
+                sum += value;
                 ++at[place];
             }
             const bool taken = selection == ZEROTRIE_UNION ||
                                (selection == ZEROTRIE_INTERSECTION ? places.size() == at.size()
                                                                    : places.size() % 2 == 1);
-            if (taken && places.size() > 1 && (!fits || status == ZEROTRIE_DUPLICATE_KEY))
-                detail::refuse(Error(status, {places[0], places[1]},
+            if (taken && other > 0 && (!fits || status == ZEROTRIE_DUPLICATE_KEY))
+                detail::refuse(Error(status, {places[0], other},
                                      "tries " + std::to_string(places[0]) + " and " +
-                                         std::to_string(places[1]) + " have " +
+                                         std::to_string(other) + " have " +
+                                         (rule == Rule::Equal ? "other values of " : "") +
                                          detail::shown(detail::of(*key))));
         }
     }
@@ -1693,7 +1767,7 @@ private:
             },
             [&](uint32_t status) {
                 if (status == ZEROTRIE_DUPLICATE_KEY || status == ZEROTRIE_SUM_TOO_LARGE)
-                    check_keys(selection, status, list);
+                    check_keys(selection, rule, status, list);
                 detail::check(status);
             });
         made.size_ = made.trie().size();

@@ -90,8 +90,14 @@ def name():
     return f"zerotrie-{version()}"
 
 
+def page():
+    """The page of all calls, without the links to files that are not on the page."""
+    text = beside("PYTHON.md", HERE.parent.parent / "docs/PYTHON.md").decode()
+    return re.sub(r"^#", "##", re.sub(r"\[([^]]*)\]\((?!https:)[^)]*\)", r"\1", text), flags=re.M)
+
+
 def metadata(of="that is proved"):
-    description = (HERE / "README.md").read_text()
+    description = (HERE / "README.md").read_text() + "\n" + page()
     return METADATA.format(version=version(), of=of, description=description).encode()
 
 
@@ -252,6 +258,7 @@ def build_sdist(sdist_directory, config_settings=None):
         **read("packed.py", "pyproject.toml", "README.md", "zerotrie/_fast.c"),
         "PKG-INFO": metadata(),
         "LICENSE": licence(),
+        "PYTHON.md": beside("PYTHON.md", HERE.parent.parent / "docs/PYTHON.md"),
         "VERSION": f"{version()}\n".encode(),
         "zerotrie.h": beside("zerotrie.h", HERE.parent / "c/zerotrie.h"),
     }

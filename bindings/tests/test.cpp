@@ -4,12 +4,14 @@
 #include <array>
 #include <cstdio>
 #include <cstdlib>
+#include <fcntl.h>
 #include <iterator>
 #include <map>
 #include <memory_resource>
 #include <random>
 #include <sstream>
 #include <sys/mman.h>
+#include <sys/stat.h>
 #include <unistd.h>
 // clang before 16 can't read the ranges of libstdc++
 #if __cplusplus >= 202002L && (!defined(__clang__) || __clang_major__ >= 16)
@@ -236,6 +238,53 @@ static void causes() {
     CHECK(zerotrie::library_version() == zerotrie::version);
 }
 
+static mode_t mode_of(const std::string &path) {
+    struct stat found;
+    CHECK(lstat(path.c_str(), &found) == 0);
+    return found.st_mode;
+}
+
+// Which errno save() fails with.
+static int why_not_saved(const zerotrie::Map &map, const std::string &path) {
+    try {
+        map.save(path);
+        return 0;
+    } catch (const std::system_error &error) {
+        return error.code().value();
+    }
+}
+
+// A file that is replaced keeps its mode and the links to it; a pipe and an open file are written in place.
+static void saves(const std::string &room, const std::string &path, const zerotrie::Map &map) {
+    const zerotrie::Map other{{"other", 1}};
+    const std::string link = room + "/link", fifo = room + "/fifo";
+    const mode_t mask = umask(022);
+    CHECK(std::remove(path.c_str()) == 0 && why_not_saved(map, path) == 0 && mode_of(path) == (S_IFREG | 0644));
+    for (const mode_t mode : {0600u, 0640u, 0666u, 0755u, 06711u}) {
+        CHECK(chmod(path.c_str(), mode) == 0 && why_not_saved(other, path) == 0);
+        CHECK(mode_of(path) == (S_IFREG | (mode & 0777)) && zerotrie::Map::load(path) == other);
+    }
+    umask(mask);
+    CHECK(symlink("names.trie", link.c_str()) == 0 && why_not_saved(map, link) == 0);
+    CHECK(S_ISLNK(mode_of(link)) && zerotrie::Map::load(path) == map && mode_of(path) == (S_IFREG | 0711));
+    CHECK(std::remove(link.c_str()) == 0 && symlink("nowhere", link.c_str()) == 0 && why_not_saved(map, link) == ENOENT);
+    CHECK(S_ISLNK(mode_of(link)) && std::remove(link.c_str()) == 0);
+    CHECK(why_not_saved(map, room) == EISDIR);
+    if (geteuid() != 0) CHECK(chmod(path.c_str(), 0400) == 0 && why_not_saved(map, path) == EACCES);
+    // what is written in place
+    std::string read(1000, 0);
+    CHECK(mkfifo(fifo.c_str(), 0600) == 0);
+    const int end = open(fifo.c_str(), O_RDONLY | O_NONBLOCK);
+    CHECK(why_not_saved(map, fifo) == 0 && S_ISFIFO(mode_of(fifo)));
+    const ssize_t len = ::read(end, read.data(), read.size());
+    CHECK(len > 0 && zerotrie::Map::open(std::string_view(read).substr(0, static_cast<size_t>(len))) == map);
+    CHECK(close(end) == 0 && std::remove(fifo.c_str()) == 0);
+    const int opened = open(link.c_str(), O_RDWR | O_CREAT, 0600);
+    CHECK(why_not_saved(map, "/dev/fd/" + std::to_string(opened)) == 0 && ::read(opened, read.data(), read.size()) == len);
+    CHECK(close(opened) == 0 && std::remove(link.c_str()) == 0);
+    if (geteuid() != 0) CHECK(why_not_saved(map, "/dev/null") == 0 && why_not_saved(map, "/dev/full") == ENOSPC);
+}
+
 // A map that owns its bytes, and what is listed before it is asked for.
 static void owner() {
     const Map many = [] {
@@ -284,6 +333,12 @@ static void owner() {
     static_assert(std::is_same_v<decltype(kept)::value_type, std::pair<std::string, size_t>>);
     CHECK(kept.size() == 3 && kept[0].first == "bar" && kept[1].first == "bazzoo" && kept[2].second == 1);
     CHECK(Map(small.begin(), small.end()) == Map({{"foo", 1}, {"bar", 2}, {"bazzoo", 3}}));
+    // a key that is a view is not kept past its iterator: std::vector<Entry>(small.begin(), small.end()) does not compile
+    using At = std::iterator_traits<zerotrie::StreamIterator>::reference;
+    static_assert(!std::is_constructible_v<zerotrie::Entry, At> && !std::is_convertible_v<At, std::pair<std::string_view, int>>);
+    static_assert(std::is_convertible_v<At, std::pair<const std::string, size_t>> && std::is_convertible_v<At, std::pair<std::pmr::string, uint64_t>>);
+    const std::vector<std::pair<std::string, size_t>> same_kept(small.stream("ba").begin(), small.end());
+    CHECK(same_kept.size() == 2 && same_kept[0].first == "bar" && same_kept[1].first == "bazzoo");
     // values of an enum
     enum class Color : uint8_t { Red, Blue = 7 };
     enum Old { BelowZero = -1, One = 1 };
@@ -322,6 +377,7 @@ static void owner() {
             CHECK(error.code().value() != 0);
         }
     }
+    saves(room, path, small);
     CHECK(std::remove(path.c_str()) == 0 && rmdir(room) == 0);
 #ifdef HAS_RANGES
     static_assert(std::ranges::input_range<const zerotrie::Map> && std::ranges::sized_range<const zerotrie::Map>);
@@ -400,6 +456,17 @@ static void combinations() {
         CHECK(error.status == ZEROTRIE_DUPLICATE_KEY && error.pairs == Places(0, 1));
         CHECK(std::string(error.what()).find("(tries 0 and 1 have \"bar\")") != std::string::npos);
     }
+    // values that have to be equal: the first trie, and the first one that has another value
+    const Owned same{{"bar", 2}, {"to", 6}};
+    CHECK(Owned::union_of(Kind::SimpleAscii, {map.trie(), same.trie()}, Rule::Equal).size() == 4);
+    CHECK(Owned::intersection_of(Kind::SimpleAscii, {map.trie(), same.trie()}, Rule::Equal).size() == 1);
+    try {
+        CHECK(Owned::union_of(Kind::SimpleAscii, {same.trie(), map.trie(), more.trie()}, Rule::Equal).empty());
+        CHECK(false);
+    } catch (const zerotrie::Error &error) {
+        CHECK(error.status == ZEROTRIE_DUPLICATE_KEY && error.pairs == Places(0, 2));
+        CHECK(std::string(error.what()).find("(tries 0 and 2 have other values of \"bar\")") != std::string::npos);
+    }
     // the first key that is an error, and not one that is not taken
     const Owned high{{"bar", SIZE_MAX}, {"to", SIZE_MAX}, {"zoo", 1}};
     try {
@@ -437,6 +504,13 @@ static void changes() {
             if (old.get(key) != fresh.get(key)) wanted.emplace_back(key, old.get(key), fresh.get(key));
         for (const auto [key, before, after] : zerotrie::diff(old.trie(), fresh.trie())) found.emplace_back(key, before, after);
         CHECK(found == wanted);
+        // what lasts: keys that outlive the iterator
+        const zerotrie::Trie old_trie = old.trie(), fresh_trie = fresh.trie();
+        const zerotrie::Diff all(old_trie, fresh_trie);
+        const std::vector kept(all.begin(), all.end());
+        CHECK(std::equal(kept.begin(), kept.end(), wanted.begin(), wanted.end(), [](const auto &one, const auto &row) {
+            return std::tie(one.key, one.before, one.after) == row;
+        }));
         found.clear();
         const zerotrie::Diff part(old.trie(), fresh.trie(), "b", "m");
         for (auto it = part.begin(); it != part.end(); ++it) found.emplace_back(it->key, it->before, it->after);

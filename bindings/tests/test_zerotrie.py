@@ -7,6 +7,7 @@ import contextlib
 import copy
 import ctypes
 import doctest
+import errno
 import gc
 import importlib
 import inspect
@@ -17,6 +18,7 @@ import pathlib
 import pickle
 import random
 import shutil
+import stat
 import sys
 import tarfile
 import tempfile
@@ -343,6 +345,23 @@ def descriptors():
     return len(os.listdir("/proc/self/fd"))
 
 
+def by_nobody(call, path):
+    """Why a call with a path fails in a process that may do nothing which others may not; 0: it does not fail."""
+    child = os.fork()
+    if child == 0:
+        why = 255
+        try:
+            if os.geteuid() == 0:
+                os.setgroups([]), os.setresgid(*[65534] * 3), os.setresuid(*[65534] * 3)
+            call(path)
+            why = 0
+        except OSError as error:
+            why = error.errno if error.filename == path else 254
+        finally:
+            os._exit(why)
+    return os.waitstatus_to_exitcode(os.waitpid(child, 0)[1])
+
+
 def maps(path):
     return path in pathlib.Path("/proc/self/maps").read_text()
 
@@ -400,6 +419,37 @@ with tempfile.TemporaryDirectory() as room:
         and ZeroTrie.open(path) == {b"new": 9}
         and os.path.islink(os.path.join(room, "link"))
     )
+    # a file that is there keeps its mode, and no set-id bit, and a new one has the usual mode
+    with tempfile.TemporaryDirectory() as place:
+        own, mask = os.path.join(place, "own"), os.umask(0o027)
+        trie.save(own)
+        os.umask(mask)
+        assert os.stat(own).st_mode == stat.S_IFREG | 0o640
+        for mode in (0o600, 0o400, 0o644, 0o666, 0o6755):
+            os.chmod(own, mode)
+            if mode & 0o200:
+                StrTrie.build({"a": mode}).save(own)
+                assert os.stat(own).st_mode == stat.S_IFREG | mode & 0o777 and StrTrie.open(own) == {"a": mode}
+        # one that may not be written stays, and a link that leads nowhere
+        os.chmod(place, 0o777), os.chmod(own, 0o444)
+        assert by_nobody(trie.save, own) == errno.EACCES and StrTrie.open(own) == {"a": 0o6755}
+        os.unlink(own), os.symlink("nowhere", own)
+        assert refused(FileNotFoundError, trie.save, own).filename == own and os.listdir(place) == ["own"]
+        os.unlink(own)
+        # a pipe, a device and what is open are written in place
+        os.mkfifo(own)
+        end = os.open(own, os.O_RDONLY | os.O_NONBLOCK)
+        trie.save(own)
+        assert os.read(end, 1 << 16) == trie.seal() and stat.S_ISFIFO(os.stat(own).st_mode)
+        os.close(end)
+        with tempfile.TemporaryFile() as opened:
+            opened.write(b"front")
+            opened.flush()
+            trie.save(f"/dev/fd/{opened.fileno()}", tagged=True)
+            opened.seek(0)
+            assert opened.read() == b"front" + bytes(trie)
+        assert by_nobody(trie.save, "/dev/null") == 0 and stat.S_ISCHR(os.stat("/dev/null").st_mode)
+        assert by_nobody(trie.save, "/dev/full") in (errno.ENOSPC, 254) and os.listdir(place) == ["own"]
     with unittest.mock.patch.object(os, "replace", side_effect=OSError("full")):
         assert refused(OSError, trie.save, path).args == ("full",)
     assert ZeroTrie.open(path) == {b"new": 9} and sorted(os.listdir(room)) == ["link", "tagged"]
@@ -553,6 +603,7 @@ with tempfile.TemporaryDirectory() as room:
     shutil.copytree(packed.HERE.parent / "c", os.path.join(room, "bindings/c"))
     for name in ("VERSION", "LICENSE"):
         shutil.copy(packed.HERE.parent.parent / name, room)
+    shutil.copytree(packed.HERE.parent.parent / "docs", os.path.join(room, "docs"), ignore=shutil.ignore_patterns("[!P]*"))
     (here / "zerotrie/libzerotrie.so").write_bytes(b"library")
     # rust/testing/sdist.py tries the sources in plain Rust, which are not in this copy
     patched = unittest.mock.patch.multiple(packed, HERE=here, sources=dict)
@@ -574,6 +625,7 @@ with tempfile.TemporaryDirectory() as room:
                 "pyproject.toml",
                 "README.md",
                 "LICENSE",
+                "PYTHON.md",
                 "VERSION",
             }
             assert {f"{label}/{name}" for name in names} <= set(sdist.getnames())
@@ -607,6 +659,9 @@ with tempfile.TemporaryDirectory() as room:
                     "\nSummary: Maps from" in told["METADATA"]
                     and "\nLicense: Unicode-3.0\n" in told["METADATA"]
                 )
+                # the long description has the page of all calls, and no link to what is not there
+                assert all(f"\n### {name}\n" in told["METADATA"] for name in ("Install", "`DenseTable`", "Building"))
+                assert "](https:" in told["METADATA"] and told["METADATA"].count("](") == told["METADATA"].count("](https:")
                 assert f"\nTag: {tag}-" in told["WHEEL"]
 
 

@@ -81,12 +81,12 @@ from ._pairs import (
     key_bytes, known_kind, tagged, whole_number,
 )
 from ._readers import (
-    COUNT, INDEX, PAIRS, AnyPlace, Place, Reader, Table, Word, accelerated as accelerated,
+    COUNT, INDEX, PAIRS, AnyPlace, Place, Reader, Record, Table, Word, accelerated as accelerated,
 )
 from ._reverse import Reverse as Reverse, reverse as reverse
 from ._search import BY_SUBSEQUENCE, Search
 from ._sets import (
-    DIFFERENCE, INTERSECTION, SYMMETRIC_DIFFERENCE, UNION, Keyed, difference, in_any_case,
+    DIFFERENCE, INTERSECTION, SYMMETRIC_DIFFERENCE, UNION, Keyed, difference, in_any_case, keys_in,
     intersection, kind_of, made_of, symmetric_difference, union,
 )
 from ._tables import dense_parts, index_entries
@@ -286,7 +286,9 @@ class _Trie(Reader[Word], _InBytes, Mapping[Any, int]):
         """Writes a sealed file, or tagged bytes, which open() reads.
 
         They go to a new file in the same folder, which then replaces the old one at once, and has
-        its permissions: whoever has that one open keeps it, and a failure leaves it as it was.
+        its permissions: whoever has that one open keeps it, and a failure leaves it as it was. A
+        link stays, and the file that it leads to is replaced. A device or a pipe is written in
+        place.
         """
         view, *lent = self._lent()
         replace(path, *([bytes([lent[0]]), view] if tagged else [sealed(*lent)]))
@@ -544,7 +546,7 @@ class _Trie(Reader[Word], _InBytes, Mapping[Any, int]):
         if kind_of(self, other) == IGNORE_CASE:
             return type(self).build(in_any_case(self, other, wanted), IGNORE_CASE)
         if not isinstance(other, _Trie):
-            other = ZeroTrie.build(dict.fromkeys(map(key_bytes, other), 0))
+            other = ZeroTrie.build(dict.fromkeys(keys_in(other), 0))
         selection = INTERSECTION if wanted else DIFFERENCE
         return made_of(selection, "first", (self, other), None, type(self))
 
@@ -635,7 +637,7 @@ class StrTrie(_Trie[str]):
     _as_text = True
 
 
-class DenseTable(_InBytes, Mapping[Any, int]):
+class DenseTable(Record, _InBytes, Mapping[Any, int]):
     """A map from two texts to numbers, over the record of a dense table, which is not copied.
 
     >>> table = DenseTable(build_dense({"de": {"AT": 8, "CH": 9}, "en": {"US": 5}}))
@@ -648,11 +650,11 @@ class DenseTable(_InBytes, Mapping[Any, int]):
     ZeroTrieError if the bytes are no record.
     """
 
-    __slots__ = ("_record", "__weakref__")
-    _record: tuple[memoryview, int]
+    __slots__ = ("__weakref__",)
 
     def __init__(self, record: Any) -> None:
-        self._record = in_place(view_of(record, "a dense table"))
+        view, at = in_place(view_of(record, "a dense table"))
+        self._hold(view, 0, at, len(view))
 
     @classmethod
     def build(
@@ -680,10 +682,6 @@ class DenseTable(_InBytes, Mapping[Any, int]):
         """Writes the record to a file, which replaces the old one at once."""
         replace(path, self._lent()[0])
 
-    def _lent(self) -> tuple[memoryview, int, int, int]:
-        view, at = self._record
-        return view, 0, at, len(view)
-
     def _remakes(self, data: Any) -> tuple[Any, ...]:
         return DenseTable, data
 
@@ -702,9 +700,9 @@ class DenseTable(_InBytes, Mapping[Any, int]):
         return self._find(prefix, suffix, default)
 
     def _find(self, prefix: Key, suffix: Key, default: Any = None) -> Any:
-        view, at = self._record
+        view, _, at, length = self._lent()
         p, s, value = key_bytes(prefix), key_bytes(suffix), c_size_t()
-        status = lib.zerotrie_dense_get(at, len(view), p, len(p), s, len(s), value)
+        status = lib.zerotrie_dense_get(at, length, p, len(p), s, len(s), value)
         if status == NO_ENTRY:
             return default
         check_status(status)

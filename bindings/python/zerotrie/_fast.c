@@ -778,6 +778,17 @@ static PyType_Slot table_slots[] = {
 };
 static PyType_Spec table = { "zerotrie._fast.Table", sizeof(Held), 0, FLAGS, table_slots };
 
+/* The bytes of a dense table, whose look-ups go by ctypes. */
+static PyMethodDef record_methods[] = {
+    { "_hold", hold, METH_VARARGS, NULL },
+    { "_lent", reader_lent, METH_NOARGS, NULL },
+    { NULL, NULL, 0, NULL },
+};
+static PyType_Slot record_slots[] = {
+    HOLD, SLOT(GET_BUFFER, get_buffer), { Py_tp_methods, record_methods }, { 0, NULL },
+};
+static PyType_Spec record = { "zerotrie._fast.Record", sizeof(Held), 0, FLAGS, record_slots };
+
 static PyMethodDef place_methods[] = {
     { "_hold", hold, METH_VARARGS, NULL },
     { "_go", place_go, METH_O, NULL },
@@ -831,6 +842,8 @@ static int fill(PyObject *module) {
     if (add(module, "Reader", PyType_FromSpec(&reader)) < 0)
         return -1;
     if (add(module, "Table", PyType_FromSpec(&table)) < 0)
+        return -1;
+    if (add(module, "Record", PyType_FromSpec(&record)) < 0)
         return -1;
     if (add(module, "Place", PyType_FromSpec(&place)) < 0)
         return -1;

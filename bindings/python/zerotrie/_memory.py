@@ -6,7 +6,7 @@ import ctypes
 import mmap
 import os
 import secrets
-import shutil
+import stat
 import weakref
 from collections.abc import Callable
 from ctypes import (
@@ -147,25 +147,49 @@ def mapped(file: BinaryIO) -> Any:
     return data
 
 
+#: What names an open file of a process, which is written to and not replaced.
+OPEN_FILES = "/dev/fd/", "/dev/std", "/proc/"
+
+
 def replace(path: Path, *parts: Any) -> None:
-    """Writes the parts to a new file in the same folder, which then replaces the old one at once, and
-    has its permissions. A failure leaves the old one as it was.
+    """Writes the parts to a file. It is replaced at once, by a new one in the same folder that has
+    its permissions, and a failure leaves it as it was. A link stays, and the file that it leads to
+    is replaced. A device, a pipe and a file that is open at /dev/fd are written in place.
     """
-    target = os.path.realpath(os.fsdecode(path))
-    beside = os.path.join(os.path.dirname(target), f".zerotrie-{secrets.token_hex(8)}")
+    name, mode = os.fsdecode(path), None
     try:
-        with open(beside, "xb") as file:
+        old = os.open(name, os.O_WRONLY | os.O_APPEND)
+    except FileNotFoundError:
+        if os.path.islink(name):
+            raise
+    else:
+        with open(old, "wb") as file:
+            mode = os.fstat(old).st_mode
+            if not stat.S_ISREG(mode) or name.startswith(OPEN_FILES):
+                file.writelines(parts)
+                return
+    replace_file(name, mode, parts)
+
+
+def replace_file(name: str, mode: Optional[int], parts: tuple[Any, ...]) -> None:
+    """Replaces the file of this mode, or makes one with the usual mode."""
+    target = os.path.realpath(name)
+    beside = os.path.join(os.path.dirname(target), f".zerotrie-{secrets.token_hex(8)}")
+    # nobody else may open it before it has its mode
+    first = 0o666 if mode is None else 0o600
+    try:
+        with open(beside, "xb", opener=lambda new, flags: os.open(new, flags, first)) as file:
+            if mode is not None:
+                os.fchmod(file.fileno(), mode & 0o777)
             file.writelines(parts)
             file.flush()
             os.fsync(file.fileno())
-        if os.path.exists(target):
-            shutil.copymode(target, beside)
         os.replace(beside, target)
     except BaseException as error:
         if os.path.exists(beside):
             os.unlink(beside)
         if isinstance(error, OSError) and error.filename == beside:
-            error.filename = os.fsdecode(path)
+            error.filename = name
         raise
 
 

@@ -206,6 +206,22 @@ class Reader(Generic[Word]):
         return None if found is None else (word_of(found, as_text), value.value)
 
 
+class Record:
+    """The bytes of a dense table, which a view keeps in place.
+
+    It holds the view, no kind, where the bytes are, and how many they are.
+    """
+
+    __slots__ = ("_held",)
+    _held: tuple[memoryview, int, int, int]
+
+    def _hold(self, view: memoryview, kind: int, at: int, length: int, /) -> None:
+        set_once(Record, self, (view, kind, at, length))
+
+    def _lent(self) -> tuple[memoryview, int, int, int]:
+        return self._held
+
+
 #: The number that a Table holds in place of a kind. _fast.c has the same.
 INDEX = 0xFFFFFFFF
 
@@ -329,7 +345,7 @@ class Place:
 
 
 def extension() -> bool:
-    """Whether there is the extension, which makes the three types above in C, for this interpreter
+    """Whether there is the extension, which makes the types above in C, for this interpreter
     and this library.
     """
     if sys.implementation.name != "cpython" or "t" in getattr(sys, "abiflags", ""):
@@ -351,4 +367,4 @@ def extension() -> bool:
 #: Whether look-ups, listings and cursors go by the extension.
 accelerated: bool = not TYPE_CHECKING and extension()
 if not TYPE_CHECKING and accelerated:
-    from ._fast import Place, Reader, Table
+    from ._fast import Place, Reader, Record, Table

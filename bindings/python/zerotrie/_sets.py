@@ -36,9 +36,18 @@ def kind_of(*given: Any) -> Optional[Kind]:
     return next((kind for kind in special if kind in kinds), None)
 
 
+def keys_in(other: Keyed) -> Iterator[bytes]:
+    """The keys of the other, as bytes. What can be no key is in no trie."""
+    for key in other:
+        try:
+            yield key_bytes(key)
+        except (TypeError, UnicodeEncodeError):
+            pass
+
+
 def in_any_case(trie: _Trie[Any], other: Keyed, wanted: bool) -> dict[Any, int]:
     """The pairs of the trie whose keys the other has in any case, or does not have."""
-    folded = {key_bytes(key).lower() for key in other}
+    folded = {key.lower() for key in keys_in(other)}
     return {
         key: value for key, value in trie.items()
         if (key_bytes(key).lower() in folded) is wanted
@@ -47,7 +56,7 @@ def in_any_case(trie: _Trie[Any], other: Keyed, wanted: bool) -> dict[Any, int]:
 
 UNION, INTERSECTION, DIFFERENCE, SYMMETRIC_DIFFERENCE = range(4)
 #: The rules by their names.
-RULES = ("first", "last", "sum", "min", "max", "refuse")
+RULES = ("first", "last", "sum", "min", "max", "refuse", "equal")
 
 
 def raw_tries(lent: list[tuple[memoryview, int, int, int]]) -> Any:
@@ -75,7 +84,7 @@ def combined(selection: int, how: str, tries: list[_Trie[Any]], kind: Kind) -> b
     if status == MALFORMED_TRIE:
         check_bytes(lent)
     if status in (DUPLICATE_KEY, SUM_TOO_LARGE):
-        check_keys(selection, status, tries)
+        check_keys(selection, how, status, tries)
     if status in (NON_ASCII, MIXED_CASE):
         made = as_bytes(combined(selection, how, tries, Kind.PERFECT_HASH))
         FlatPairs(made).built(kind)
@@ -143,9 +152,9 @@ def check_bytes(lent: list[tuple[memoryview, int, int, int]]) -> None:
             raise ZeroTrieError(f"{error}: trie {place}", MALFORMED_TRIE, index=place, at=error.at) from None
 
 
-def check_keys(selection: int, status: int, tries: list[_Trie[Any]]) -> None:
+def check_keys(selection: int, how: str, status: int, tries: list[_Trie[Any]]) -> None:
     """ZeroTrieError, with the first key that a rule makes an error, and the places of the first two
-    tries that have it.
+    tries that have it, or have other values of it.
     """
     def rows(place: int, trie: _Trie[bytes]) -> Iterator[tuple[bytes, int, int]]:
         return ((key, place, value) for key, value in trie.range())
@@ -157,10 +166,16 @@ def check_keys(selection: int, status: int, tries: list[_Trie[Any]]) -> None:
         if selection == SYMMETRIC_DIFFERENCE:
             taken = len(having) % 2 == 1
         too_large = sum(value for *_, value in having) >= 1 << 64
-        if taken and len(having) > 1 and (too_large or status == DUPLICATE_KEY):
-            places = [place for _, place, _ in having]
-            text = f"{TEXTS[status]}: tries {places[0]} and {places[1]} have {reprlib.repr(key)}"
-            raise ZeroTrieError(text, status, key=key, index=places[0], other=places[1])
+        (_, first, value), *others = having
+        if how == "equal":
+            others = [row for row in others if row[2] != value]
+        if taken and others and (too_large or status == DUPLICATE_KEY):
+            _, other, another = others[0]
+            text = f"{TEXTS[status]}: tries {first} and {other} have {reprlib.repr(key)}"
+            if how == "equal":
+                text = (f"tries {first} and {other} have other values of {reprlib.repr(key)}: "
+                        f"{value} and {another}")
+            raise ZeroTrieError(text, status, key=key, index=first, other=other)
 
 
 def made_of(
@@ -202,10 +217,10 @@ def union(tries: Iterable[Trie], how: str = "last", kind: Optional[int] = None) 
     """A trie of the keys of any of the tries, of the class of the first one.
 
     `how` says which value a key gets that more than one trie has: "first", "last", "sum", "min" or
-    "max"; "refuse" makes it an error. All tries are read in one pass. With no kind it is that of
-    auto_kind(), but IGNORE_CASE or EXTENDED_CAPACITY if one of the tries is. Keys are compared as
-    bytes, and letters in either case if one of the tries is IGNORE_CASE: then the first trie that
-    has the beginning of a key says how it is spelled.
+    "max"; "refuse" makes it an error, and "equal" if the values differ. All tries are read in one
+    pass. With no kind it is that of auto_kind(), but IGNORE_CASE or EXTENDED_CAPACITY if one of the
+    tries is. Keys are compared as bytes, and letters in either case if one of the tries is
+    IGNORE_CASE: then the first trie that has the beginning of a key says how it is spelled.
 
     >>> a, b = StrTrie.build({"in": 1, "on": 2}), StrTrie.build({"in": 5})
     >>> dict(union([a, b], how="sum"))

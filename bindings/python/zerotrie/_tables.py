@@ -22,11 +22,13 @@ def index_entries(view: memoryview) -> Iterator[tuple[bytes, int]]:
 
 
 def key_len(view: memoryview, at: int) -> tuple[int, int]:
-    """The number that begins at a place, as a head of a branch is written, and where it ends."""
+    """The number that begins at a place, as a head of a branch is written, and where it ends. It is
+    read up to a number that is larger than the bytes that there are.
+    """
     lead = view[at]
     number, goes_on = lead & 0x1F, bool(lead & 0x20)
     at += 1
-    while goes_on and at < len(view):
+    while goes_on and number <= len(view) and at < len(view):
         number, goes_on = number * 128 + (view[at] & 0x7F) + 32, view[at] >= 0x80
         at += 1
     return number, at

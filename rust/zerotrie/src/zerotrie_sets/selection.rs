@@ -29,6 +29,8 @@ pub enum Rule {
     Min,
     /// The greatest value.
     Max,
+    /// The value that all of them are. If they differ, the key is an error.
+    Equal,
     /// None: the key is an error.
     Refuse,
 }
@@ -38,6 +40,8 @@ pub enum Rule {
 pub enum RuleError {
     /// More than one stream has the key, and the rule is `Refuse`.
     SeveralValues,
+    /// Streams have different values for the key, and the rule is `Equal`.
+    DifferentValues,
     /// The sum of the values is 2^64 or more.
     SumTooLarge,
 }
@@ -46,6 +50,7 @@ impl core::fmt::Display for RuleError {
     fn fmt(&self, f: &mut core::fmt::Formatter<'_>) -> core::fmt::Result {
         match self {
             Self::SeveralValues => write!(f, "more than one stream has the key"),
+            Self::DifferentValues => write!(f, "streams have different values for the key"),
             Self::SumTooLarge => write!(f, "the sum of the values is 2^64 or more"),
         }
     }
@@ -74,6 +79,8 @@ impl Rule {
             Rule::Sum => value.checked_add(next).ok_or(RuleError::SumTooLarge),
             Rule::Min => Ok(value.min(next)),
             Rule::Max => Ok(value.max(next)),
+            Rule::Equal if value == next => Ok(value),
+            Rule::Equal => Err(RuleError::DifferentValues),
             Rule::Refuse => Err(RuleError::SeveralValues),
         }
     }

@@ -63,6 +63,7 @@ fn rule_with(number: u32) -> Option<Rule> {
         3 => Some(Rule::Min),
         4 => Some(Rule::Max),
         5 => Some(Rule::Refuse),
+        6 => Some(Rule::Equal),
         _ => None,
     }
 }
@@ -80,6 +81,7 @@ pub fn set_status_of(error: SetError) -> u32 {
         SetError::UnknownKind => UNKNOWN_KIND,
         SetError::Malformed => MALFORMED_TRIE,
         SetError::Rule(RuleError::SeveralValues) => DUPLICATE_KEY,
+        SetError::Rule(RuleError::DifferentValues) => DUPLICATE_KEY,
         SetError::Rule(RuleError::SumTooLarge) => SUM_TOO_LARGE,
         SetError::OutOfMemory => OUT_OF_MEMORY,
     }
