@@ -20,6 +20,8 @@ use crate::zerotrie_sealed::{HEADER_LEN, SealError, open, open_index};
 #[derive(Debug, Clone, Copy, PartialEq, Eq)]
 pub struct Sealed<File> {
     file: File,
+    /// How many bytes are in front of those of the trie or the index.
+    front: usize,
 }
 
 impl<File: AsRef<[u8]>> Sealed<File> {
@@ -36,13 +38,15 @@ impl<File: AsRef<[u8]>> Sealed<File> {
     /// ```
     pub fn open(file: File) -> Result<(TrieKind, Self), SealError> {
         let kind = open(file.as_ref())?.kind;
-        Ok((kind, Sealed { file }))
+        let front = HEADER_LEN;
+        Ok((kind, Sealed { file, front }))
     }
 
     /// Opens the file of an index.
     pub(crate) fn open_index(file: File) -> Result<Self, SealError> {
-        open_index(file.as_ref())?;
-        Ok(Sealed { file })
+        let bytes = file.as_ref();
+        let front = bytes.len() - open_index(bytes)?.len();
+        Ok(Sealed { file, front })
     }
 }
 
@@ -65,6 +69,6 @@ impl<File> Sealed<File> {
 impl<File: AsRef<[u8]>> AsRef<[u8]> for Sealed<File> {
     #[inline]
     fn as_ref(&self) -> &[u8] {
-        self.file.as_ref().get(HEADER_LEN..).unwrap_or_default()
+        self.file.as_ref().get(self.front..).unwrap_or_default()
     }
 }

@@ -18,3 +18,12 @@ pub fn none_longer() {}
 
 /// A sealed file in which one byte is replaced by another is no sealed file.
 pub fn one_byte_shows() {}
+
+/// A file is the seal of one index at most, and of no trie as well.
+pub fn one_index() {}
+
+/// No sealed index is the beginning of a longer one.
+pub fn no_index_longer() {}
+
+/// A sealed index in which one byte is replaced by another is no sealed index.
+pub fn one_byte_of_index_shows() {}

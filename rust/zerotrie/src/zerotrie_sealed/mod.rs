@@ -6,12 +6,18 @@
 
 use crate::rstd::prelude::*;
 
+mod blocks;
 mod checksum;
+mod indexes;
 pub mod laws;
 mod reading;
 mod tables;
 mod writing;
 
+pub use blocks::BLOCK_LEN;
 pub use checksum::crc32c;
-pub use reading::{SealError, Sealed, begins_sealed, open, open_index};
-pub use writing::{HEADER_LEN, INDEX_NUMBER, header_of, seal, seal_index};
+pub use indexes::{IndexTable, is_index_number, open_index, open_table, table_len};
+pub use reading::{SealError, Sealed, begins_sealed, open};
+pub use writing::{
+    BLOCKS_NUMBER, HEADER_LEN, INDEX_NUMBER, header_of, seal, seal_index, seal_index_in_blocks,
+};

@@ -1,9 +1,9 @@
 // Made from crates/zerotrie_sealed/src/reading.rt by rust/make: edit that.
-//! Opening: the trie or the index of a sealed file, or what is wrong with the file.
+//! Opening: the trie of a sealed file, or what is wrong with the file.
 
 use crate::rstd::prelude::*;
 use crate::zerotrie_sealed::checksum::crc32c_of_both;
-use crate::zerotrie_sealed::writing::{FRONT_LEN, HEADER_LEN, INDEX_NUMBER, MAGIC, VERSION};
+use crate::zerotrie_sealed::writing::{FRONT_LEN, HEADER_LEN, MAGIC, VERSION};
 use crate::zerotrie_base::TrieKind;
 
 /// Why a file is not taken for a sealed one.
@@ -16,11 +16,13 @@ pub enum SealError {
     /// The number in the file, which is given, is that of no kind; for `open_index`, it is not that
     /// of an index.
     UnknownKind(u16),
-    /// The file has fewer bytes than its header says, or not even a header.
+    /// The file has fewer bytes than its header says, or not even a header; of an index in blocks,
+    /// fewer than its table says.
     CutShort,
-    /// The file has more bytes than its header says.
+    /// The file has more bytes than its header says; of an index in blocks, than its table says.
     TooLong,
-    /// The checksum in the header is not that of the rest of the file.
+    /// The checksum in the header is not that of the rest of the file; of an index in blocks, it is
+    /// not that of the table, or the table is not that of the index.
     Checksum,
 }
 
@@ -65,7 +67,7 @@ pub fn begins_sealed(file: &[u8]) -> bool {
 
 /// Returns the number in the header of a file, if it begins as a sealed one and its version is
 /// known.
-fn number_in(file: &[u8]) -> Result<u16, SealError> {
+pub(in crate::zerotrie_sealed) fn number_in(file: &[u8]) -> Result<u16, SealError> {
     if !begins_sealed(file) {
         return Err(SealError::NoMagic);
     }
@@ -90,13 +92,18 @@ fn kind_of(number: u16) -> Option<TrieKind> {
     }
 }
 
-/// Returns the bytes behind the header of a file, if they are as many as it says.
-fn bytes_in(file: &[u8]) -> Result<&[u8], SealError> {
+/// Returns the length in the header of a file.
+pub(in crate::zerotrie_sealed) fn length_in(file: &[u8]) -> usize {
     let (_, numbers) = file.split_at(12);
-    let length = usize::from_le_bytes([
+    usize::from_le_bytes([
         numbers[0], numbers[1], numbers[2], numbers[3], numbers[4], numbers[5], numbers[6],
         numbers[7],
-    ]);
+    ])
+}
+
+/// Returns the bytes behind the header of a file, if they are as many as it says.
+fn bytes_in(file: &[u8]) -> Result<&[u8], SealError> {
+    let length = length_in(file);
     let (_, bytes) = file.split_at(HEADER_LEN);
     if bytes.len() < length {
         return Err(SealError::CutShort);
@@ -107,18 +114,18 @@ fn bytes_in(file: &[u8]) -> Result<&[u8], SealError> {
     Ok(bytes)
 }
 
-/// Returns whether the checksum in the header of a file is that of the rest of the file.
-fn has_checksum(file: &[u8]) -> bool {
+/// Returns whether the checksum in the header of a file is that of the rest of the header and of
+/// these bytes.
+pub(in crate::zerotrie_sealed) fn has_checksum(file: &[u8], bytes: &[u8]) -> bool {
     let (front, numbers) = file.split_at(FRONT_LEN);
-    let (_, trie) = file.split_at(HEADER_LEN);
     let checksum = u32::from_le_bytes([numbers[0], numbers[1], numbers[2], numbers[3]]);
-    checksum == crc32c_of_both(front, trie)
+    checksum == crc32c_of_both(front, bytes)
 }
 
 /// Returns the bytes behind the header of a file, if its length and its checksum are right.
-fn whole_in(file: &[u8]) -> Result<&[u8], SealError> {
+pub(in crate::zerotrie_sealed) fn whole_in(file: &[u8]) -> Result<&[u8], SealError> {
     let bytes = bytes_in(file)?;
-    if !has_checksum(file) {
+    if !has_checksum(file, bytes) {
         return Err(SealError::Checksum);
     }
     Ok(bytes)
@@ -151,29 +158,4 @@ pub fn open(file: &[u8]) -> Result<Sealed<'_>, SealError> {
     };
     let trie = whole_in(file)?;
     Ok(Sealed { kind, trie })
-}
-
-/// Returns the index in a sealed file: the bytes that `seal_index` was given. Does not copy or
-/// validate them, and does not allocate.
-///
-/// ```
-/// # use zerotrie::{rstd::examples::*, zerotrie_sealed::*, zerotrie_base::*};
-/// let file = seal_index(Global, b"an index")?;
-/// assert_eq!(open_index(file.as_slice())?, b"an index".as_slice());
-/// assert!(open(file.as_slice()).err() == Some(SealError::UnknownKind(INDEX_NUMBER)));
-///
-/// let trie = seal(Global, TrieKind::Hash, b"a\x85")?;
-/// assert!(open_index(trie.as_slice()).err() == Some(SealError::UnknownKind(3)));
-/// # Ok::<(), Fail>(())
-/// ```
-///
-/// A file is taken exactly if it is what `seal_index` returns for some bytes, and these are what is
-/// returned. What an error says is true of the file, and the parts are looked at in the order of
-/// `open`; `UnknownKind` says that it is sealed as no index.
-pub fn open_index(file: &[u8]) -> Result<&[u8], SealError> {
-    let number = number_in(file)?;
-    if number != INDEX_NUMBER {
-        return Err(SealError::UnknownKind(number));
-    }
-    whole_in(file)
 }

@@ -1,7 +1,8 @@
 // Made from crates/zerotrie_sealed/src/writing.rt by rust/make: edit that.
-//! Sealing: the header of a trie or an index, and each behind its header.
+//! Sealing: the header of a trie or of the table of an index, and what is behind it.
 
 use crate::rstd::prelude::*;
+use crate::zerotrie_sealed::blocks::add_sums;
 use crate::zerotrie_sealed::checksum::crc32c_of_both;
 use crate::rstd::alloc::{AllocError, Global};
 use crate::zerotrie_base::TrieKind;
@@ -15,11 +16,14 @@ pub(in crate::zerotrie_sealed) const VERSION: u16 = 1;
 /// The number of bytes in front of the checksum.
 pub(in crate::zerotrie_sealed) const FRONT_LEN: usize = 20;
 
-/// The number of bytes in front of the trie or the index in a sealed file.
+/// The number of bytes in front of the trie or of the table of an index in a sealed file.
 pub const HEADER_LEN: usize = 24;
 
-/// The number in the header of the sealed file of an index. No kind of trie has it.
+/// The number in the header of an index that is sealed as a whole. No kind of trie has it.
 pub const INDEX_NUMBER: u16 = 24;
+
+/// The number in the header of an index that is sealed in blocks. No kind of trie has it.
+pub const BLOCKS_NUMBER: u16 = 25;
 
 /// Returns the header of these bytes, with this number and this checksum.
 fn header_with(number: u16, bytes: &[u8], checksum: u32) -> [u8; HEADER_LEN] {
@@ -77,6 +81,14 @@ pub fn seal(alloc: Global, kind: TrieKind, trie: &[u8]) -> Result<Vec<u8>, Alloc
     seal_as(alloc, u16::from(kind.tag()), trie)
 }
 
+/// Returns the table of an index: its length, and the checksum of each of its blocks.
+fn table_of(alloc: Global, index: &[u8]) -> Result<Vec<u8>, AllocError> {
+    let mut table = Vec::new(alloc);
+    table.extend_from_slice(&index.len().to_le_bytes())?;
+    add_sums(index, &mut table)?;
+    Ok(table)
+}
+
 /// Returns the sealed file of this index, which `open_index` reads, and `open` does not.
 ///
 /// ```
@@ -89,4 +101,26 @@ pub fn seal(alloc: Global, kind: TrieKind, trie: &[u8]) -> Result<Vec<u8>, Alloc
 /// The bytes need not be an index. An error means that an allocation failed.
 pub fn seal_index(alloc: Global, index: &[u8]) -> Result<Vec<u8>, AllocError> {
     seal_as(alloc, INDEX_NUMBER, index)
+}
+
+/// Returns the sealed file of this index in blocks, which `open_index` reads, and `open` does not.
+///
+/// ```
+/// # use zerotrie::{rstd::examples::*, zerotrie_sealed::*, zerotrie_base::*};
+/// let file = seal_index_in_blocks(Global, b"an index")?;
+/// assert_eq!(file[8..12], b"\x01\x00\x19\x00"[..]);
+/// assert_eq!(file[24..32], 8u64.to_le_bytes()[..]);
+/// assert_eq!(file[32..36], crc32c(b"an index").to_le_bytes()[..]);
+/// assert_eq!(file[36..], b"an index"[..]);
+/// # Ok::<(), Fail>(())
+/// ```
+///
+/// In front of the index is a table, itself sealed: the length of the index, and the checksum of
+/// each block of `BLOCK_LEN` bytes. So a block can be read and tested without the others. The bytes
+/// need not be an index. An error means that an allocation failed.
+pub fn seal_index_in_blocks(alloc: Global, index: &[u8]) -> Result<Vec<u8>, AllocError> {
+    let table = table_of(alloc, index)?;
+    let mut file = seal_as(alloc, BLOCKS_NUMBER, table.as_slice())?;
+    file.extend_from_slice(index)?;
+    Ok(file)
 }

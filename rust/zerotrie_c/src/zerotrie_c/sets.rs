@@ -80,8 +80,7 @@ pub fn set_status_of(error: SetError) -> u32 {
     match error {
         SetError::UnknownKind => UNKNOWN_KIND,
         SetError::Malformed => MALFORMED_TRIE,
-        SetError::Rule(RuleError::SeveralValues) => DUPLICATE_KEY,
-        SetError::Rule(RuleError::DifferentValues) => DUPLICATE_KEY,
+        SetError::Rule(RuleError::SeveralValues | RuleError::DifferentValues) => DUPLICATE_KEY,
         SetError::Rule(RuleError::SumTooLarge) => SUM_TOO_LARGE,
         SetError::OutOfMemory => OUT_OF_MEMORY,
     }
