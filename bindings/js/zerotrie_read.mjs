@@ -237,6 +237,8 @@ function* listing(cursor, prefix) {
 
 const KINDS = Object.values(Kind);
 const INDEX = 24;
+const INDEX_IN_BLOCKS = 25;
+const BLOCK_LEN = 65536;
 const MAGIC = [0x7a, 0x74, 0x72, 0x69, 0x89, 0x8a, 0x0d, 0x0a];
 const VERSION = 1;
 const SUM_AT = 20;
@@ -272,6 +274,26 @@ function numberInSealed(file) {
     return header.getUint16(10, true);
 }
 
+const isInBlocks = (file) => isSealed(file) && file[10] === INDEX_IN_BLOCKS && file[11] === 0;
+
+/** Returns the index in a file of blocks, behind a sealed table of its length and checksums, if the file is whole. */
+function indexInBlocks(file) {
+    check(file.length >= HEADER_LEN, "DAMAGED", "the file is damaged: its header is cut off");
+    const words = new DataView(file.buffer, file.byteOffset, file.byteLength);
+    const front = HEADER_LEN + Number(words.getBigUint64(12, true));
+    numberInSealed(file.subarray(0, front));
+    const index = file.subarray(front);
+    const blocks = Math.ceil(index.length / BLOCK_LEN);
+    const fits = front >= HEADER_LEN + 8 && Number(words.getBigUint64(HEADER_LEN, true)) === index.length;
+    check(fits && front === HEADER_LEN + 8 + 4 * blocks, "DAMAGED", "the file is damaged: its length is another one");
+    for (let at = 0; at < blocks; at++) {
+        const sum = crc32c(index.subarray(BLOCK_LEN * at, BLOCK_LEN * (at + 1)));
+        const is = words.getUint32(HEADER_LEN + 8 + 4 * at, true) === sum;
+        check(is, "DAMAGED", "the file is damaged: its checksum is another one");
+    }
+    return index;
+}
+
 export class ZeroTrie {
     #bytes;
     #kind;
@@ -286,7 +308,7 @@ export class ZeroTrie {
         const file = bytesIn(data, "a file is a Uint8Array or an ArrayBuffer");
         check(file.length > 0, "EMPTY", "the file is empty");
         if (isSealed(file)) {
-            const kind = numberInSealed(file);
+            const kind = isInBlocks(file) ? INDEX : numberInSealed(file);
             check(kind !== INDEX, "INDEX", "the file is an index: ZeroIndex.open opens it");
             return new ZeroTrie(file.subarray(HEADER_LEN), kind);
         }
@@ -392,6 +414,7 @@ export class ZeroIndex {
         const file = bytesIn(data, "a file is a Uint8Array or an ArrayBuffer");
         check(file.length > 0, "EMPTY", "the file is empty");
         check(isSealed(file), "NOT_AN_INDEX", "the file is no index: it does not begin as a sealed file");
+        if (isInBlocks(file)) return new ZeroIndex(indexInBlocks(file));
         const number = numberInSealed(file);
         check(number === INDEX, "NOT_AN_INDEX", `the file is no index: it has the number ${number}, not ${INDEX}`);
         return new ZeroIndex(file.subarray(HEADER_LEN));

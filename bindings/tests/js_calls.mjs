@@ -19,6 +19,16 @@ function fails(code, message, call) {
     });
 }
 
+/** The CRC-32C of bytes, a bit at a time. */
+function sumOf(bytes) {
+    let sum = 0xffffffff;
+    for (const byte of bytes) {
+        sum ^= byte;
+        for (let bit = 0; bit < 8; bit++) sum = (sum >>> 1) ^ (sum & 1 ? 0x82f63b78 : 0);
+    }
+    return ~sum;
+}
+
 /** The sealed file of a content, by FORMAT.md. */
 function sealed(kind, content, version = 1) {
     const file = new Uint8Array(24 + content.length);
@@ -28,13 +38,18 @@ function sealed(kind, content, version = 1) {
     numbers.setUint16(10, kind, true);
     numbers.setBigUint64(12, BigInt(content.length), true);
     file.set(content, 24);
-    let sum = 0xffffffff;
-    for (const byte of [...file.subarray(0, 20), ...content]) {
-        sum ^= byte;
-        for (let bit = 0; bit < 8; bit++) sum = (sum >>> 1) ^ (sum & 1 ? 0x82f63b78 : 0);
-    }
-    numbers.setUint32(20, ~sum, true);
+    numbers.setUint32(20, sumOf([...file.subarray(0, 20), ...content]), true);
     return file;
+}
+
+/** The sealed file of an index in blocks, by FORMAT.md. */
+function sealedInBlocks(index) {
+    const blocks = Math.ceil(index.length / 65536);
+    const table = new DataView(new ArrayBuffer(8 + 4 * blocks));
+    table.setBigUint64(0, BigInt(index.length), true);
+    for (let at = 0; at < blocks; at++) table.setUint32(8 + 4 * at, sumOf(index.subarray(65536 * at, 65536 * (at + 1))), true);
+    const front = sealed(25, new Uint8Array(table.buffer));
+    return new Uint8Array([...front, ...index]);
 }
 
 function examplesOfTheFormat() {
@@ -149,7 +164,8 @@ function indexes() {
     const pool = "02 1600000000000000 6164 04 2100000000000000 61646566";
     const bytesOfIndex = hex(entries + more + pool);
     const file = sealed(24, bytesOfIndex);
-    for (const index of [new ZeroIndex(bytesOfIndex), ZeroIndex.open(file), ZeroIndex.open(file.buffer)]) {
+    const inBlocks = sealedInBlocks(bytesOfIndex);
+    for (const index of [new ZeroIndex(bytesOfIndex), ZeroIndex.open(file), ZeroIndex.open(file.buffer), ZeroIndex.open(inBlocks)]) {
         assert.deepEqual(["ad", "adef"].map((key) => index.get(key)), [22, 33]);
         for (const key of ["a", "", "ad\ud800"]) assert.equal(index.get(key), undefined);
         assert.deepEqual(["ad", bytes("adef"), "ade"].map((key) => index.has(key)), [true, true, false]);
@@ -163,6 +179,17 @@ function indexes() {
     fails("DAMAGED", /of its 80 bytes/, () => ZeroIndex.open(file.subarray(0, -1)));
     for (let at = 11; at < file.length; at++) {
         const changed = file.slice();
+        changed[at] ^= 1;
+        fails("DAMAGED", /damaged/, () => ZeroIndex.open(changed));
+    }
+    const long = ZeroIndex.open(sealedInBlocks(new Uint8Array(150000).fill(7))).bytes;
+    assert.ok(long.length === 150000 && long.every((byte) => byte === 7));
+    fails("INDEX", /index/, () => ZeroTrie.open(inBlocks));
+    for (const damaged of [inBlocks.subarray(0, -1), inBlocks.subarray(0, 30), new Uint8Array([...inBlocks, 0])]) {
+        fails("DAMAGED", /damaged/, () => ZeroIndex.open(damaged));
+    }
+    for (let at = 12; at < inBlocks.length; at++) {
+        const changed = inBlocks.slice();
         changed[at] ^= 1;
         fails("DAMAGED", /damaged/, () => ZeroIndex.open(changed));
     }
