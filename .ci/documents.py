@@ -43,7 +43,7 @@ LIMITS = {
     "docs/CPP.md": 800,
     "docs/DECISIONS.md": 1672,
     "docs/DIFFERENCES.md": 1300,
-    "docs/FORMAT.md": 4210,
+    "docs/FORMAT.md": 4290,
     "docs/JAVASCRIPT.md": 550,
     "docs/MODEL.md": 1580,
     "docs/PYTHON.md": 845,
