@@ -201,8 +201,8 @@ fn bytes_of_flat(
 ///
 /// `selection` is the number of which keys are taken, and `rule` of which value a key gets that
 /// more than one trie has. Keys are compared as they are stored. An error is a key that more than
-/// one trie has if the rule refuses that, a sum of 2^64 or more, bytes that are not valid, or one
-/// of a build. Then nothing is written.
+/// one trie has if the rule refuses that, or has with different values if it wants equal ones, a
+/// sum of 2^64 or more, bytes that are not valid, or one of a build. Then nothing is written.
 pub fn zerotrie_combine(
     alloc: Global,
     selection: u32,
