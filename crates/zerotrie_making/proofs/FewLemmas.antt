@@ -7,7 +7,7 @@ use Rattle.std.specs.declared.cmp.Ordering.TheVariants.{Less, Equal, Greater}
 use Rattle.std.specs.Cmp.{tied_itself}
 use Rattle.std.specs.Cmp.Lexicographic.{slice_cmp, nat_list_cmp_total}
 use Rattle.std.specs.List.{AllByRecursion}
-use Rattle.std.proofs.lemmas.List.Elements.{recursion_from_All}
+use Rattle.std.proofs.lemmas.List.Elements.{All-cons, All-nil, recursion_from_All}
 use Rattle.zerotrie_base.proofs.CanonicalLemmas.Fitting.{fits_meant}
 use Rattle.zerotrie_base.proofs.MapLemmas.Alike.{value_at-find}
 use Rattle.zerotrie_core.specs.Kind.{Kind, simple_ascii, ignore_case, perfect_hash, extended_capacity, flags}
@@ -22,7 +22,7 @@ use Rattle.zerotrie_sets.specs.declared.combined.Operation.TheVariants as operat
 use Rattle.zerotrie_sets.specs.declared.selection.Rule.{Rule}
 use Rattle.zerotrie_sets.specs.declared.selection.Rule.TheVariants as rules
 use Rattle.zerotrie_sets.specs.declared.selection.RuleError.{RuleError}
-use Rattle.zerotrie_sets.specs.declared.selection.RuleError.TheVariants.{SeveralValues, SumTooLarge}
+use Rattle.zerotrie_sets.specs.declared.selection.RuleError.TheVariants.{SeveralValues, DifferentValues, SumTooLarge}
 use Rattle.zerotrie_sets.specs.declared.selection.Selection.TheVariants as selections
 use Rattle.zerotrie_queries.specs.Recased.{looked_up}
 use Rattle.zerotrie_queries.proofs.RecasedLemmas.{looked_up_ascends}
@@ -115,10 +115,12 @@ first_alone rule (Some v) (Some w) = refl
 
 pub first_valued : (one other : Option ℕ) (why : RuleError) → IsRuleError selections.Intersection rules.First (one ∷ other ∷ []) why → ⊥
 first_valued one other SeveralValues h = let e : rules.First ≡ rules.Refuse = h.1.0 in cc
+first_valued one other DifferentValues h = let e : rules.First ≡ rules.Equal = h.1.0 in cc
 first_valued one other SumTooLarge h = let e : rules.First ≡ rules.Sum = h.1.0 in cc
 
 pub last_valued : (one other : Option ℕ) (why : RuleError) → IsRuleError selections.Intersection rules.Last (one ∷ other ∷ []) why → ⊥
 last_valued one other SeveralValues h = let e : rules.Last ≡ rules.Refuse = h.1.0 in cc
+last_valued one other DifferentValues h = let e : rules.Last ≡ rules.Equal = h.1.0 in cc
 last_valued one other SumTooLarge h = let e : rules.Last ≡ rules.Sum = h.1.0 in cc
 
 same_value : (v n : ℕ) → Some v ≡ Some n → v ≡ n
@@ -133,6 +135,7 @@ alone_valued rule None None why small h = false_true h.0
 alone_valued rule None (Some w) why small h = false_true h.0
 alone_valued rule (Some v) (Some w) why small h = false_true h.0
 alone_valued rule (Some v) None SeveralValues small h = let few = h.1.1 in omega (arith, few)
+alone_valued rule (Some v) None DifferentValues small h = h.1.1 (v, All-cons (λ value. value ≡ v) v [] refl (All-nil (λ value. value ≡ v)))
 alone_valued rule (Some v) None SumTooLarge small h =
     let same = same_value v h.1.1 h.1.2 in
     let over = h.1.3 in
