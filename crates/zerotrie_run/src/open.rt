@@ -86,6 +86,14 @@ pub fn open_index<'a>(
     }
 }
 
+/// Returns whether a file is sealed as an index, by why it has no trie.
+fn is_index(why: &OpenError) -> bool {
+    match why {
+        OpenError::Damaged(SealError::UnknownKind(number)) => is_index_number(*number),
+        _ => false,
+    }
+}
+
 /// Opens the trie in the bytes of a file. If they are a damaged index, and an index answers the
 /// question, the error says what is wrong with its seal.
 pub fn open_trie<'a>(
@@ -101,11 +109,7 @@ pub fn open_trie<'a>(
         Ok(trie) => return Ok(trie),
         Err(why) => why,
     };
-    let is_index = match why {
-        OpenError::Damaged(SealError::UnknownKind(number)) => is_index_number(number),
-        _ => false,
-    };
-    if is_index && asks_index(question) {
+    if is_index(&why) && asks_index(question) {
         if let Err(fault) = zerotrie_sealed::open_index(held) {
             return Err(OpenError::Damaged(fault));
         }
