@@ -1,0 +1,7 @@
+use Rattle.zerotrie_run.proofs.FileLemmas.{index_unopened}
+use Rattle.zerotrie_run.proofs.open.open_trie.Goals as goal
+
+pub returns-in-Err-open_index-clause-err : goal.returns-in-Err-open_index-clause-err
+returns-in-Err-open_index-clause-err c =
+    index_unopened c.args.file c.args.held.now c.in-Err.why c.in-Err-open_index.fault (c.is_index.ensures.0 c.if-is_index.true) c.in-Err.ensures.err
+    c.in-Err-open_index.ensures.fault
