@@ -31,7 +31,7 @@ LIMITS = {
     "bindings/README.md": 330,
     "bindings/python/README.md": 120,
     "crates/zerotrie_cli/NOTES.md": 688,
-    "crates/zerotrie_cli/README.md": 1200,
+    "crates/zerotrie_cli/README.md": 1210,
     "crates/zerotrie_index/README.md": 475,
     "crates/zerotrie_reverse/README.md": 320,
     "crates/zerotrie_search/README.md": 490,
