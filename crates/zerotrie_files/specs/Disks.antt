@@ -1,5 +1,5 @@
 -- A disk from moment to moment, and what the calls that replace a file do to it.
-use Rattle.std.specs.Prelude.{◌≡◌, ◌≢◌, ◌⊎◌, ℕ, Bool, true, false, List, ◌++◌, All, Option, Some, None, Result, MatchBool, MatchResult, OnOk}
+use Rattle.std.specs.Prelude.{◌≡◌, ◌≢◌, ◌⊎◌, ℕ, ◌+◌, ◌<◌, Bool, true, false, List, ◌++◌, length, take, drop, All, Option, Some, None, Result, MatchBool, MatchResult, OnOk}
 use Rattle.std.specs.declared.io.Error.{Error}
 use Rattle.zerotrie_files.specs.Faults.{IsOutOfMemory}
 use Rattle.zerotrie_files.specs.declared.found.Found.{Found}
@@ -113,6 +113,14 @@ IsFound held Stream = held ≢ None
 -- why a file is not read: there is none, or it is out of memory
 abbrev pub IsUnread : List ℕ → Story → Error → Type 0
 IsUnread path known e = (known.now path ≡ None) ⊎ IsOutOfMemory e
+
+-- these are as many bytes of the file from the place on
+abbrev pub IsPartOfFile : List ℕ → ℕ → List ℕ → Story → Type 0
+IsPartOfFile path place part known = (bytes : List ℕ) × (known.now path ≡ Some bytes) × (part ≡ take (length part) (drop place bytes))
+
+-- why this many bytes of a file are not read from the place on: it has fewer, there is none, or it is out of memory
+abbrev pub IsPartUnread : List ℕ → ℕ → ℕ → Story → Error → Type 0
+IsPartUnread path place count known e = IsUnread path known e ⊎ ((bytes : List ℕ) × (known.now path ≡ Some bytes) × (length bytes < place + count))
 
 -- there is no stream: it fails, and no file changes
 abbrev pub HasNoStream : {T E : Type 0} → Result T E → Story → Story → Type 0

@@ -1,12 +1,12 @@
 //! The calls of a file system that read a file and replace one.
 
-ghost use Rattle.std.specs.Prelude.{◌≡◌, ◌⊎◌, [], List, ℕ, Option, true, false, IfOk, IfErr, IfSome, OnOk};
+ghost use Rattle.std.specs.Prelude.{◌≡◌, ◌⊎◌, [], List, ℕ, length, Option, true, false, IfOk, IfErr, IfSome, OnOk};
 ghost use Rattle.std.specs.String.{string_bytes};
 ghost use Rattle.zerotrie_files.specs.Stores.{names_open_file};
 ghost use Rattle.std.specs.declared.io.Error.{Error};
 ghost use Rattle.zerotrie_files.specs.declared.found.Found.{Found};
 ghost use Rattle.zerotrie_files.specs.Deeds.{Deed, Did, DoesOrFails, Gets, filled, moved};
-ghost use Rattle.zerotrie_files.specs.Disks.{Story, Known, IsFound, IsUnread, Makes, Fills, Renames, Removes, HasNoStream};
+ghost use Rattle.zerotrie_files.specs.Disks.{Story, Known, IsFound, IsUnread, IsPartOfFile, IsPartUnread, Makes, Fills, Renames, Removes, HasNoStream};
 
 use crate::found::{Found, Mode};
 use std::io;
@@ -43,6 +43,15 @@ pub trait Disk {
             IfSome (story self.now) (λ known. known.now path.now ≡ Some bytes.items)) }
         ensures missing { IfErr result (λ e.
             IfSome (story self.now) (λ known. IsUnread path.now known e)) }
+        ensures fault { IfErr result is_fault };
+
+    /// Fills the room with the bytes of the file of a path from this place on. A file that has fewer
+    /// is an error.
+    fn read_at(&self, path: &str, place: u64, room: &mut [u8]) -> io::Result<()>
+        ensures part { IfOk result (λ _.
+            IfSome (story self.now) (IsPartOfFile path.now place room.new)) }
+        ensures missing { IfErr result (λ e.
+            IfSome (story self.now) (λ known. IsPartUnread path.now place (length room.old) known e)) }
         ensures fault { IfErr result is_fault };
 
     /// Returns what a path leads to, by whatever links. A link to nothing is an error.

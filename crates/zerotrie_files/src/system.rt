@@ -6,7 +6,7 @@ use crate::disk::Disk;
 use crate::found::{Found, Mode};
 use std::fs::{File, Metadata, OpenOptions, Permissions};
 use std::io::{ErrorKind, Read, Write};
-use std::os::unix::fs::PermissionsExt;
+use std::os::unix::fs::{FileExt, PermissionsExt};
 use std::process::Process;
 use std::random::RandomSource;
 use std::rt::Files;
@@ -74,6 +74,10 @@ impl<'a, R: Files<File = File> + AllocGlobal + RandomSource> Disk for SystemDisk
         bytes.reserve(usize::try_from(size).unwrap_or(0).saturating_add(1))?;
         file.read_to_end(&mut bytes)?;
         Ok(bytes)
+    }
+
+    fn read_at(&self, path: &str, place: u64, room: &mut [u8]) -> io::Result<()> {
+        File::open(self.system, path)?.read_exact_at(room, place)
     }
 
     fn find(&self, path: &str) -> io::Result<Found> {

@@ -2,6 +2,7 @@ mod AscendLemmas
 mod BucketLemmas
 mod CrowdLemmas
 mod HashLemmas
+mod InBlocksLemmas
 mod LentLemmas
 mod PermutedLemmas
 mod PlacedLemmas

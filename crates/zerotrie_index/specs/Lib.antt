@@ -1,6 +1,7 @@
 pub mod Hash
 pub mod Layout
 pub mod Placed
+pub mod InBlocks
 pub mod Hashed
 pub mod Built
 pub mod Valid

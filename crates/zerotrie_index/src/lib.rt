@@ -4,6 +4,7 @@
 mod builder;
 mod error;
 mod hash;
+mod in_blocks;
 mod index;
 pub mod laws;
 mod lent;
@@ -15,6 +16,7 @@ mod well_formed;
 pub use builder::{BUCKET_LIMIT, SEEDS_TRIED, build, build_all, build_sorted};
 pub use error::{NotAnIndex, ZeroIndexBuildError};
 pub use hash::hash_of;
+pub use in_blocks::SealedIndex;
 pub use index::ZeroIndex;
 pub use lent::ZeroIndexBuilder;
 pub use placed::{ReadAt, get_at};

@@ -56,7 +56,7 @@ where
 }
 
 /// Reads as many bytes from this place on. Its memory grows with those that are there.
-fn read_part<S: ReadAt>(
+pub(crate) fn read_part<S: ReadAt>(
     alloc: Global,
     source: &mut S,
     place: u64,

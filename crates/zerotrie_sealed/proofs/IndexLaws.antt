@@ -1,15 +1,15 @@
 -- One file is one sealed index, and stays none if it is changed.
 use Rattle.std.proofs.Common.{◌≡◌, ℕ, suc, ◌+◌, ◌-◌, ◌*◌, ◌/◌, ◌%◌, ◌^◌, ◌<◌, ◌≤◌, ◌⊎◌, inl, inr, List, [], ◌∷◌, ◌++◌, length, take, drop, get_or, append_assoc, refl, sym, ap, subst, ◌∙◌, length-append, append-nil, arith}
-use Rattle.std.proofs.lemmas.List.{length-drop, take-append-le, drop-append-le}
+use Rattle.std.proofs.lemmas.List.{length-drop, length-take-le, take-append-drop, take-append-le, drop-append-le}
 use Rattle.std.proofs.lemmas.Bool.{cases_lt}
 use Rattle.std.proofs.lemmas.Nat.{from_le_bytes-to_le_bytes_2, from_le_bytes-to_le_bytes_8}
 use Rattle.std.proofs.Math.Seq.{take-append_seam}
 use Rattle.std.specs.Int.{w16, w32, w64, to_le_bytes, from_le_bytes}
 use Rattle.zerotrie_base.specs.Kind.{Kind, simple_ascii, ignore_case, perfect_hash, extended_capacity, tag}
 use Rattle.zerotrie_sealed.specs.Checksum.{crc32c}
-use Rattle.zerotrie_sealed.specs.Sealed.{index_number, blocks_number, block_len, block_count, header_as, sums_of, table_of, IsSealedAs, IsSealed, IsSealedInBlocks, IsSealedIndex}
+use Rattle.zerotrie_sealed.specs.Sealed.{index_number, blocks_number, block_len, block_count, header_as, sums_of, table_of, IsSealedAs, IsSealed, IsSealedInBlocks, IsSealedIndex, HasFront}
 use Rattle.zerotrie_sealed.specs.Faults.{kind_in, length_in, table_in}
-use Rattle.zerotrie_sealed.proofs.Headers.{bytes-take, bytes-drop, kind_in-header, tag-lt, length-sealed, one_content, nothing, none_longer}
+use Rattle.zerotrie_sealed.proofs.Headers.{bytes-take, bytes-drop, kind_in-header, length_in-header, tag-lt, length-sealed, one_content, nothing, none_longer}
 use Rattle.zerotrie_sealed.proofs.Damage.{same_crc, crc32c-one, behind-place, up_to-place, front-bytes, behind-bytes, one_byte}
 use Rattle.zerotrie_sealed.proofs.Sums.{length-table, sums-at}
 use Rattle.zerotrie_sealed.proofs.InBlocks.{three-parts, stands, kind_in-whole, small-table}
@@ -226,3 +226,21 @@ one_byte_of_index index second front behind b d p q (inl x) (inl y) = one_byte i
 one_byte_of_index index second front behind b d p q (inl x) (inr y) = mixed index second front behind b d p q x y
 one_byte_of_index index second front behind b d p q (inr x) (inl y) = sym (mixed second index front behind d b q p y x)
 one_byte_of_index index second front behind b d p q (inr x) (inr y) = in-blocks index second front behind b d p q x y
+
+-- ---- what is behind the front
+
+-- the front of a file, and what is behind it
+front-whole : (start : ℕ) (file : List ℕ) (has : HasFront start file) → file ≡ header_as blocks_number has.2 ++ (has.2 ++ drop start file)
+front-whole start file has =
+    sym (take-append-drop start file) ∙ ap (λ f. f ++ drop start file) has.3.parts ∙ append_assoc (header_as blocks_number has.2) has.2 (drop start file)
+
+pub index_behind : (index file : List ℕ) (start : ℕ) → IsSealedIndex index file → HasFront start file → drop start file ≡ index
+index_behind index file start (inl is) has =
+    absurd (kind_in-whole index file is (ap kind_in (front-whole start file has) ∙ kind_in-header blocks_number has.2 (has.2 ++ drop start file) (omega arith)))
+index_behind index file start (inr is) has =
+    let table : List ℕ = has.2 in
+    let rest : List ℕ = drop start file in
+    let long : 24 + length table ≡ start = sym (length-sealed blocks_number table) ∙ ap length (sym has.3.parts) ∙ length-take-le start file has.0 in
+    let len : length_in file ≡ length table =
+    ap length_in (front-whole start file has) ∙ length_in-header blocks_number table (table ++ rest) (let small = has.1 in omega (arith, long, small)) in
+    ap (λ n. drop n file) (sym long ∙ ap (λ n. 24 + n) (sym len)) ∙ (stands index file is).behind

@@ -1,7 +1,7 @@
 -- Laws of sealed files.
-use Rattle.std.specs.Prelude.{◌≡◌, ◌<◌, ◌^◌, ℕ, List, [], ◌∷◌, ◌++◌, length, slice_index}
+use Rattle.std.specs.Prelude.{◌≡◌, ◌<◌, ◌^◌, ℕ, List, [], ◌∷◌, ◌++◌, length, drop, slice_index}
 use Rattle.zerotrie_base.specs.Kind.{Kind}
-use Rattle.zerotrie_sealed.specs.Sealed.{IsSealed, IsSealedAs, IsSealedIndex}
+use Rattle.zerotrie_sealed.specs.Sealed.{IsSealed, IsSealedAs, IsSealedIndex, HasFront}
 
 -- no file is the seal of two tries, or of one trie in two kinds
 abbrev pub OneTrie : Type 0
@@ -42,3 +42,7 @@ abbrev pub OneByteOfIndexShows : Type 0
 OneByteOfIndexShows = (index second front behind : List ℕ) (b d : ℕ)
     → AreBytes (front ++ (b ∷ behind)) → AreBytes (front ++ (d ∷ behind))
     → IsSealedIndex index (front ++ (b ∷ behind)) → IsSealedIndex second (front ++ (d ∷ behind)) → b ≡ d
+
+-- if a sealed index begins with the front of one in blocks, the index is what is behind it
+abbrev pub IndexIsBehind : Type 0
+IndexIsBehind = (index file : List ℕ) (start : ℕ) → IsSealedIndex index file → HasFront start file → drop start file ≡ index

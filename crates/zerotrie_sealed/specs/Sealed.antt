@@ -1,5 +1,5 @@
 -- Sealed files: a header, and then the bytes of a trie or of an index, or the table of an index, which is behind it.
-use Rattle.std.specs.Prelude.{◌≡◌, ◌⊎◌, ℕ, zero, suc, ◌+◌, ◌/◌, ◌<◌, ◌^◌, List, [], ◌∷◌, ◌++◌, length, take, drop}
+use Rattle.std.specs.Prelude.{◌≡◌, ◌⊎◌, ℕ, zero, suc, ◌+◌, ◌/◌, ◌<◌, ◌≤◌, ◌^◌, List, [], ◌∷◌, ◌++◌, length, take, drop}
 use Rattle.std.specs.Int.{w16, w32, w64, to_le_bytes}
 use Rattle.zerotrie_base.specs.Kind.{Kind, tag}
 use Rattle.zerotrie_sealed.specs.Checksum.{crc32c}
@@ -69,6 +69,11 @@ pub record IsSealedInBlocks (index file : List ℕ) : Type 0 where
   pub sealed : IsSealedAs blocks_number (table_of index) front
   pub parts : file ≡ front ++ index
   pub fits : length index < 2 ^ 64
+
+-- The file begins with as many bytes of a header and of a table, sealed as that of an index in blocks. What is behind
+-- them need not be that index.
+abbrev pub HasFront : ℕ → List ℕ → Type 0
+HasFront start file = (start ≤ length file) × (start < 2 ^ 64) × (table : List ℕ) × IsSealedAs blocks_number table (take start file)
 
 -- the file is the bytes of an index, sealed as a whole or in blocks
 abbrev pub IsSealedIndex : List ℕ → List ℕ → Type 0

@@ -2,7 +2,7 @@
 //!
 //! Each function does nothing: a call brings its law into a proof.
 
-ghost use Rattle.zerotrie_sealed.specs.Laws.{OneTrie, OneContent, NoneLonger, OneByteShows, OneIndex, NoIndexLonger, OneByteOfIndexShows};
+ghost use Rattle.zerotrie_sealed.specs.Laws.{OneTrie, OneContent, NoneLonger, OneByteShows, OneIndex, NoIndexLonger, OneByteOfIndexShows, IndexIsBehind};
 
 /// A file is the seal of one trie at most, in one kind.
 pub fn one_trie()
@@ -39,4 +39,10 @@ pub fn no_index_longer()
 /// A sealed index in which one byte is replaced by another is no sealed index.
 pub fn one_byte_of_index_shows()
     ensures { OneByteOfIndexShows }
+{}
+
+/// If a sealed index begins with the front of one in blocks, the index is what is behind it. So what is
+/// read there at places is what `open_index` returns.
+pub fn index_is_behind()
+    ensures { IndexIsBehind }
 {}

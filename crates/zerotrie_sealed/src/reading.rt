@@ -8,6 +8,8 @@ ghost use Rattle.zerotrie_sealed.specs.Faults.{IsFileFault, IsHeaderFault, IsSea
 
 use crate::checksum::crc32c_of_both;
 use crate::writing::{FRONT_LEN, HEADER_LEN, MAGIC, VERSION};
+use std::io;
+use std::io::ErrorKind;
 use thiserror::Error;
 use zerotrie_base::TrieKind;
 
@@ -35,6 +37,18 @@ pub enum SealError {
     /// not that of the table, or the table is not that of the index.
     #[error("the file is damaged: its bytes do not have the checksum that it was written with")]
     Checksum,
+}
+
+/// Of the kind `InvalidData`, for those who read files at places.
+impl From<SealError> for io::Error {
+    ghost use Rattle.std.specs.IoError.{error_kind};
+    ghost use Rattle.std.specs.declared.io.ErrorKind.TheVariants as kind;
+
+    ghost from_gives = { λ _ e. error_kind e ≡ kind.InvalidData };
+
+    fn from(_: SealError) -> Self {
+        io::Error::from(ErrorKind::InvalidData)
+    }
 }
 
 /// What a sealed file has.
