@@ -1,11 +1,12 @@
 -- What is printed of texts that are answered part by part.
-use Rattle.std.proofs.Common.{◌≡◌, ℕ, ◌+◌, ◌<◌, inl, inr, List, [], ◌∷◌, ◌++◌, map, take, drop, length, get_or, Option, None, Bool, true, false, refl, sym, ◌∙◌, ap, subst, arith, append_assoc, append-nil}
+use Rattle.std.proofs.Common.{◌≡◌, ℕ, ◌+◌, ◌<◌, inl, inr, List, [], ◌∷◌, ◌++◌, map, take, drop, length, get_or, Option, Some, None, Bool, true, false, refl, sym, ◌∙◌, ap, subst, arith, append_assoc, append-nil}
 use Rattle.std.specs.Prelude.{◌&&◌, nat_lt, is_some, codes}
 use Rattle.std.specs.Borrow.{Bor}
 use Rattle.std.specs.Io.KnownBytes.{Appends}
 use Rattle.std.proofs.lemmas.List.{take_more, take-append-drop, get_or-map, length-map}
 use Rattle.std.proofs.KnownBytes.{Appends-nil, Appends-trans}
-use Rattle.zerotrie_core.specs.Maps.{Map, Pairs, look}
+use Rattle.zerotrie_core.specs.Kind.{simple_ascii}
+use Rattle.zerotrie_core.specs.Maps.{Map, Pairs, look, value_at}
 use Rattle.zerotrie_core.specs.Prefixes.{fronts}
 use Rattle.zerotrie_core.specs.Borders.{at_borders}
 use Rattle.zerotrie_core.specs.Texts.{Lists, Means}
@@ -17,8 +18,10 @@ use Rattle.zerotrie_queries.specs.declared.question.Spelling.{Spelling}
 use Rattle.zerotrie_queries.specs.declared.question.Spelling.TheVariants.{Plain, Escaped}
 use Rattle.zerotrie_queries.specs.declared.question.Query.{Query}
 use Rattle.zerotrie_queries.specs.Printed.{value_line, value_lines, key_line, found_line, fronts_text, first_key_line, are_found}
-use Rattle.zerotrie_queries.specs.Answers.{IsAnswer, IsAnswerAs, IsAdded, Belongs, AreAnswered, AreAnsweredInPart, as_is, with_escapes}
-use Rattle.zerotrie_queries.specs.Finders.{Dictionary, TrieFinds, dictionary_of}
+use Rattle.zerotrie_queries.specs.Answers.{IsAnswer, IsAnswerAs, AddsAnswer, IsAdded, IsAddedAt, AreAddedAt, Belongs, AreAnswered, AreAnsweredInPart, as_is, with_escapes}
+use Rattle.zerotrie_queries.specs.Finders.{Dictionary, TrieFinds, IndexFinds, asks_keys, dictionary_of}
+use Rattle.zerotrie_index.specs.Layout.{IsIndex}
+use Rattle.zerotrie_index.specs.Placed as placed
 use Rattle.zerotrie_lines.specs.Escapes.{Spells}
 use Rattle.zerotrie_lines.proofs.SpellingLemmas.{spells_or_not}
 use Rattle.zerotrie_files.specs.Parts.{AppendsPart}
@@ -187,3 +190,42 @@ is_plain q is = ap (query_of q.asked) (sym is)
 
 pub is_escaped : (q : Query) → q.spelling ≡ Escaped → with_escapes q.asked ≡ q
 is_escaped q is = ap (query_of q.asked) (sym is)
+
+-- ---- answers of an index
+
+-- what is added for the value that an index has is its answer
+pub by_index : (asked : Asked) (bytes key old new : List ℕ) (value : Option ℕ) (found : Bool) → ((pairs : Pairs) → IsIndex pairs bytes → value ≡ value_at simple_ascii pairs key)
+    → ((pairs : Pairs) → asks_keys asked ≡ true → value ≡ value_at simple_ascii pairs key → AddsAnswer (as_is asked) (dictionary_of (value_at simple_ascii pairs) pairs) key old new found)
+    → IsAdded (as_is asked) (IndexFinds asked bytes) key old new found
+by_index asked bytes key old new value found is adds d has =
+    subst (λ e. AddsAnswer (as_is asked) e key old new found) (sym has.3) (adds has.1 has.0 (is has.1 has.2))
+
+pub by_index_at : (held : Option (List ℕ)) (asked : Asked) (key old new : List ℕ) (value : Option ℕ) (found : Bool) → placed.IsAnswer held key value
+    → ((pairs : Pairs) → asks_keys asked ≡ true → value ≡ value_at simple_ascii pairs key → AddsAnswer (as_is asked) (dictionary_of (value_at simple_ascii pairs) pairs) key old new found)
+    → IsAddedAt held (as_is asked) key old new found
+by_index_at None asked key old new value found is adds = tt
+by_index_at (Some bytes) asked key old new value found is adds = by_index asked bytes key old new value found is adds
+
+-- the same by how a text is written
+pub plain_at : (held : Option (List ℕ)) (q : Query) (text old new : List ℕ) (found : Bool) → q.spelling ≡ Plain → IsAddedAt held (as_is q.asked) text old new found
+    → IsAddedAt held q text old new found
+plain_at held q text old new found is h = subst (λ x. IsAddedAt held x text old new found) (is_plain q is) h
+
+pub escaped_at : (held : Option (List ℕ)) (q : Query) (text key old new : List ℕ) (found : Bool) → q.spelling ≡ Escaped → Spells text key → IsAddedAt held (as_is q.asked) key old new found
+    → IsAddedAt held q text old new found
+escaped_at None q text key old new found is spells h = tt
+escaped_at (Some bytes) q text key old new found is spells h =
+    subst (λ x. IsAdded x (IndexFinds x.asked bytes) text old new found) (is_escaped q is) (added_spelled q.asked (IndexFinds q.asked bytes) text key old new found spells h)
+
+-- the answers to no texts, and to one more
+pub none_at : (held : Option (List ℕ)) (q : Query) (a : List ℕ) → AreAddedAt held q [] a a true
+none_at None q a = tt
+none_at (Some bytes) q a = λ d has. ([], (refl, refl), sym (append-nil a))
+
+pub more_at : (held : Option (List ℕ)) (q : Query) (texts : List (List ℕ)) (text a b c : List ℕ) (all found : Bool) → AreAddedAt held q texts a b all → IsAddedAt held q text b c found
+    → AreAddedAt held q (texts ++ text ∷ []) a c (all && found)
+more_at None q texts text a b c all found h k = tt
+more_at (Some bytes) q texts text a b c all found h k = λ d has.
+    let x = h d has in
+    let y = k d has in
+    (x.0 ++ y.0, more_asked q d texts (text ∷ []) x.0 y.0 all found x.1 (one_asked q d text y.0 found y.1), y.2 ∙ ap (λ l. l ++ y.0) x.2 ∙ append_assoc a x.0 y.0)

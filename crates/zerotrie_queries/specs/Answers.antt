@@ -1,5 +1,5 @@
 -- What is printed of keys and texts that a trie is asked for.
-use Rattle.std.specs.Prelude.{◌≡◌, ◌⊎◌, ℕ, List, [], ◌∷◌, ◌++◌, ◌&&◌, map, length, nat_lt, Option, None, Bool, true, false, is_some, codes}
+use Rattle.std.specs.Prelude.{◌≡◌, ◌⊎◌, ℕ, List, [], ◌∷◌, ◌++◌, ◌&&◌, map, length, nat_lt, Option, None, IfSome, Bool, true, false, is_some, codes}
 use Rattle.std.specs.Borrow.{Bor}
 use Rattle.std.specs.Io.KnownBytes.{Appends}
 use Rattle.zerotrie_core.specs.Kind.{Kind}
@@ -9,7 +9,7 @@ use Rattle.zerotrie_core.specs.Borders.{at_borders}
 use Rattle.zerotrie_files.specs.Parts.{AppendsPart}
 use Rattle.zerotrie_lines.specs.Escapes.{Spells}
 use Rattle.zerotrie_lines.specs.Numbers.{IsNumber}
-use Rattle.zerotrie_queries.specs.Finders.{Dictionary}
+use Rattle.zerotrie_queries.specs.Finders.{Dictionary, IndexFinds}
 use Rattle.zerotrie_queries.specs.Printed.{value_line, key_line, found_line, fronts_text, first_key_line}
 use Rattle.zerotrie_queries.specs.declared.question.Asked.{Asked}
 use Rattle.zerotrie_queries.specs.declared.question.Asked.TheVariants.{Value, Pair, Longest, LongestAt, Prefixes, KeyOf}
@@ -78,3 +78,12 @@ AddsAnswer query d text old new found = (printed : List ℕ) × IsAnswerAs query
 -- it was, whichever dictionary it may be
 abbrev pub IsAdded : Query → (Dictionary → Type 0) → (text old new : List ℕ) → (found : Bool) → Type 0
 IsAdded query MayHave text old new found = (d : Dictionary) → MayHave d → AddsAnswer query d text old new found
+
+-- the answer of an index, if its bytes are known, was added to a buffer
+abbrev pub IsAddedAt : Option (List ℕ) → Query → (text old new : List ℕ) → (found : Bool) → Type 0
+IsAddedAt held query text old new found = IfSome held (λ bytes. IsAdded query (IndexFinds query.asked bytes) text old new found)
+
+-- the answers to texts were, one after another
+abbrev pub AreAddedAt : Option (List ℕ) → Query → (texts : List (List ℕ)) → (old new : List ℕ) → (all : Bool) → Type 0
+AreAddedAt held query texts old new all = IfSome held (λ bytes. (d : Dictionary) → IndexFinds query.asked bytes d
+    → (printed : List ℕ) × Belongs query d texts printed all × (new ≡ old ++ printed))

@@ -32,7 +32,7 @@ pub use code::{Language, is_name, write_trie_code};
 pub use diff::write_diff;
 pub use file::{OpenError, of_tagged, open, open_unchecked};
 pub use listing::{ListError, write_distances, write_list};
-pub use lookups::write_answers;
+pub use lookups::{add_answers_at, write_answers};
 pub use print::{Form, Style};
 pub use question::{Asked, Choice, Finder, Order, Pattern, Query, Sought, Spelling};
 pub use reports::{Branches, Report, ReportForm, write_trie_report};

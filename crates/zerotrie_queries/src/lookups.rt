@@ -1,14 +1,15 @@
 //! Look-ups of keys, of the keys that texts begin with, and of values.
 
-ghost use Rattle.std.specs.Prelude.{◌≡◌, ◌++◌, map, length, IfOk, OnErr};
-ghost use Rattle.zerotrie_core.specs.Maps.{Map, Pairs, look};
+ghost use Rattle.std.specs.Prelude.{◌≡◌, ◌++◌, map, length, true, IfOk, OnErr};
+ghost use Rattle.zerotrie_core.specs.Kind.{simple_ascii};
+ghost use Rattle.zerotrie_core.specs.Maps.{Map, Pairs, look, value_at};
 ghost use Rattle.zerotrie_core.specs.Prefixes.{Leaves, fronts_left};
 ghost use Rattle.zerotrie_core.specs.Texts.{Lists, Means};
 ghost use Rattle.zerotrie_core.specs.Kinds.{kind_of};
 ghost use Rattle.zerotrie_files.specs.Faults.{IsNoted};
 ghost use Rattle.zerotrie_queries.specs.Printed.{front_lines};
-ghost use Rattle.zerotrie_queries.specs.Finders.{Finds, IndexFinds, dictionary_of};
-ghost use Rattle.zerotrie_queries.specs.Answers.{as_is, with_escapes, AddsAnswer, IsAdded, AreAnswered, AreAnsweredInPart};
+ghost use Rattle.zerotrie_queries.specs.Finders.{Finds, IndexFinds, asks_keys, dictionary_of};
+ghost use Rattle.zerotrie_queries.specs.Answers.{as_is, with_escapes, AddsAnswer, IsAdded, IsAddedAt, AreAddedAt, AreAnswered, AreAnsweredInPart};
 ghost use Rattle.zerotrie_queries.specs.declared.question.Asked.TheVariants.{Prefixes};
 
 mod first_keys;
@@ -23,7 +24,7 @@ use std::io;
 use std::io::Write;
 use zerotrie_core::{CommonPrefixes, Trie, TrieRef};
 use zerotrie_files::Noted;
-use zerotrie_index::get;
+use zerotrie_index::{ReadAt, get, get_at};
 use zerotrie_lines::{unescape, write_number};
 
 /// Adds the lines of the keys to come that a text begins with, and returns how many there are.
@@ -112,17 +113,18 @@ fn add_trie_answer(
     }
 }
 
-/// Adds what an index was asked of a key, and returns whether it was found.
-fn add_index_answer(
+/// Adds the value that an index has for a key, as it was asked for, and returns whether there is one.
+fn add_indexed(
     line: &mut Vec<u8>,
-    index: &[u8],
+    value: Option<usize>,
     asked: Asked,
     key: &[u8],
 ) -> Result<bool, AllocError>
-    ensures { IfOk result (λ found. IsAdded (as_is asked) (IndexFinds asked index.now) key.now
+    ensures { IfOk result (λ found. (pairs : Pairs) → asks_keys asked ≡ true
+        → value ≡ value_at simple_ascii pairs key.now
+        → AddsAnswer (as_is asked) (dictionary_of (value_at simple_ascii pairs) pairs) key.now
         line.old.items line.new.items found) }
 {
-    let value = get(index, key);
     match asked {
         Asked::Pair => {
             add_key_value(line, key, value)?;
@@ -133,6 +135,93 @@ fn add_index_answer(
             Ok(value.is_some())
         }
     }
+}
+
+/// Adds what an index was asked of a key, and returns whether it was found.
+fn add_index_answer(
+    line: &mut Vec<u8>,
+    index: &[u8],
+    asked: Asked,
+    key: &[u8],
+) -> Result<bool, AllocError>
+    ensures { IfOk result (λ found. IsAdded (as_is asked) (IndexFinds asked index.now) key.now
+        line.old.items line.new.items found) }
+{
+    add_indexed(line, get(index, key), asked, key)
+}
+
+/// The same of an index that is read at places.
+fn add_answer_at<S: ReadAt>(
+    alloc: Global,
+    line: &mut Vec<u8>,
+    index: &mut S,
+    asked: Asked,
+    key: &[u8],
+) -> Result<bool, S::Error>
+where
+    S::Error: From<AllocError>,
+    ensures added { IfOk result (λ found. IsAddedAt (S.held index.old) (as_is asked) key.now
+        line.old.items line.new.items found) }
+    ensures same { S.held index.new ≡ S.held index.old }
+{
+    let value = get_at(alloc, index, key)?;
+    Ok(add_indexed(line, value, asked, key)?)
+}
+
+/// The same of a text, by how it is written. `buffer` is overwritten.
+fn add_queried_at<S: ReadAt>(
+    alloc: Global,
+    line: &mut Vec<u8>,
+    buffer: &mut Vec<u8>,
+    index: &mut S,
+    query: Query,
+    text: &[u8],
+) -> Result<bool, S::Error>
+where
+    S::Error: From<AllocError>,
+    ensures added { IfOk result (λ found. IsAddedAt (S.held index.old) query text.now
+        line.old.items line.new.items found) }
+    ensures same { S.held index.new ≡ S.held index.old }
+{
+    match query.spelling {
+        Spelling::Plain => {
+            let found = add_answer_at(alloc, line, index, query.asked, text)?;
+            Ok(found)
+        }
+        Spelling::Escaped => {
+            if !unescape(text, buffer)? {
+                line.extend_from_slice(b"none\n")?;
+                return Ok(false);
+            }
+            let key = buffer.as_slice();
+            let found = add_answer_at(alloc, line, index, query.asked, key)?;
+            Ok(found)
+        }
+    }
+}
+
+/// Adds the answer to each text by an index that is read at places, one after another, and returns
+/// whether all was found. The answers are those of `write_answers` to `Finder::Index`. An error is
+/// one of a read or of an allocation.
+pub fn add_answers_at<S: ReadAt>(
+    alloc: Global,
+    lines: &mut Vec<u8>,
+    index: &mut S,
+    query: Query,
+    texts: &[&[u8]],
+) -> Result<bool, S::Error>
+where
+    S::Error: From<AllocError>,
+    ensures added { IfOk result (λ all. AreAddedAt (S.held index.old) query
+        (map (λ t. t.now) texts.now) lines.old.items lines.new.items all) }
+    ensures same { S.held index.new ≡ S.held index.old }
+{
+    let mut buffer = Vec::new(alloc);
+    let mut all = true;
+    for text in texts {
+        all &= add_queried_at(alloc, lines, &mut buffer, index, query, text)?;
+    }
+    Ok(all)
 }
 
 /// Adds what was asked of a text, and returns whether it was found.

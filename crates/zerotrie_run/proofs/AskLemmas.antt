@@ -182,7 +182,7 @@ ends_unanswered file q i j files held old new (NoTrie (BadTag why) t) read same 
 ends_unanswered file q i j files held old new (NoTrie (Damaged why) t) read same h = ((held, read, Damaged why, h.0), h.2)
 ends_unanswered file q i j files held old new (NoTrie (NotWellFormed k f) t) read same h = ((held, read, NotWellFormed k f, h.0), h.2)
 ends_unanswered file q i j files held old new (NoTrie OutOfMemory t) read same h = inl h.2
-ends_unanswered file q i j files held old new (Unanswered e) read same h = inr (record { held = held; read = read; content = h.0; opens = h.1; begun = same h.0 h.2 })
+ends_unanswered file q i j files held old new (Unanswered e) read same h = inr (record { held = held; read = read; content = h.0; opens = inl h.1; begun = same h.0 h.2 })
 ends_unanswered file q i j files held old new (NotText key) read same h = (key.items, record { held = held; read = read; kind = h.0; bytes = h.1; opens = h.2; shows = h.3 }, h.4)
 
 -- why it has none is so of what was read

@@ -7,9 +7,9 @@ use Rattle.zerotrie_core.specs.declared.TrieKind.{TrieKind}
 use Rattle.zerotrie_core.specs.declared.TrieKind.TheVariants.{Simple, Ignore, Hash, Ext}
 use Rattle.zerotrie_any.specs.Tagged.{tagged, IsTagFault}
 use Rattle.zerotrie_any.specs.declared.bytes.TagError.{TagError}
-use Rattle.zerotrie_sealed.specs.Sealed.{IsSealedAs, IsSealedIndex, IsIndexNumber, index_number}
-use Rattle.zerotrie_sealed.specs.Faults.{IsFaultBy, IsIndexFault, IsSealFault, kind_in}
-use Rattle.zerotrie_sealed.specs.declared.reading.SealError.TheVariants.{NoMagic, UnknownVersion, UnknownKind, CutShort, TooLong, Checksum}
+use Rattle.zerotrie_sealed.specs.Sealed.{IsSealedAs, IsSealedIndex, index_number}
+use Rattle.zerotrie_sealed.specs.Faults.{IsIndexFault}
+use Rattle.zerotrie_sealed.specs.declared.reading.SealError.TheVariants.{UnknownKind}
 use Rattle.zerotrie_sealed.specs.Laws.{OneTrie, OneIndex}
 use Rattle.zerotrie_sealed.specs.declared.reading.SealError.{SealError}
 use Rattle.zerotrie_queries.specs.Files.{Holds, HoldsUnsealed, HoldsSealed, HasMagic, HasNoKind, IsDamaged}
@@ -148,26 +148,15 @@ opened one check.Full named file (unopened.Damaged why) k b none h = not_damaged
 opened one check.Full named file (unopened.NotWellFormed j f) k b none h = not_unsound one named file j k none.0 b none.1.0 none.1.1 h.0 h.1
 opened one check.Full named file unopened.OutOfMemory k b none h = not_unsound one named file none.0 k none.1 b none.2.0 none.2.1 h.0 h.1
 
--- what is wrong with the seal of an index as a whole is so of a file that is to have a trie
-index_fault : (file : List ℕ) (fault : SealError) → kind_in file ≡ index_number → IsIndexFault file fault → IsSealFault file fault
-index_fault file fault number h = by fault (h.0 (λ is. omega (arith, number, is)))
-  where
-    by : (e : SealError) → IsFaultBy IsIndexNumber file e → IsSealFault file e
-    by NoMagic h = h
-    by (UnknownVersion n) h = h
-    by (UnknownKind n) h = absurd (h.1 (inl (sym h.0 ∙ number)))
-    by CutShort h = h
-    by TooLong h = h
-    by Checksum h = h
-
-pub index_unopened : (file : TrieFile) (held : List ℕ) (why : OpenError) (fault : SealError) → why ≡ unopened.Damaged (UnknownKind index_number)
+-- what is wrong with the seal of an index is so of a file that is to have a trie
+pub index_unopened : (file : TrieFile) (held : List ℕ) (why : OpenError) (number : ℕ) (fault : SealError) → why ≡ unopened.Damaged (UnknownKind number)
     → IsUnopened file held why → IsIndexFault held fault → IsUnopened file held (unopened.Damaged fault)
-index_unopened file held why fault is h damage = by file.check file.bare (subst (λ w. IsUnopenedBy file.check file.bare held w) is h)
+index_unopened file held why number fault is h damage = by file.check file.bare (subst (λ w. IsUnopenedBy file.check file.bare held w) is h)
   where
-    by : (c : Check) (named : Option TrieKind) → IsUnopenedBy c named held (unopened.Damaged (UnknownKind index_number)) → IsUnopenedBy c named held (unopened.Damaged fault)
-    by check.Skip None h = (h.0, index_fault held fault h.1.0 damage, h.2)
-    by check.Usual None h = (h.0, index_fault held fault h.1.0 damage, h.2)
-    by check.Full None h = (h.0, index_fault held fault h.1.0 damage, h.2)
+    by : (c : Check) (named : Option TrieKind) → IsUnopenedBy c named held (unopened.Damaged (UnknownKind number)) → IsUnopenedBy c named held (unopened.Damaged fault)
+    by check.Skip None h = (h.0, inr damage, h.2)
+    by check.Usual None h = (h.0, inr damage, h.2)
+    by check.Full None h = (h.0, inr damage, h.2)
     by check.Skip (Some n) h = h
     by check.Usual (Some n) h = h
     by check.Full (Some n) h = h

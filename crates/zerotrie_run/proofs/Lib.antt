@@ -1,4 +1,5 @@
 mod AskLemmas
+mod AtPlacesLemmas
 mod LineLemmas
 mod MadeLemmas
 mod MessageLemmas

@@ -3,10 +3,10 @@ use Rattle.std.proofs.Common.{◌≡◌, ◌⊎◌, ◌≤◌, arith, ℕ, List,
 use Rattle.std.proofs.lemmas.Option.{same_Some}
 use Rattle.zerotrie_sealed.specs.Laws.{OneTrie}
 use Rattle.zerotrie_files.specs.Disks.{Story}
-use Rattle.zerotrie_run.specs.Runs.{World, Content, IsRead, IsUnopenedFor, OpensFor, RunsAsk, RunsBuild}
+use Rattle.zerotrie_run.specs.Runs.{World, Content, IsRead, IsUnopenedFor, OpensFor, OpensToAnswer, RunsAsk, RunsBuild}
 use Rattle.zerotrie_run.specs.Runs.Content.{of_trie, of_index}
 use Rattle.zerotrie_queries.specs.declared.file.OpenError.{OpenError}
-use Rattle.zerotrie_run.specs.Laws.{HasAnswer, MakesFile, RefusedExactly, UnmadeIsRefused}
+use Rattle.zerotrie_run.specs.Laws.{HasAnswer, HasFrontToAsk, MakesFile, RefusedExactly, UnmadeIsRefused}
 use Rattle.zerotrie_run.specs.Statuses.{number_of}
 use Rattle.zerotrie_run.specs.declared.status.Status.{Status}
 use Rattle.zerotrie_run.specs.declared.status.Status.TheVariants.{Done, Absent, Refused, Taken, BadUsage, BadInput, Unread, Unwritten, OutOfMemory, Closed}
@@ -32,18 +32,24 @@ only_so one file q input files old new runs has =
     not_opened one file q held why (of_trie kind bytes) none h = opened one file.check file.bare held why kind bytes none.0 h
     not_opened one file q held why (of_index bytes) none h = none.1 bytes h
 
+-- what is asked is there
+unasked : {A : Type 0} (file : TrieFile) (q : Question) (input : List ℕ) (files : Story) (held : List ℕ) → IsRead file.place (Some input) (Some files) held → (x : Content)
+    → OpensToAnswer file q held x → (HasAnswer file q input files → ⊥) → (HasFrontToAsk file q input files → ⊥) → A
+unasked file q input files held read x (inl opens) none front = absurd (none (held, read, x, opens))
+unasked file q input files held read x (inr opens) none front = absurd (front (held, read, x, opens))
+
 always_so : (file : TrieFile) (q : Question) (input : List ℕ) (files : Story) (old new : Option (List ℕ)) (status : Status) → RunsAsk file q (Some input) (Some files) old new status → (HasAnswer file q input files → ⊥)
-    → (status ≡ BadInput) ⊎ (status ≡ BadUsage) ⊎ (3 ≤ number_of status)
-always_so file q input files old new Done h none = absurd (none (h.held, h.read, h.content, h.opens))
-always_so file q input files old new Absent h none = absurd (none (h.held, h.read, h.content, h.opens))
-always_so file q input files old new Refused h none = absurd (none (h.1.held, h.1.read, of_trie h.1.kind h.1.bytes, h.1.opens))
-always_so file q input files old new Taken h none = absurd h
-always_so file q input files old new BadUsage h none = inr (inl refl)
-always_so file q input files old new BadInput h none = inl refl
-always_so file q input files old new Unread h none = inr (inr (omega arith))
-always_so file q input files old new Unwritten h none = inr (inr (omega arith))
-always_so file q input files old new OutOfMemory h none = inr (inr (omega arith))
-always_so file q input files old new Closed h none = inr (inr (omega arith))
+    → (HasFrontToAsk file q input files → ⊥) → (status ≡ BadInput) ⊎ (status ≡ BadUsage) ⊎ (3 ≤ number_of status)
+always_so file q input files old new Done h none front = unasked file q input files h.held h.read h.content h.opens none front
+always_so file q input files old new Absent h none front = unasked file q input files h.held h.read h.content h.opens none front
+always_so file q input files old new Refused h none front = absurd (none (h.1.held, h.1.read, of_trie h.1.kind h.1.bytes, h.1.opens))
+always_so file q input files old new Taken h none front = absurd h
+always_so file q input files old new BadUsage h none front = inr (inl refl)
+always_so file q input files old new BadInput h none front = inl refl
+always_so file q input files old new Unread h none front = inr (inr (omega arith))
+always_so file q input files old new Unwritten h none front = inr (inr (omega arith))
+always_so file q input files old new OutOfMemory h none front = inr (inr (omega arith))
+always_so file q input files old new Closed h none front = inr (inr (omega arith))
 
 pub refused_exactly : OneTrie → RefusedExactly
 refused_exactly one file q input files old new status runs = record {

@@ -13,7 +13,7 @@ use Rattle.zerotrie_making.specs.Kept.{kept}
 use Rattle.zerotrie_making.specs.Made.{IsFile, OfInput}
 use Rattle.zerotrie_making.specs.declared.plan.FileForm.{FileForm}
 use Rattle.zerotrie_making.specs.declared.plan.FileForm.TheVariants as form
-use Rattle.zerotrie_run.specs.Runs.{World, IsRead, Opens, Content, OpensFor, HasNoTrie, HasNoAnswer, IsMade, RunsAsk, RunsBuild, asks_index}
+use Rattle.zerotrie_run.specs.Runs.{World, IsRead, Opens, Content, OpensFor, OpensAtPlaces, OpensToAnswer, HasNoTrie, HasNoAnswer, IsMade, RunsAsk, RunsBuild, asks_index}
 use Rattle.zerotrie_run.specs.Runs.Content.{of_trie, of_index}
 use Rattle.zerotrie_run.specs.Statuses.{number_of}
 use Rattle.zerotrie_run.specs.declared.status.Status.{Status}
@@ -52,7 +52,7 @@ IsIndexAsMade pairs made (of_index bytes) = IsSealedIndex bytes made × IsIndexO
 -- No question that an index answers is refused, and whatever a question is asked of is the index that was made.
 pub record IndexOpensAsMade (file : TrieFile) (input : Option (List ℕ)) (files : Option Story) (pairs : Pairs) (made : List ℕ) : Type 0 where
   pub taken : (question : Question) → asks_index question ≡ true → HasNoAnswer file question input files → ⊥
-  pub opened : (question : Question) (held : List ℕ) (content : Content) → IsRead file.place input files held → OpensFor file question held content
+  pub opened : (question : Question) (held : List ℕ) (content : Content) → IsRead file.place input files held → OpensToAnswer file question held content
       → IsIndexAsMade pairs made content
 
 -- what is opened of the file of an index that a build made is an index of the pairs that the build read, if no kind is named; so each
@@ -71,11 +71,15 @@ HasTrie file input files = (held : List ℕ) × IsRead file.place (Some input) (
 abbrev pub HasAnswer : TrieFile → Question → List ℕ → Story → Type 0
 HasAnswer file question input files = (held : List ℕ) × IsRead file.place (Some input) (Some files) held × (content : Content) × OpensFor file question held content
 
+-- the file that is read begins with the front of an index, which is asked at places
+abbrev pub HasFrontToAsk : TrieFile → Question → List ℕ → Story → Type 0
+HasFrontToAsk file question input files = (held : List ℕ) × IsRead file.place (Some input) (Some files) held × (content : Content) × OpensAtPlaces file question held content
+
 -- A question to a file that is not taken without a test is refused as bad input only if the file has no trie, nor an index that answers it;
--- and if it has none, that is how it ends, unless the usage is bad or something failed.
+-- and if it has none, nor the front of an index that is asked at places, that is how it ends, unless the usage is bad or something failed.
 pub record IsRefusedExactly (file : TrieFile) (question : Question) (input : List ℕ) (files : Story) (status : Status) : Type 0 where
   pub only : status ≡ BadInput → HasAnswer file question input files → ⊥
-  pub always : (HasAnswer file question input files → ⊥) → (status ≡ BadInput) ⊎ (status ≡ BadUsage) ⊎ (3 ≤ number_of status)
+  pub always : (HasAnswer file question input files → ⊥) → (HasFrontToAsk file question input files → ⊥) → (status ≡ BadInput) ⊎ (status ≡ BadUsage) ⊎ (3 ≤ number_of status)
 
 -- so each question ends, over files and an input that are known
 abbrev pub RefusedExactly : Type 0

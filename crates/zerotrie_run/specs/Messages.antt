@@ -76,9 +76,9 @@ source_name place = place_name place (codes "standard input")
 abbrev pub target_name : Place → List ℕ
 target_name place = place_name place (codes "standard output")
 
--- what a line on a place begins with
+-- what a line on a place begins with: no byte of a name steers a terminal
 abbrev pub line_front : List ℕ → List ℕ
-line_front place = (codes "zerotrie: " ++ place) ++ codes ": "
+line_front place = (codes "zerotrie: " ++ escaped place) ++ codes ": "
 
 -- a text is a line on the place of this name
 abbrev pub IsLineOn : List ℕ → List ℕ → Type 0
@@ -152,7 +152,7 @@ abbrev pub tag_words : Bool → TagError → List ℕ
 tag_words true why = codes "it looks like text: build it first"
 tag_words false Empty = codes "the file is empty"
 tag_words false InvalidTag =
-    codes "no file of zerotrie build: no kind has the number that the file begins with; if it is bare bytes, name their kind by --bare"
+    codes "not a file of zerotrie build: its first byte is the number of no kind; if it is bare bytes, name their kind by --bare"
 
 -- a message tells why a file has no trie: what it is, or the rule and the place of the first fault
 abbrev pub TellsNoTrie : OpenError → Bool → List ℕ → Type 0
@@ -214,7 +214,7 @@ key_word keys = if keys == 1 then codes "key" else codes "keys"
 
 -- what is told of a file that was made: its place, how many keys it has, and its size
 abbrev pub made_line : List ℕ → ℕ → ℕ → List ℕ
-made_line place keys len = ((codes "zerotrie: " ++ (place ++ (codes ": " ++ (decimal keys ++ (codes " " ++ (key_word keys ++ codes ", ")))))) ++ size_text len) ++ (10 ∷ [])
+made_line place keys len = ((line_front place ++ (decimal keys ++ (codes " " ++ (key_word keys ++ codes ", ")))) ++ size_text len) ++ (10 ∷ [])
 
 -- what is told of the kind of a file for which none was named, and that was made of tries of several
 abbrev pub kind_line : List ℕ → TrieKind → List ℕ

@@ -1,5 +1,5 @@
 -- What each command prints, what it leaves in files, and how it ends.
-use Rattle.std.specs.Prelude.{◌≡◌, ◌≢◌, ◌⊎◌, ◌<◌, ℕ, suc, List, [], ◌∷◌, Option, Some, None, IfSome, Result, Ok, Err, Bool, true, false, is_none, map, codes}
+use Rattle.std.specs.Prelude.{◌≡◌, ◌≢◌, ◌⊎◌, ◌<◌, ℕ, suc, List, [], ◌∷◌, Option, Some, None, IfSome, Result, Ok, Err, Bool, true, false, is_none, map, drop, codes}
 use Rattle.std.specs.Io.KnownBytes.{Appends, Keeps}
 use Rattle.std.specs.Io.Buffered.{writer_buffer}
 use Rattle.std.specs.declared.io.buffered.BufWriter.{BufWriter}
@@ -15,10 +15,10 @@ use Rattle.zerotrie_core.specs.declared.TrieKind.{TrieKind}
 use Rattle.zerotrie_queries.specs.declared.file.OpenError.{OpenError}
 use Rattle.zerotrie_queries.specs.declared.file.OpenError.TheVariants as unopened
 use Rattle.zerotrie_files.specs.Parts.{AppendsPart}
-use Rattle.zerotrie_queries.specs.Answers.{AreAnswered, AreAnsweredInPart}
+use Rattle.zerotrie_queries.specs.Answers.{AreAnswered, AreAnsweredInPart, Belongs}
 use Rattle.zerotrie_queries.specs.Finders.{Dictionary, TrieFinds, IndexFinds, asks_keys}
 use Rattle.zerotrie_index.specs.Layout.{IsIndex}
-use Rattle.zerotrie_sealed.specs.Sealed.{IsSealedIndex}
+use Rattle.zerotrie_sealed.specs.Sealed.{HasFront, IsSealedIndex}
 use Rattle.zerotrie_queries.specs.Sorted.{picked}
 use Rattle.zerotrie_queries.specs.Listed.{AreListed, AreListedInPart, AreMeasured, AreMeasuredInPart, AreNoText}
 use Rattle.zerotrie_queries.specs.declared.question.Query.{Query}
@@ -159,6 +159,17 @@ abbrev pub OpensFor : TrieFile → Question → List ℕ → Content → Type 0
 OpensFor file question all (of_trie kind bytes) = Opens file all kind bytes
 OpensFor file question all (of_index bytes) = (asks_index question ≡ true) × OpensIndex file all bytes
 
+-- A file begins with the front of an index in blocks, and what is behind it is asked for the values of keys. It is read at places, so damage
+-- elsewhere does not show: of a sealed index it is all of it.
+abbrev pub OpensAtPlaces : TrieFile → Question → List ℕ → Content → Type 0
+OpensAtPlaces file question all (of_trie kind bytes) = ⊥
+OpensAtPlaces file question all (of_index bytes) = (asks_index question ≡ true) × (file.bare ≡ None) × (file.check ≢ check.Full)
+    × (start : ℕ) × HasFront start all × (bytes ≡ drop start all)
+
+-- what is asked of a file, which is read as a whole or at places
+abbrev pub OpensToAnswer : TrieFile → Question → List ℕ → Content → Type 0
+OpensToAnswer file question all content = OpensFor file question all content ⊎ OpensAtPlaces file question all content
+
 -- a file has bytes of this kind that mean no map of it
 abbrev pub IsUnsound : Option TrieKind → List ℕ → TrieKind → List ℕ → Type 0
 IsUnsound named all kind bytes = Holds named all kind bytes × (IsWellFormed (kind_of kind) bytes → ⊥)
@@ -266,7 +277,7 @@ pub record IsAsked (file : TrieFile) (question : Question) (input : Option (List
   pub held : List ℕ
   pub read : IsRead file.place input files held
   pub content : Content
-  pub opens : OpensFor file question held content
+  pub opens : OpensToAnswer file question held content
   pub answers : ContentAnswers content question input old new all
 
 -- It was asked, and a beginning of the answer was printed.
@@ -274,7 +285,7 @@ pub record IsAskedInPart (file : TrieFile) (question : Question) (input : Option
   pub held : List ℕ
   pub read : IsRead file.place input files held
   pub content : Content
-  pub opens : OpensFor file question held content
+  pub opens : OpensToAnswer file question held content
   pub begun : ContentAnswersInPart content question input old new
 
 -- the file has no trie
@@ -302,6 +313,22 @@ IsUnanswered file question input held old new (ask.Unread e) = ⊥
 IsUnanswered file question input held old new (ask.NoTrie why is_text) = IsUnopenedFor file question held why × (is_text ≡ looks_like_text held) × (new ≡ old)
 IsUnanswered file question input held old new (ask.NotText key) = (kind : TrieKind) × (bytes : List ℕ) × Opens file held kind bytes × IsUnprintable question kind bytes key.items × (new ≡ old)
 IsUnanswered file question input held old new (ask.Unanswered e) = (content : Content) × OpensFor file question held content × ContentAnswersInPart content question input old new
+
+-- what the file of a path holds, if that is known
+abbrev pub held_at : Option Story → List ℕ → Option (List ℕ)
+held_at None path = None
+held_at (Some known) path = known.now path
+
+-- this is what is printed of keys, and whether all was found, by the index behind the front of a file that holds this
+abbrev pub AreLookedUp : Query → List (List ℕ) → Option (List ℕ) → List ℕ → Bool → Type 0
+AreLookedUp query keys held text all = IfSome held (λ bytes. (start : ℕ) × HasFront start bytes
+    × ((d : Dictionary) → IndexFinds query.asked (drop start bytes) d → Belongs query d keys text all))
+
+-- who prints this text has answered the question to a file, and who prints a beginning of it has begun to; keys are not read from standard
+-- input
+abbrev pub IsAnswerText : TrieFile → Question → Option Story → List ℕ → Bool → Type 0
+IsAnswerText file question files text all = (input old new : Option (List ℕ)) → (Appends old new text → IsAsked file question input files old new all)
+    × (AppendsPart old new text → IsAskedInPart file question input files old new)
 
 -- a question to a file failed: nothing was printed, or a beginning of the answer was
 abbrev pub FailsAsk : TrieFile → Question → Option (List ℕ) → Option Story → (old new : Option (List ℕ)) → Type 0

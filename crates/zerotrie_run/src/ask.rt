@@ -1,8 +1,10 @@
 //! A question to the trie or the index of a file.
 
-ghost use Rattle.std.specs.Prelude.{◌≡◌, true, false, Err, IfOk, IfErr, OnOk, OnErr};
+ghost use Rattle.std.specs.Prelude.{◌≡◌, true, false, Err, IfOk, IfErr, MatchResult, OnOk, OnErr};
+ghost use Rattle.std.specs.Io.KnownBytes.{Appends};
 ghost use Rattle.std.specs.Io.Buffered.{writer_contents};
 ghost use Rattle.zerotrie_files.specs.Notes.{NothingFailed, SameNotes};
+ghost use Rattle.zerotrie_files.specs.Parts.{AppendsPart};
 ghost use Rattle.zerotrie_run.specs.Commands.{ReadsTwice};
 ghost use Rattle.zerotrie_queries.specs.Finders.{Finds, TrieFinds};
 ghost use Rattle.zerotrie_queries.specs.declared.question.Asked.TheVariants.{KeyOf};
@@ -14,6 +16,7 @@ ghost use Rattle.zerotrie_run.specs.declared.command.Keys.TheVariants.{Lines};
 ghost use Rattle.zerotrie_run.specs.declared.ask.AskError.TheVariants.{TwoInputs, Unanswered};
 ghost use Rattle.zerotrie_run.specs.declared.stdin_lines.AnswerError.TheVariants.{Output};
 
+use crate::at_places::answer_at_places;
 use crate::command::{Keys, Question, TrieFile, reads_twice};
 use crate::messages::ask::tell_number;
 use crate::open::{open_index, open_trie};
@@ -288,8 +291,23 @@ fn answer_held<R: Read, W: Write + Drop>(
     answer(alloc, &trie, question, input, output)
 }
 
-/// Answers a question to the trie or the index of a file, and returns whether all was found. If the
-/// file is read as bare bytes and begins with the number of a kind, a message says so.
+/// Prints an answer. If that fails, a beginning of it was printed.
+fn print<W: Write + Drop>(text: &[u8], output: &mut Noted<BufWriter<W>>) -> io::Result<()>
+    ensures ok { OnOk result (Appends (writer_contents W.contents output.old.inner)
+        (writer_contents W.contents output.new.inner) text.now) }
+    ensures err { OnErr result (AppendsPart (writer_contents W.contents output.old.inner)
+        (writer_contents W.contents output.new.inner) text.now) }
+    ensures handed { OnOk result (HandsOn output.old.inner output.new.inner) }
+    ensures noted { MatchResult result (λ _. output.new.failed ≡ output.old.failed)
+        (λ _. output.new.failed ≡ true) }
+{
+    output.write_bytes(text)?;
+    output.hand_on()
+}
+
+/// Answers a question to the trie or the index of a file, and returns whether all was found. A few keys
+/// are looked up in a large index at places, and other files are read as a whole. If the file is read as
+/// bare bytes and begins with the number of a kind, a message says so.
 pub fn ask<D: Disk, R: Read, W: Write + Drop, M: Write>(
     alloc: Global,
     file: TrieFile<'_>,
@@ -327,6 +345,10 @@ pub fn ask<D: Disk, R: Read, W: Write + Drop, M: Write>(
 {
     if reads_twice(file.place, question) {
         return Err(AskError::TwoInputs);
+    }
+    if let Some((text, all)) = answer_at_places(alloc, file, question, files.disk()) {
+        print(text.as_slice(), output)?;
+        return Ok(all);
     }
     let held = match read_place(alloc, file.place, files, input) {
         Ok(held) => held,

@@ -2,6 +2,7 @@
 #![tactic(auto)]
 
 mod ask;
+mod at_places;
 mod build;
 mod combine;
 mod command;

@@ -1,11 +1,11 @@
 //! Opens the trie or the index that is in the bytes of a file.
 
-ghost use Rattle.std.specs.Prelude.{◌≡◌, ◌↔◌, ℕ, List, IfOk, IfErr, IfSome, IfNone, IsTrue};
+ghost use Rattle.std.specs.Prelude.{◌≡◌, ℕ, List, IfOk, IfErr, IfSome, IfNone, IsTrue};
 ghost use Rattle.zerotrie_queries.specs.declared.file.OpenError.TheVariants.{Damaged};
 ghost use Rattle.zerotrie_run.specs.Runs.{Opens, OpensBy, OpensFor, ExplainsInFull, IsUnopened, asks_index};
 ghost use Rattle.zerotrie_run.specs.Runs.Content.{of_index};
 ghost use Rattle.zerotrie_run.specs.declared.command.Check.TheVariants.{Full};
-ghost use Rattle.zerotrie_sealed.specs.Sealed.{index_number};
+ghost use Rattle.zerotrie_sealed.specs.Sealed.{IsIndexNumber};
 ghost use Rattle.zerotrie_sealed.specs.declared.reading.SealError.TheVariants.{UnknownKind};
 
 use crate::command::{Check, Question, TrieFile};
@@ -14,7 +14,7 @@ use zerotrie_core::{Trie, TrieKind, TrieRef};
 use zerotrie_index::is_well_formed;
 use zerotrie_queries::{OpenError, open_unchecked};
 use zerotrie_sealed::laws::one_index;
-use zerotrie_sealed::{INDEX_NUMBER, SealError};
+use zerotrie_sealed::{SealError, is_index_number};
 
 /// Opens the trie in the bytes of a file, and validates its bytes, also if they are sealed.
 pub fn open_in_full(
@@ -89,11 +89,18 @@ pub fn open_index<'a>(
     }
 }
 
-/// Returns whether a file is sealed as an index as a whole, by why it has no trie.
+/// Returns whether a file is sealed as an index, by why it has no trie.
 fn is_index(why: &OpenError) -> bool
-    ensures { IsTrue result ↔ (why.now ≡ Damaged (UnknownKind index_number)) }
+    ensures { IsTrue result → (number : ℕ) × IsIndexNumber number
+        × (why.now ≡ Damaged (UnknownKind number)) }
 {
-    *why == OpenError::Damaged(SealError::UnknownKind(INDEX_NUMBER))
+    match why {
+        OpenError::Damaged(SealError::UnknownKind(number)) => is_index_number(*number),
+        OpenError::Damaged(_)
+        | OpenError::BadTag(_)
+        | OpenError::NotWellFormed(_, _)
+        | OpenError::OutOfMemory => false,
+    }
 }
 
 /// Opens the trie in the bytes of a file. If they are a damaged index, and an index answers the

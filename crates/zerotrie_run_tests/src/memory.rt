@@ -126,6 +126,18 @@ impl Disk for MemoryDisk {
         }
     }
 
+    fn read_at(&self, path: &str, place: u64, room: &mut [u8]) -> io::Result<()> {
+        let Some(bytes) = self.held(path) else {
+            return Err(io::Error::from(ErrorKind::NotFound));
+        };
+        let (_, behind) = bytes.split_at(bytes.len().min(place as usize));
+        let Some((part, _)) = behind.split_at_checked(room.len()) else {
+            return Err(io::Error::from(ErrorKind::UnexpectedEof));
+        };
+        room.copy_from_slice(part);
+        Ok(())
+    }
+
     fn find(&self, path: &str) -> io::Result<Found> {
         match self.held(path) {
             Some(_) => Ok(Found::File(Mode::kept(0o644))),

@@ -12,7 +12,7 @@ use std::process::Abort;
 use std::test::Fail;
 use zerotrie_core::TrieKind;
 use zerotrie_files::{Disk, Noted, Store};
-use zerotrie_index::ZeroIndex;
+use zerotrie_index::{ZeroIndex, ZeroIndexBuilder};
 use zerotrie_lines::{Format, Header, LineEnd};
 use zerotrie_making::{Combination, Duplicates, FileForm, FilePlan, Plan, ReadPlan, Source};
 use zerotrie_queries::{
@@ -21,7 +21,7 @@ use zerotrie_queries::{
 use zerotrie_run::{
     Build, Check, Combine, Command, Diff, Keys, Place, Question, Status, Summary, TrieFile, run,
 };
-use zerotrie_sealed::seal_index;
+use zerotrie_sealed::{seal_index, seal_index_in_blocks};
 use zerotrie_search::KeyRange;
 use zerotrie_sets::{Rule, Selection};
 
@@ -72,11 +72,12 @@ const BUILD: Build<'static> = Build {
 };
 
 /// The file of an index of the names, by the page on the format.
-const INDEXED: &[u8] =
-    b"ztri\x89\x8a\r\n\x01\0\x18\0o\0\0\0\0\0\0\0\xaa\xf0#*\0\0\0\0\0\0\0\0\x06\0\0\0\0\0\0\0\0\0\0\0\0\0\0\0\
-    \0\0\x04\0\0\0\0\0\0\0@\0\x0c\0\0\0\0\0\0\0\x1b\0\0\0\0\0\0\0\x1b\0\0\0\
-    @\0\0\0\x1b\0\0\0\0\0\0\0'\0\0\0\x03\x02\0\0\0\0\0\0\
-    \0bar\x06\x03\0\0\0\0\0\0\0bazzoo\x03\x01\0\0\0\0\0\0\0foo";
+const INDEXED: &[u8] = b"ztri\x89\x8a\r\n\x01\0\x19\0\x0c\0\0\0\0\0\0\0\xf7\x15|.\
+    o\0\0\0\0\0\0\0\n\xe1\xfc\x89\
+    \0\0\0\0\0\0\0\0\x06\0\0\0\0\0\0\0\0\0\0\0\0\0\0\0\
+    \0\0\x04\0\0\0\0\0\0\0@\0\x0c\0\0\0\0\0\0\0\x1b\0\0\0\
+    \0\0\0\0\x1b\0\0\0@\0\0\0\x1b\0\0\0\0\0\0\0'\0\0\0\
+    \x03\x02\0\0\0\0\0\0\0bar\x06\x03\0\0\0\0\0\0\0bazzoo\x03\x01\0\0\0\0\0\0\0foo";
 
 /// How an index of any pairs is made.
 const INDEXING: Build<'static> = Build {
@@ -381,7 +382,7 @@ const REFUSED: [Row; 11] = [
         }),
         status: Status::Unwritten,
         printed: b"",
-        told: b"zerotrie: missing/names.trie: the folder of the file is not there\n",
+        told: b"zerotrie: missing/names.trie: its folder, or the file that a link leads to, is not there\n",
         left: ("names.tsv", NAMES),
     },
 ];
@@ -1388,9 +1389,13 @@ fn an_index_is_asked(rt: HostRuntime) -> Result<(), Fail> {
         alloc,
         &[("foo", 1), ("bar", 2), ("bazzoo", 3)],
     )?;
-    let file = seal_index(alloc, index.as_bytes())?;
-    for row in OF_INDEX {
-        assert!(rt; asks_index(&rt, file.as_slice(), &row)?);
+    for file in &[
+        seal_index(alloc, index.as_bytes())?,
+        seal_index_in_blocks(alloc, index.as_bytes())?,
+    ] {
+        for row in &OF_INDEX {
+            assert!(rt; asks_index(&rt, file.as_slice(), row)?);
+        }
     }
     let malformed = OfIndex {
         question: Question::Verify,
@@ -1415,16 +1420,16 @@ fn of_damaged(question: Question<'static>, check: Check, told: &'static [u8]) ->
     }
 }
 
-/// Of a damaged index it is told what is wrong with its seal, if the question is one to an index.
-#[test]
-fn a_damaged_index_is_told(rt: HostRuntime) -> Result<(), Fail> {
-    let mut file = seal_index(rt.alloc(), b"no index")?;
+/// Returns whether it is told what is wrong with the seal of an index that has a byte more, or one less,
+/// if the question is one to an index.
+fn tells_damage(rt: &HostRuntime, sealed: Vec<u8>) -> Result<bool, Fail> {
+    let mut file = sealed;
     let values = Question::LookUp(VALUES, Keys::Lines);
     let longest = Question::LookUp(LONGEST, Keys::Lines);
     file.push(0)?;
     let long = b"zerotrie: names.trie: bytes follow what is sealed: get the file alone\n";
     let row = of_damaged(Question::Verify, Check::Full, long);
-    assert!(rt; asks_index(&rt, file.as_slice(), &row)?);
+    let mut all = asks_index(rt, file.as_slice(), &row)?;
     file.pop();
     file.pop();
     let cut = b"zerotrie: names.trie: the file is cut short: get all of it\n";
@@ -1433,16 +1438,47 @@ fn a_damaged_index_is_told(rt: HostRuntime) -> Result<(), Fail> {
         (values, Check::Skip),
         (Question::Verify, Check::Full),
     ] {
-        assert!(rt; asks_index(&rt, file.as_slice(), &of_damaged(question, check, cut))?);
+        all &= asks_index(rt, file.as_slice(), &of_damaged(question, check, cut))?;
     }
     let index = b"zerotrie: names.trie: it holds an index, which answers get and verify alone\n";
-    assert!(rt;
-        asks_index(
-            &rt,
-            file.as_slice(),
-            &of_damaged(longest, Check::Usual, index)
-        )?
+    let row = of_damaged(longest, Check::Usual, index);
+    Ok(all && asks_index(rt, file.as_slice(), &row)?)
+}
+
+#[test]
+fn a_damaged_index_is_told(rt: HostRuntime) -> Result<(), Fail> {
+    assert!(rt; tells_damage(&rt, seal_index(rt.alloc(), b"no index")?)?);
+    assert!(rt; tells_damage(&rt, seal_index_in_blocks(rt.alloc(), b"no index")?)?);
+    Ok(())
+}
+
+/// A few keys of a large index are read at places, so damage elsewhere does not show.
+#[test]
+fn few_keys_are_read_at_places(rt: HostRuntime) -> Result<(), Fail> {
+    let alloc = rt.alloc();
+    let mut builder = ZeroIndexBuilder::new(alloc);
+    for number in 0..12_000_u64 {
+        builder.push(&number.to_be_bytes(), number as usize)?;
+    }
+    let index = builder.build(alloc, 0)?;
+    let mut file = seal_index_in_blocks(alloc, index.as_bytes())?;
+    let found = OfIndex {
+        question: Question::LookUp(VALUES, Keys::Words(&[b"\0\0\0\0\0\0\0\x05"])),
+        check: Check::Usual,
+        status: Status::Done,
+        printed: b"5\n",
+        told: b"",
+    };
+    assert!(rt; asks_index(&rt, file.as_slice(), &found)?);
+    file.pop();
+    file.push(0)?;
+    assert!(rt; asks_index(&rt, file.as_slice(), &found)?);
+    let damaged = of_damaged(
+        Question::Verify,
+        Check::Full,
+        b"zerotrie: names.trie: the file is damaged: its bytes do not have the checksum that it was written with\n",
     );
+    assert!(rt; asks_index(&rt, file.as_slice(), &damaged)?);
     Ok(())
 }
 

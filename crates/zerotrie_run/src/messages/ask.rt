@@ -66,7 +66,7 @@ fn tag_words(why: &TagError, is_text: bool) -> &'static str
     match why {
         TagError::Empty => "the file is empty",
         TagError::InvalidTag => {
-            "no file of zerotrie build: no kind has the number that the file begins with; if it is bare bytes, name their kind by --bare"
+            "not a file of zerotrie build: its first byte is the number of no kind; if it is bare bytes, name their kind by --bare"
         }
     }
 }

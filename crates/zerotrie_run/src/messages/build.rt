@@ -135,13 +135,14 @@ pub fn made_text(
 ) -> Result<Vec<u8>, AllocError>
     ensures { IfOk result (λ text. text.items ≡ told_made is_told place.now keys len) }
 {
-    let mut text = Vec::new(alloc);
-    if is_told {
-        let word = key_word(keys);
-        write!(text, "zerotrie: {place}: {keys} {word}, ").map_err(|_| AllocError)?;
-        add_size(&mut text, len)?;
-        end_line(&mut text)?;
+    if !is_told {
+        return Ok(Vec::new(alloc));
     }
+    let mut text = begin_line(alloc, place)?;
+    let word = key_word(keys);
+    write!(text, "{keys} {word}, ").map_err(|_| AllocError)?;
+    add_size(&mut text, len)?;
+    end_line(&mut text)?;
     Ok(text)
 }
 

@@ -11,7 +11,7 @@ use std::io;
 use std::io::{ErrorKind, Write};
 use zerotrie_core::TrieKind;
 use zerotrie_files::Noted;
-use zerotrie_lines::write_number;
+use zerotrie_lines::{write_escaped, write_number};
 
 /// The name of standard input.
 pub const STANDARD_INPUT: &str = "standard input";
@@ -113,13 +113,13 @@ pub fn add_kind(text: &mut Vec<u8>, words: &str, kind: TrieKind) -> Result<(), A
     add(text, ": ")
 }
 
-/// Begins a line on a place.
+/// Begins a line on a place. The name is escaped as keys are, so that it can't steer a terminal.
 pub fn begin_line(alloc: Global, place: &str) -> Result<Vec<u8>, AllocError>
     ensures { IfOk result (λ text. text.items ≡ line_front place.now) }
 {
     let mut text = Vec::new(alloc);
     add(&mut text, "zerotrie: ")?;
-    add(&mut text, place)?;
+    write_escaped(&mut text, place.as_bytes())?;
     add(&mut text, ": ")?;
     Ok(text)
 }
@@ -158,7 +158,11 @@ pub fn unwritten(alloc: Global, place: &str, error: &io::Error) -> Result<Vec<u8
     ensures { IfOk result (λ text. IsLineOn place.now text.items) }
 {
     match error.kind() {
-        ErrorKind::NotFound => line_on(alloc, place, "the folder of the file is not there"),
+        ErrorKind::NotFound => line_on(
+            alloc,
+            place,
+            "its folder, or the file that a link leads to, is not there",
+        ),
         ErrorKind::PermissionDenied => {
             let words = format!(in alloc;
                 "{error}; it has to be writable, and so has its folder, where a new file is made that takes its place"

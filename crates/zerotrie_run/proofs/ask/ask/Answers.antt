@@ -1,6 +1,7 @@
-use Rattle.std.proofs.Common.{inr}
+use Rattle.std.proofs.Common.{rules, inl, inr, subst}
 use Rattle.std.proofs.lemmas.Result.{err_from_is_err_and}
 use Rattle.std.specs.Io.Buffered.{writer_contents}
+use Rattle.zerotrie_run.specs.Runs.{HasNumberToo, IsAsked}
 use Rattle.zerotrie_run.proofs.AskLemmas.{kept_content, same_answer, answer_in_part, same_part, is_not, ends_unanswered, reason_unanswered}
 use Rattle.zerotrie_run.proofs.ask.ask.Goals as goal
 
@@ -16,7 +17,7 @@ returns-in-Ok-hand_on-clause-ok g c =
       held = c.as_slice-held.result.now;
       read = rw c.as_slice-held.ensures.value c.in-Ok.ensures.read;
       content = answered.0;
-      opens = answered.1;
+      opens = inl answered.1;
       answers = same_answer c.args.file.place remaining c.args.input.now c.read_place.new.input answered.0 c.args.question old (contents c.hand_on.new.self.inner) c.in_ok-all.all
           (λ both. is_not c.reads_twice.result c.if-reads_twice.false (c.reads_twice.ensures.1 both)) c.read_place.ensures.untouched kept;
     }
@@ -40,7 +41,7 @@ returns-clause-err g c =
       held = c.as_slice-held.result.now;
       read = rw c.as_slice-held.ensures.value c.in-Ok.ensures.read;
       content = answered.0;
-      opens = answered.1;
+      opens = inl answered.1;
       begun = same_part c.args.file.place remaining c.args.input.now c.read_place.new.input answered.0 c.args.question old (contents c.hand_on.new.self.inner)
           (λ both. is_not c.reads_twice.result c.if-reads_twice.false (c.reads_twice.ensures.1 both)) c.read_place.ensures.untouched
           (answer_in_part answered.0 c.args.question (remaining c.read_place.new.input.inner) old (contents c.hand_on.new.self.inner) c.in_ok-all.all kept);
@@ -52,7 +53,7 @@ returns-in_err-all-clause-err g c =
     let remaining = g.R.Read.remaining in
     let old = contents c.args.output.now.inner in
     let new = contents c.answer_held.new.output.inner in
-    let same = err_from_is_err_and c.from_residual.result c.from_residual.ensures.1 in
+    let same = err_from_is_err_and c.from_residual-in_err-all.result c.from_residual-in_err-all.ensures.1 in
     rw (same.1, same.2) (ends_unanswered c.args.file c.args.question (remaining c.args.input.now.inner) (remaining c.read_place.new.input.inner) (g.D.Disk.story c.args.files.now.disk) c.as_slice-held.result.now old new
     c.in_err-all.field-0.0 (rw c.as_slice-held.ensures.value c.in-Ok.ensures.read)
     (λ x h. same_part c.args.file.place remaining c.args.input.now c.read_place.new.input x c.args.question old new
@@ -63,6 +64,14 @@ pub returns-in_err-all-clause-why : goal.returns-in_err-all-clause-why
 returns-in_err-all-clause-why g c =
     let contents = writer_contents g.W.Write.contents in
     let remaining = g.R.Read.remaining in
-    let same = err_from_is_err_and c.from_residual.result c.from_residual.ensures.1 in
+    let same = err_from_is_err_and c.from_residual-in_err-all.result c.from_residual-in_err-all.ensures.1 in
     rw (same.1, same.2) (reason_unanswered c.args.file c.args.question (remaining c.args.input.now.inner) (remaining c.read_place.new.input.inner) (g.D.Disk.story c.args.files.now.disk) c.as_slice-held.result.now
     (contents c.args.output.now.inner) (contents c.answer_held.new.output.inner) c.in_err-all.field-0.0 (rw c.as_slice-held.ensures.value c.in-Ok.ensures.read) c.in_err-all.ensures.err)
+
+pub returns-in-Some-clause-notes : goal.returns-in-Some-clause-notes
+returns-in-Some-clause-notes g c = λ fine.
+    let contents = writer_contents g.W.Write.contents in
+    let input = g.R.Read.remaining c.args.input.now.inner in
+    let files = g.D.Disk.story c.args.files.now.disk in
+    let asked : IsAsked c.args.file c.args.question input files (contents c.args.output.now.inner) (contents c.print.new.output.inner) c.in-Some.all = search rules in
+    (asked.held, asked.read, λ number. absurd (subst (λ named. HasNumberToo named asked.held) c.in-Some.ensures.named number))
