@@ -176,9 +176,10 @@ typedef enum zerotrie_status ZEROTRIE_ENUM {
     ZEROTRIE_RECORD_TRUNCATED = 16,
     /** zerotrie_dense_get(): more bytes than a record of a table asks for */
     ZEROTRIE_TRAILING_BYTES = 17,
-    /** zerotrie_open(): the parts of a sealed file don't agree: it was cut, joined or changed */
+    /** zerotrie_open(): the parts of a sealed file don't agree: it was cut, joined or changed;
+     * zerotrie_open_index(): the same, or it is not the sealed file of an index */
     ZEROTRIE_DAMAGED = 18,
-    /** zerotrie_open(): a sealed file of another version of the format */
+    /** zerotrie_open(), zerotrie_open_index(): a sealed file of another version of the format */
     ZEROTRIE_UNKNOWN_VERSION = 19,
     /** zerotrie_search_some(), zerotrie_search_check(), zerotrie_nearest(), zerotrie_sorted_some(),
      * zerotrie_diff_some(): no search, or no bound, has this number */
@@ -1074,6 +1075,31 @@ zerotrie_status zerotrie_index_build_many(uint64_t seed, const uint8_t *keys, si
                                           const size_t *ends, size_t ends_len, const size_t *values,
                                           size_t values_len, uint8_t *out, size_t out_len,
                                           size_t *len);
+
+/**
+ * Finds the index in a sealed file: see zerotrie_seal_index(). Sets *at to where its bytes begin and
+ * *index_len to their number: they are the end of the file, whatever they are.
+ *
+ * A file is taken exactly if it is sealed as that of an index, in blocks or as a whole, as earlier
+ * versions wrote it, and the bytes are those that were sealed. Otherwise the result is
+ * ZEROTRIE_DAMAGED, also for other bytes than those of a sealed file and for the file of a trie, or
+ * ZEROTRIE_UNKNOWN_VERSION if the file begins as a sealed one and says another version of the
+ * format. Both numbers stay then. The index is not validated: zerotrie_index_is_valid() does that. A
+ * call costs the checksums, and does not allocate.
+ */
+ZEROTRIE_ANSWERS
+zerotrie_status zerotrie_open_index(const uint8_t *file, size_t len, size_t *at, size_t *index_len);
+
+/**
+ * Writes the sealed file of an index to `out`: a header, the checksums of its blocks of 65,536 bytes,
+ * and the index. zerotrie_open_index() reads it. It is 32 bytes longer than the index, and 4 for each
+ * block, of which the last may have fewer bytes. The index is not validated. ZEROTRIE_DONE and
+ * ZEROTRIE_BUFFER_TOO_SMALL as in a build; or ZEROTRIE_OUT_OF_MEMORY, and nothing is written.
+ * Allocates as much as the file takes.
+ */
+ZEROTRIE_ANSWERS
+zerotrie_status zerotrie_seal_index(const uint8_t *index, size_t len, uint8_t *out, size_t out_len,
+                                    size_t *sealed_len);
 /** @} */
 
 /** @cond */
@@ -1604,6 +1630,25 @@ ZEROTRIE_INLINE zerotrie_status zerotrie_index_build_many_or_null(uint64_t seed,
                                      ZEROTRIE_ARRAY(out, out_len, &byte), len);
 }
 #define zerotrie_index_build_many(...) zerotrie_index_build_many_or_null(__VA_ARGS__)
+
+ZEROTRIE_MUST_USE
+ZEROTRIE_NEEDS((3, 4))
+ZEROTRIE_INLINE zerotrie_status zerotrie_open_index_or_null(const void *file, size_t len,
+                                                            size_t *at, size_t *index_len) {
+    return zerotrie_open_index(ZEROTRIE_READS(file, len), at, index_len);
+}
+#define zerotrie_open_index(...) zerotrie_open_index_or_null(__VA_ARGS__)
+
+ZEROTRIE_MUST_USE
+ZEROTRIE_NEEDS((5))
+ZEROTRIE_INLINE zerotrie_status zerotrie_seal_index_or_null(const void *index, size_t len,
+                                                            uint8_t *out, size_t out_len,
+                                                            size_t *sealed_len) {
+    uint8_t byte;
+    return zerotrie_seal_index(ZEROTRIE_READS(index, len), ZEROTRIE_ARRAY(out, out_len, &byte),
+                               sealed_len);
+}
+#define zerotrie_seal_index(...) zerotrie_seal_index_or_null(__VA_ARGS__)
 /** @endcond */
 
 /** @name A trie as one value */

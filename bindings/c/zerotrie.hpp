@@ -1825,6 +1825,18 @@ template <class Rows> [[nodiscard]] std::string build_dense(Rows &&rows, char de
         detail::check);
 }
 
+/// A sealed file of the bytes of an index: a header, the checksums of its blocks, and the bytes.
+/// Index::open() reads it.
+[[nodiscard]] inline std::string seal_index(Bytes index) {
+    const auto at = detail::of(index.view());
+    return detail::written(
+        at.len + ZEROTRIE_SEAL_LEN + 8 + 4 * (at.len / 65536 + 1),
+        [&](uint8_t *out, size_t room, size_t *len) {
+            return zerotrie_seal_index(at.ptr, at.len, out, room, len);
+        },
+        detail::check);
+}
+
 /// A map for exact look-ups alone, over bytes that build_index() wrote, which have to outlive it:
 /// larger than a trie, and faster.
 class ZEROTRIE_VIEW Index {
@@ -1837,6 +1849,18 @@ public:
         if (!zerotrie_index_is_valid(at.ptr, at.len)) return std::nullopt;
         return Index(bytes);
     }
+    /// Of a sealed file, in blocks or as a whole. Throws Error if it is damaged, or of no index. The
+    /// bytes are those that were sealed, and not validated.
+    [[nodiscard]] static Index open(Bytes file ZEROTRIE_LIFETIMEBOUND) {
+        const auto at = detail::of(file.view());
+        size_t from = 0, len = 0;
+        detail::check(zerotrie_open_index(at.ptr, at.len, &from, &len));
+        return Index(Bytes(file.view().substr(from, len)));
+    }
+    /// Writes a sealed file, and replaces the file of the path at once, as Map::save().
+    void save(const std::string &path) const { detail::save_file(path, seal()); }
+    /// A sealed file.
+    [[nodiscard]] std::string seal() const { return seal_index(bytes_); }
     /// The bytes.
     [[nodiscard]] constexpr std::string_view bytes() const noexcept { return bytes_; }
     /// The value of the key. nullopt: the index does not have it.

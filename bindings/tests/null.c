@@ -22,6 +22,9 @@ typedef struct did {
 static const uint8_t trie[] = { 0xc2, 'b', 'f', 10, 'a', 0xc2, 'r', 'z', 1, 0x82, 'z', 'o', 'o', 0x83, 'o', 'o', 0x81 };
 static const uint8_t tagged[] = { 0, 'a', 0x81 };
 static const uint8_t text[] = { 'b', 'a', 'r' };
+/* the index of no bytes, sealed in blocks */
+static const uint8_t sealed[] = { 'z', 't', 'r', 'i', 0x89, 0x8a, '\r', '\n', 1, 0, 25, 0, 8, 0, 0, 0, 0, 0, 0, 0, 0xf1, 0x13, 0x56, 0xe3, 0, 0,
+                                  0, 0, 0, 0, 0, 0 };
 static const size_t three[] = { 1, 2, 3 };
 static const uint32_t places[] = { 8, 9, 14 };
 
@@ -96,6 +99,8 @@ static did call(int line, int at, bool null, size_t n, const char **called) {
     CALL(zerotrie_index_is_valid, TRIE);
     CALL(zerotrie_index_build, 1, PAIRS, OUT(1), it.numbers);
     CALL(zerotrie_index_build_many, 1, TEXT(0), THREE(1), THREE(2), OUT(3), it.numbers);
+    CALL(zerotrie_open_index, ARRAY(0, sealed, sizeof sealed), it.numbers, it.numbers + 1);
+    CALL(zerotrie_seal_index, TRIE, OUT(1), it.numbers);
     default: break;
     }
     return it;

@@ -5,6 +5,7 @@
 #include <cstdio>
 #include <cstdlib>
 #include <fcntl.h>
+#include <fstream>
 #include <iterator>
 #include <map>
 #include <memory_resource>
@@ -363,6 +364,11 @@ static void owner() {
         for (const auto *name : {".new", ".new1"}) CHECK(std::remove((path + name).c_str()) == 0);
         CHECK(std::fopen((path + ".new2").c_str(), "rb") == nullptr);
     }
+    const std::string index_bytes = zerotrie::build_index({{"foo", 1}, {"bar", 2}});
+    zerotrie::Index(index_bytes).save(path);
+    std::ifstream stream(path, std::ios::binary);
+    const std::string index_file{std::istreambuf_iterator<char>(stream), {}};
+    CHECK(index_file == zerotrie::seal_index(index_bytes) && zerotrie::Index::open(index_file).get("bar") == 2);
     for (const std::string &none : {room + "/no/such"s, std::string(room)}) {
         try {
             CHECK(zerotrie::Map::load(none).empty());

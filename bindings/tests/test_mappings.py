@@ -176,22 +176,36 @@ def checksum(data):
     return number ^ 0xFFFFFFFF
 
 
+def as_a_whole(index):
+    """The sealed file of an index as earlier versions wrote it, by docs/FORMAT.md."""
+    front = b"ztri\x89\x8a\r\n\1\0\x18\0" + len(index).to_bytes(8, "little")
+    return front + checksum(front + index).to_bytes(4, "little") + index
+
+
+def in_blocks(index):
+    """The sealed file of an index in blocks."""
+    sums = (checksum(index[at : at + 65536]).to_bytes(4, "little") for at in range(0, len(index), 65536))
+    table = len(index).to_bytes(8, "little") + b"".join(sums)
+    front = b"ztri\x89\x8a\r\n\1\0\x19\0" + len(table).to_bytes(8, "little")
+    return front + checksum(front + table).to_bytes(4, "little") + table + index
+
+
 # an index as bytes: its pairs, and its sealed file
 for size in (0, 1, 2, 40, 3000):
     pairs = {random.randbytes(random.choice((0, 3, 31, 32, 40, 5000 if size < 50 else 9))): random.randrange(1 << 64) for _ in range(size)}
     made = Index.build(pairs, seed=size)
     assert dict(made) == pairs and bool(made) is bool(pairs)
     file = made.seal()
-    assert file[24:] == bytes(made) and file[:12] == b"ztri\x89\x8a\r\n\1\0\x18\0"
-    if size < 50:
-        assert int.from_bytes(file[20:24], "little") == checksum(file[:20] + file[24:])
-    assert Index(file) == Index(file, check=True) == made
-    for at in random.sample(range(8, len(file)), 12):
-        changed = bytearray(file)
-        changed[at] ^= 1 << random.randrange(8)
-        refused(ZeroTrieError, lambda: Index(changed))
-    for cut in (file[:-1], file[:10], file + b"?"):
-        refused(ZeroTrieError, lambda: Index(cut))
+    assert file == in_blocks(bytes(made)), size
+    for file in (file, as_a_whole(bytes(made))):
+        opened = Index(file)
+        assert opened == Index(file, check=True) == made and bytes(opened) == bytes(made) and opened.seal() == made.seal()
+        for at in random.sample(range(8, len(file)), 12):
+            changed = bytearray(file)
+            changed[at] ^= 1 << random.randrange(8)
+            assert refused(ZeroTrieError, lambda: Index(changed)).status == (19 if at in (8, 9) else 18)
+        for cut in (file[:-1], file[:10], file + b"?"):
+            assert refused(ZeroTrieError, lambda: Index(cut), "the sealed file is damaged").status == 18
     # bytes that are no index: a listing ends
     noise = bytearray(bytes(made))
     noise[8:] = random.randbytes(len(noise) - 8)
@@ -220,7 +234,16 @@ with tempfile.TemporaryDirectory() as room:
     assert (error.status, error.path) == (16, path)
     trie.save(path)
     error = refused(ZeroTrieError, lambda: Index.open(path), "a file: this is the file of a trie, and not of an index")
-    assert error.path == path
+    assert (error.status, error.path) == (18, path)
+    # both forms of the file of an index, and neither is one of a trie
+    for file in (in_blocks(bytes(big_index)), as_a_whole(bytes(big_index))):
+        path.write_bytes(file)
+        assert Index.open(path) == Index.open(path, check=True) == big_index
+        refused(ZeroTrieError, lambda: StrTrie.open(path), "a file: this is the file of an index, and not of a trie")
+        path.write_bytes(file[:-1])
+        refused(ZeroTrieError, lambda: Index.open(path), "a file: the sealed file is damaged")
+    path.write_bytes(trie.seal()[:-1])
+    refused(ZeroTrieError, lambda: Index.open(path), "a file: the sealed file is damaged")
     path.write_bytes(b"")
     assert refused(ZeroTrieError, lambda: StrTrie.open(path), "a file: this is no file of a trie: it is empty").status == 13
     path.write_bytes(b"#include <stdio.h>")

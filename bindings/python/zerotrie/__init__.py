@@ -763,7 +763,7 @@ class Index(Table, _InBytes, Mapping[Any, int]):
 
     `data` is the bytes of an index, or of the sealed file of one, which are not copied: don't change
     them. They are validated first, and ZeroTrieError is raised if they are no index, unless `check`
-    is false; a sealed file has a checksum instead, and is validated too if `check` is true.
+    is false; a sealed file has checksums instead, and is validated too if `check` is true.
 
     It is a Mapping. Its pairs are listed in no order, and counted by listing them.
     """
@@ -801,7 +801,7 @@ class Index(Table, _InBytes, Mapping[Any, int]):
             raise in_file(error, path) from None
 
     def seal(self) -> bytes:
-        """The bytes of a sealed file: the length and a checksum, and then the index."""
+        """The bytes of a sealed file: the length, the checksums of blocks, and then the index."""
         # the view keeps the bytes in place during the call
         view, _, *lent = self._lent()
         return bytes(sealed_index(*lent))

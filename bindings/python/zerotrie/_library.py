@@ -139,6 +139,8 @@ _DECLARED: dict[str, tuple[Any, list[Any]]] = {
     "zerotrie_first_key_of": (c_uint32, [c_uint32, *BYTES, c_size_t, *BYTES, SIZE]),
     "zerotrie_index_get": (c_bool, [*BYTES, *TEXT, SIZE]),
     "zerotrie_index_is_valid": (c_bool, BYTES),
+    "zerotrie_open_index": (c_uint32, [*BYTES, SIZE, SIZE]),
+    "zerotrie_seal_index": (c_uint32, [*BYTES, *BYTES, SIZE]),
     "zerotrie_index_build": (c_uint32, [c_uint64, *RAW_PAIRS, *BYTES, SIZE]),
     "zerotrie_index_build_many": (c_uint32, [c_uint64, *TEXT, *SIZES, *SIZES, *BYTES, SIZE]),
 }

@@ -15,19 +15,16 @@ from ctypes import (
 from typing import Any, BinaryIO, Optional
 
 from ._errors import (
-    DAMAGED, NO_ENTRY, RULES, TOO_SMALL, UNKNOWN_VERSION, Kind, ZeroTrieError, check_status,
-    error_of,
+    DAMAGED, DONE, NO_ENTRY, RULES, TOO_SMALL, Kind, ZeroTrieError, check_status,
 )
 from ._library import NOTHING, lib
 from ._pairs import Path
 
-#: A sealed file has this many bytes before its content, and begins with the magic and the version.
+#: A sealed file has this many bytes before its content, and begins with the magic.
 SEAL_LEN = 24
-MAGIC, VERSION = b"\x7a\x74\x72\x69\x89\x8a\x0d\x0a", b"\1\0"
-#: The number of the kind of an index in a sealed file.
-INDEX_KIND = 24
-#: What a step of the checksum does where it takes a bit.
-CRC_32C = 0x82F63B78
+MAGIC = b"\x7a\x74\x72\x69\x89\x8a\x0d\x0a"
+#: The file of an index has a checksum for each block of as many bytes.
+BLOCK_LEN = 65536
 
 
 def view_of(data: Any, whose: str) -> memoryview:
@@ -78,14 +75,10 @@ def sealed(kind: int, at: int, length: int) -> Any:
 
 def sealed_index(at: int, length: int) -> Any:
     """The bytes of the sealed file of the index at an address."""
-    room, other = sealed(8, at, length), sealed(0, at, length)
-    checksum, without_bit_3 = (int.from_bytes(file[20:24], "little") for file in (room, other))
-    # The library seals tries alone. The number of an index has bit 4 too, and a change of a bit
-    # changes the checksum by the same whatever the others are: by what bit 3 does, one step before.
-    change = checksum ^ without_bit_3
-    change = (change ^ CRC_32C) << 1 | 1 if change >> 31 else change << 1
-    room[10] = INDEX_KIND
-    room[20:24] = (checksum ^ change).to_bytes(4, "little")
+    # behind the header are the length of the index and the checksums
+    front = SEAL_LEN + 8 + 4 * -(-length // BLOCK_LEN)
+    room, made = (c_uint8 * (front + length))(), c_size_t()
+    check_status(lib.zerotrie_seal_index(at, length, room, len(room), made))
     return room
 
 
@@ -95,22 +88,25 @@ def index_in(view: memoryview, at: int) -> tuple[memoryview, int, bool]:
     """
     if view[: len(MAGIC)] != MAGIC:
         return view, at, False
-    content = view[SEAL_LEN:]
-    if len(view) < SEAL_LEN or view[8:10] != VERSION:
-        raise error_of(DAMAGED if len(view) < SEAL_LEN else UNKNOWN_VERSION)
-    if int.from_bytes(view[10:12], "little") in [*Kind]:
-        raise ZeroTrieError("this is the file of a trie, and not of an index")
-    if view[:SEAL_LEN] != bytes(sealed_index(at + SEAL_LEN, len(content))[:SEAL_LEN]):
-        raise error_of(DAMAGED)
-    return content, at + SEAL_LEN, True
+    begin, length = c_size_t(), c_size_t()
+    status: int = lib.zerotrie_open_index(at, len(view), begin, length)
+    if status == DAMAGED and holds_trie(view, at):
+        raise ZeroTrieError("this is the file of a trie, and not of an index", status)
+    check_status(status)
+    index = view[begin.value : begin.value + length.value]
+    return index, at + begin.value, True
 
 
 def holds_index(view: memoryview, at: int) -> bool:
     """Whether the file at an address is the sealed file of an index."""
-    try:
-        return index_in(view, at)[2]
-    except ZeroTrieError:
-        return False
+    status: int = lib.zerotrie_open_index(at, len(view), c_size_t(), c_size_t())
+    return status == DONE
+
+
+def holds_trie(view: memoryview, at: int) -> bool:
+    """Whether the file at an address is the sealed file of a trie, or tagged bytes."""
+    status: int = lib.zerotrie_open(at, len(view), c_uint32(), c_size_t(), c_size_t())
+    return status == DONE
 
 
 def validate(kind: int, at: int, length: int) -> None:

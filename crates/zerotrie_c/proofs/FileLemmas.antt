@@ -1,13 +1,15 @@
 -- Files that are sealed or tagged.
-use Rattle.std.proofs.Common.{◌≡◌, ℕ, ◌+◌, ◌≤◌, ◌<◌, inl, inr, List, ◌++◌, length, take, drop, get_or, refl, sym, ap, ◌∙◌, arith}
+use Rattle.std.proofs.Common.{◌≡◌, ℕ, ◌+◌, ◌-◌, ◌≤◌, ◌<◌, inl, inr, List, ◌++◌, length, take, drop, get_or, refl, sym, ap, subst, ◌∙◌, length-append, arith}
 use Rattle.std.proofs.lemmas.List.{take_all}
+use Rattle.std.proofs.lemmas.Bool.{cases_eq}
+use Rattle.std.proofs.Math.Seq.{drop-append_seam}
 use Rattle.zerotrie_core.specs.Kind.{Kind, simple_ascii, ignore_case, perfect_hash, extended_capacity}
 use Rattle.zerotrie_any.specs.Tagged.{tagged}
-use Rattle.zerotrie_sealed.specs.Sealed.{magic, header, IsSealed}
-use Rattle.zerotrie_sealed.specs.Faults.{IsSealFault, IsSealRightBefore}
+use Rattle.zerotrie_sealed.specs.Sealed.{magic, index_number, blocks_number, IsIndexNumber, header, header_as, IsSealed, IsSealedIndex}
+use Rattle.zerotrie_sealed.specs.Faults.{kind_in, IsFaultBy, IsRightBefore, IsSealFault, IsSealRightBefore, IsBlocksFault, IsBlocksRightBefore, IsIndexFault, IsIndexRightBefore}
 use Rattle.zerotrie_sealed.specs.declared.reading.SealError.{SealError}
 use Rattle.zerotrie_sealed.specs.declared.reading.SealError.TheVariants.{NoMagic, UnknownVersion, UnknownKind, CutShort, TooLong, Checksum}
-use Rattle.zerotrie_c.specs.Files.{seal_status_of, IsNoFile, IsFileFault}
+use Rattle.zerotrie_c.specs.Files.{seal_status_of, IsNoFile, IsFileFault, IsIndexFileFault}
 
 -- ---- a sealed file
 
@@ -50,3 +52,49 @@ seal_fault file (UnknownKind number) begins fault before = inl (begins, refl, λ
 seal_fault file CutShort begins fault before = inl (begins, refl, λ long. (before.1 long).0.1)
 seal_fault file TooLong begins fault before = inl (begins, refl, λ long. before.0.1)
 seal_fault file Checksum begins fault before = inl (begins, refl, λ long. before.0.0.1)
+
+-- ---- the file of an index
+
+-- the index is behind what is in front of it
+pub front_of : (index file : List ℕ) → IsSealedIndex index file → (front : List ℕ) × (file ≡ front ++ index)
+front_of index file (inl is) = (header_as index_number index, is.parts)
+front_of index file (inr is) = (is.front, is.parts)
+
+pub index_fits : (index file : List ℕ) → IsSealedIndex index file → length index ≤ length file
+index_fits index file is =
+    let front = front_of index file is in
+    let e : length file ≡ length front.0 + length index = ap length front.1 ∙ length-append front.0 index in
+    omega arith
+
+-- as many bytes at the end of the file are the index
+pub index_part : (index file : List ℕ) → IsSealedIndex index file → IsSealedIndex (take (length index) (drop (length file - length index) file)) file
+index_part index file is =
+    let front = front_of index file is in
+    let e : length file ≡ length front.0 + length index = ap length front.1 ∙ length-append front.0 index in
+    let start : length file - length index ≡ length front.0 = omega arith in
+    let behind : drop (length file - length index) file ≡ index = ap (λ n. drop n file) start ∙ ap (drop (length front.0)) front.1 ∙ drop-append_seam front.0 index in
+    let part : take (length index) (drop (length file - length index) file) ≡ index = ap (take (length index)) behind ∙ take_all (length index) index (omega arith) in
+    subst (λ l. IsSealedIndex l file) (sym part) is
+
+-- the first cause of an error, by the number in the file
+whole_index_fault : (file : List ℕ) (e : SealError) → IsFaultBy IsIndexNumber file e → IsRightBefore IsIndexNumber file e → IsIndexFileFault file (seal_status_of e)
+whole_index_fault file NoMagic fault before = inl (refl, λ begins. absurd (fault begins))
+whole_index_fault file (UnknownVersion number) fault before = inr (before.0, refl, before.1, λ same. fault.1 (sym fault.0 ∙ same))
+whole_index_fault file (UnknownKind number) fault before = inl (refl, λ begins long. before.1)
+whole_index_fault file CutShort fault before = inl (refl, λ begins long. (before.1 long).0.1)
+whole_index_fault file TooLong fault before = inl (refl, λ begins long. before.0.1)
+whole_index_fault file Checksum fault before = inl (refl, λ begins long. before.0.0.1)
+
+blocks_index_fault : (file : List ℕ) (e : SealError) → IsBlocksFault file e → IsBlocksRightBefore file e → IsIndexFileFault file (seal_status_of e)
+blocks_index_fault file NoMagic fault before = inl (refl, λ begins. absurd (fault begins))
+blocks_index_fault file (UnknownVersion number) fault before = inr (before.0, refl, before.1, λ same. fault.1 (sym fault.0 ∙ same))
+blocks_index_fault file (UnknownKind number) fault before = inl (refl, λ begins long. before.1)
+blocks_index_fault file CutShort fault before = inl (refl, λ begins long. (before.0.1 long).0.1)
+blocks_index_fault file TooLong fault before = inl (refl, λ begins long. before.0.0.1)
+blocks_index_fault file Checksum fault before = inl (refl, λ begins long. before.0.0.1)
+
+pub index_fault : (file : List ℕ) (e : SealError) → IsIndexFault file e → IsIndexRightBefore file e → IsIndexFileFault file (seal_status_of e)
+index_fault file e fault before = elim (cases_eq (kind_in file) blocks_number) [
+  | inl is ↦ blocks_index_fault file e (fault.1 is) (before.1 is)
+  | inr other ↦ whole_index_fault file e (fault.0 other) (before.0 other)
+]

@@ -5,11 +5,17 @@ ghost use Rattle.zerotrie_sealed.specs.Sealed.{magic, IsSealed};
 ghost use Rattle.zerotrie_c.specs.Numbers.{kind_of};
 ghost use Rattle.zerotrie_c.specs.Builds.{IsHandedOut};
 ghost use Rattle.zerotrie_c.specs.Statuses.{unknown_kind};
-ghost use Rattle.zerotrie_c.specs.Files.{seal_status_of, IsOpened};
+ghost use Rattle.zerotrie_c.specs.Files.{seal_status_of, IsOpened, IsIndexOpened, IsIndexSealed};
 
-use crate::numbers::{BUFFER_TOO_SMALL, DAMAGED, DONE, UNKNOWN_KIND, UNKNOWN_VERSION, kind_of};
+use crate::builds::hand_out;
+use crate::numbers::{
+    BUFFER_TOO_SMALL, DAMAGED, DONE, OUT_OF_MEMORY, UNKNOWN_KIND, UNKNOWN_VERSION, kind_of,
+};
 use crate::tags::{put_both, zerotrie_tagged_kind};
-use zerotrie_sealed::{HEADER_LEN, SealError, begins_sealed, header_of, open};
+use std::alloc::Global;
+use zerotrie_sealed::{
+    HEADER_LEN, SealError, begins_sealed, header_of, open, open_index, seal_index_in_blocks,
+};
 
 /// Finds the trie in a file that begins as no sealed one.
 fn open_tagged(file: &[u8], kind: &mut u32, at: &mut usize, trie_len: &mut usize) -> u32
@@ -24,7 +30,7 @@ fn open_tagged(file: &[u8], kind: &mut u32, at: &mut usize, trie_len: &mut usize
     status
 }
 
-/// Returns the status of an error of a file that begins as a sealed one.
+/// Returns the status of an error of a file that is to be a sealed one.
 fn seal_status_of(error: SealError) -> u32
     ensures { result ≡ seal_status_of error }
 {
@@ -99,4 +105,41 @@ pub extern "C" fn zerotrie_seal(
     }
     put_both(&header_of(kind, bytes), bytes, out);
     DONE
+}
+
+/// Finds the index in a sealed file, as a whole or in blocks: sets `at` to where its bytes begin,
+/// and `index_len` to their number. They reach to the end of the file. It does not validate the
+/// index.
+///
+/// A file is taken exactly if its parts agree, and the bytes that it finds are those that were
+/// sealed. If the file is refused, nothing is written.
+#[unsafe(no_mangle)]
+pub extern "C" fn zerotrie_open_index(file: &[u8], at: &mut usize, index_len: &mut usize) -> u32
+    ensures { IsIndexOpened file.now result at.old at.new index_len.old index_len.new }
+{
+    match open_index(file) {
+        Ok(index) => {
+            *at = file.len() - index.len();
+            *index_len = index.len();
+            DONE
+        }
+        Err(error) => seal_status_of(error),
+    }
+}
+
+/// Writes the sealed file of an index, in blocks, to the beginning of `out`, if there is room, and
+/// sets `sealed_len`.
+#[unsafe(no_mangle)]
+pub extern "C" fn zerotrie_seal_index(
+    alloc: Global,
+    index: &[u8],
+    out: &mut [u8],
+    sealed_len: &mut usize,
+) -> u32
+    ensures { IsIndexSealed index.now result sealed_len.old sealed_len.new out.old out.new }
+{
+    match seal_index_in_blocks(alloc, index) {
+        Ok(file) => hand_out(file.as_slice(), out, sealed_len),
+        Err(_) => OUT_OF_MEMORY,
+    }
 }

@@ -74,4 +74,7 @@ pub trait Library {
     fn index_build(&self, seed: u64, pairs: &[Pair]) -> Result<Vec<u8>, Status>;
     fn index_get(&self, bytes: &[u8], key: &[u8]) -> Option<usize>;
     fn index_is_valid(&self, bytes: &[u8]) -> bool;
+    /// The file of an index, in blocks.
+    fn index_seal(&self, bytes: &[u8]) -> Vec<u8>;
+    fn index_open(&self, file: &[u8]) -> Result<Vec<u8>, Status>;
 }

@@ -5,8 +5,10 @@ use std::collections::BTreeMap;
 use std::ops::Bound;
 use zerotrie::dense::{RecordError, ZeroAsciiDenseSparse2dTrieBorrowed, ZeroAsciiDenseSparse2dTrieOwned};
 use zerotrie::index::{ZeroIndex, ZeroIndexBuildError};
+use zerotrie::rstd::alloc::Global;
 use zerotrie::search::{Automaton, BeginsWith, Glob, GlobError, KeyRange, Levenshtein, LevenshteinChars, Subsequence};
 use zerotrie::sets::{MergeAll, Rule, RuleError, Selection};
+use zerotrie::zerotrie_sealed::seal_index_in_blocks;
 use zerotrie::{
     FaultCause, SealError, TagError, ZeroAsciiIgnoreCaseTrie, ZeroTrie, ZeroTrieBuildError, ZeroTrieExtendedCapacity,
     ZeroTriePerfectHash, ZeroTrieSimpleAscii,
@@ -181,7 +183,7 @@ impl Library for Plain {
         let mut taken = Vec::new();
         while rows.advance() {
             let value = rows.selected(selection, rule).map_err(|error| match error {
-                RuleError::SeveralValues => 6u32,
+                RuleError::SeveralValues | RuleError::DifferentValues => 6u32,
                 RuleError::SumTooLarge => 25,
             })?;
             taken.extend(value.map(|value| (rows.key().to_vec(), value)));
@@ -345,5 +347,17 @@ impl Library for Plain {
 
     fn index_is_valid(&self, bytes: &[u8]) -> bool {
         ZeroIndex::from_store(bytes).is_well_formed()
+    }
+
+    // ZeroIndex::seal seals as a whole
+    fn index_seal(&self, bytes: &[u8]) -> Vec<u8> {
+        seal_index_in_blocks(Global, bytes).expect("memory").into_inner()
+    }
+
+    fn index_open(&self, file: &[u8]) -> Result<Vec<u8>, Status> {
+        ZeroIndex::open(file).map(|index| index.as_bytes().to_vec()).map_err(|error| match error {
+            SealError::UnknownVersion(_) => 19,
+            _ => 18,
+        })
     }
 }

@@ -67,6 +67,8 @@ unsafe extern "C" {
     fn zerotrie_index_build(seed: u64, pairs: *const KeyAndValue, count: usize, out: *mut u8, room: usize, len: &mut usize) -> u32;
     fn zerotrie_index_get(bytes: *const u8, len: usize, key: *const u8, key_len: usize, value: &mut usize) -> bool;
     fn zerotrie_index_is_valid(bytes: *const u8, len: usize) -> bool;
+    fn zerotrie_seal_index(index: *const u8, len: usize, out: *mut u8, room: usize, sealed: &mut usize) -> u32;
+    fn zerotrie_open_index(file: *const u8, len: usize, at: &mut usize, index_len: &mut usize) -> u32;
 }
 
 pub struct Proved;
@@ -193,6 +195,19 @@ fn written(room: usize, build: impl FnOnce(*mut u8, usize, &mut usize) -> u32) -
 fn room_of(pairs: &[Pair]) -> usize {
     // SAFETY: it takes numbers alone.
     unsafe { zerotrie_build_bound(pairs.len(), pairs.iter().map(|pair| pair.0.len()).sum()) }
+}
+
+/// The number that C has for a rule.
+fn number_of(rule: Rule) -> u32 {
+    match rule {
+        Rule::First => 0,
+        Rule::Last => 1,
+        Rule::Sum => 2,
+        Rule::Min => 3,
+        Rule::Max => 4,
+        Rule::Refuse => 5,
+        Rule::Equal => 6,
+    }
 }
 
 impl Library for Proved {
@@ -444,7 +459,7 @@ impl Library for Proved {
         written(room, |out, room, len| unsafe {
             zerotrie_combine(
                 selection as u32,
-                rule as u32,
+                number_of(rule),
                 lent.as_ptr(),
                 lent.len(),
                 kind.into(),
@@ -675,5 +690,20 @@ impl Library for Proved {
 
     fn index_is_valid(&self, bytes: &[u8]) -> bool {
         unsafe { zerotrie_index_is_valid(bytes.as_ptr(), bytes.len()) }
+    }
+
+    fn index_seal(&self, bytes: &[u8]) -> Vec<u8> {
+        written(bytes.len() + 36, |out, room, len| unsafe {
+            zerotrie_seal_index(bytes.as_ptr(), bytes.len(), out, room, len)
+        })
+        .unwrap()
+    }
+
+    fn index_open(&self, file: &[u8]) -> Result<Vec<u8>, Status> {
+        let (mut at, mut len) = (0, 0);
+        match unsafe { zerotrie_open_index(file.as_ptr(), file.len(), &mut at, &mut len) } {
+            0 => Ok(file[at..at + len].to_vec()),
+            status => Err(status),
+        }
     }
 }

@@ -261,7 +261,7 @@ impl Round {
             Selection::Difference,
             Selection::SymmetricDifference,
         ];
-        let rules = [Rule::First, Rule::Last, Rule::Sum, Rule::Min, Rule::Max, Rule::Refuse];
+        let rules = [Rule::First, Rule::Last, Rule::Sum, Rule::Min, Rule::Max, Rule::Equal, Rule::Refuse];
         let selection = selections[self.seed as usize >> 8 & 3];
         let rule = rules[(self.seed as usize >> 16) % rules.len()];
         let count = (self.seed as usize >> 32) % 4;
@@ -310,6 +310,13 @@ impl Round {
             answers.add("index_get", library.index_get(&index, key));
             answers.add("index_get", library.index_get(&self.bytes, key));
         }
+        let mut file = library.index_seal(&index);
+        answers.add("index_open", library.index_open(&file));
+        let at = self.seed as usize % file.len();
+        file[at] ^= 1 << (self.seed >> 61);
+        answers.add("index_open", library.index_open(&file));
+        answers.add("index_open", library.index_open(&self.bytes));
+        answers.add("index_seal", file);
     }
 }
 
