@@ -10,8 +10,10 @@ use crate::rstd::alloc::{AllocError, Global};
 use crate::sealed::Sealed;
 use crate::zerotrie_core::ZeroTrieWithOptions;
 use crate::zerotrie_index;
-use crate::zerotrie_sealed::{SealError, seal_index};
+use crate::zerotrie_sealed::{SealError, seal_index_in_blocks};
 use alloc::vec::Vec;
+use core::error::Error;
+use core::fmt;
 
 /// A map from byte strings to numbers for exact look-ups.
 ///
@@ -140,7 +142,8 @@ impl<Store: AsRef<[u8]>> ZeroIndex<Store> {
         ZeroIndex::from_store(self.as_bytes().to_vec())
     }
 
-    /// Returns a sealed file: a header with the length and a checksum, followed by the bytes.
+    /// Returns a sealed file: the length and the checksum of each block, followed by the bytes. [`ZeroIndex::open`]
+    /// reads it as a whole, and [`SealedIndex`] at places.
     ///
     /// ```
     /// use zerotrie::index::ZeroIndex;
@@ -150,7 +153,7 @@ impl<Store: AsRef<[u8]>> ZeroIndex<Store> {
     /// # Ok::<(), zerotrie::index::ZeroIndexBuildError>(())
     /// ```
     pub fn seal(&self) -> Vec<u8> {
-        allocated(seal_index(Global, self.as_bytes())).into_inner()
+        allocated(seal_index_in_blocks(Global, self.as_bytes())).into_inner()
     }
 }
 
@@ -286,6 +289,14 @@ enum Fault<E> {
     Memory(AllocError),
 }
 
+/// Returns what was read. A failed allocation ends the program, as everywhere in `alloc`.
+fn read<T, E>(result: Result<T, Fault<E>>) -> Result<T, E> {
+    result.map_err(|fault| match fault {
+        Fault::Read(error) => error,
+        Fault::Memory(error) => allocated(Err(error)),
+    })
+}
+
 impl<E> From<AllocError> for Fault<E> {
     fn from(error: AllocError) -> Self {
         Fault::Memory(error)
@@ -331,9 +342,88 @@ pub fn get_at<S: ReadAt, K: AsRef<[u8]>>(
     source: &mut S,
     key: K,
 ) -> Result<Option<usize>, S::Error> {
-    match zerotrie_index::get_at(Global, &mut Source(source), key.as_ref()) {
-        Ok(value) => Ok(value),
-        Err(Fault::Read(error)) => Err(error),
-        Err(Fault::Memory(error)) => allocated(Err(error)),
+    read(zerotrie_index::get_at(
+        Global,
+        &mut Source(source),
+        key.as_ref(),
+    ))
+}
+
+/// Why an index can't be read in its file.
+#[derive(Debug, Clone, Copy, PartialEq, Eq)]
+pub enum FileError<E> {
+    /// A read failed.
+    Read(E),
+    /// The file does not begin as a sealed index in blocks, or a block is damaged.
+    Seal(SealError),
+}
+
+impl<E: fmt::Display> fmt::Display for FileError<E> {
+    fn fmt(&self, f: &mut fmt::Formatter<'_>) -> fmt::Result {
+        match self {
+            FileError::Read(error) => error.fmt(f),
+            FileError::Seal(error) => error.fmt(f),
+        }
+    }
+}
+
+impl<E: fmt::Debug + fmt::Display> Error for FileError<E> {}
+
+impl<E> From<SealError> for Fault<FileError<E>> {
+    fn from(error: SealError) -> Self {
+        Fault::Read(FileError::Seal(error))
+    }
+}
+
+/// A file that is read at places, with all that can be wrong with it.
+struct File<S>(S);
+
+impl<S: ReadAt> ReadAt for File<S> {
+    type Error = Fault<FileError<S::Error>>;
+
+    fn fill(&mut self, place: u64, room: &mut [u8]) -> Result<(), Self::Error> {
+        self.0
+            .fill(place, room)
+            .map_err(|error| Fault::Read(FileError::Read(error)))
+    }
+}
+
+/// An index in a file that [`ZeroIndex::seal`] or the program made, of which only the blocks are read
+/// that a look-up needs: some 64 KB each. Their checksums are compared.
+///
+/// ```
+/// use zerotrie::index::{ReadAt, SealedIndex, ZeroIndex};
+///
+/// struct Bytes(Vec<u8>);
+///
+/// impl ReadAt for Bytes {
+///     type Error = &'static str;
+///
+///     fn fill(&mut self, place: u64, room: &mut [u8]) -> Result<(), Self::Error> {
+///         let from = usize::try_from(place).unwrap_or(usize::MAX);
+///         let bytes = self.0.get(from..).and_then(|rest| rest.get(..room.len()));
+///         room.copy_from_slice(bytes.ok_or("the file is cut")?);
+///         Ok(())
+///     }
+/// }
+///
+/// let file = ZeroIndex::try_from_iter([("in", 1), ("on", 2)])?.seal();
+/// let mut index = SealedIndex::open(Bytes(file)).unwrap();
+/// assert_eq!(index.get("on"), Ok(Some(2)));
+/// # Ok::<(), zerotrie::index::ZeroIndexBuildError>(())
+/// ```
+///
+/// Damage elsewhere in the file isn't looked for: [`ZeroIndex::open`] finds it.
+pub struct SealedIndex<S>(zerotrie_index::SealedIndex<File<S>>);
+
+impl<S: ReadAt> SealedIndex<S> {
+    /// Reads what is in front of the index.
+    pub fn open(file: S) -> Result<Self, FileError<S::Error>> {
+        read(zerotrie_index::SealedIndex::open(Global, File(file))).map(SealedIndex)
+    }
+
+    /// Returns the value of a key.
+    pub fn get<K: AsRef<[u8]>>(&mut self, key: K) -> Result<Option<usize>, FileError<S::Error>> {
+        read(zerotrie_index::get_at(Global, &mut self.0, key.as_ref()))
     }
 }

@@ -108,3 +108,21 @@ pub mod examples {
     pub use super::prelude::*;
     pub type Fail = alloc::boxed::Box<dyn core::error::Error>;
 }
+
+/// What an error of a file is made of: this package reads none.
+#[allow(dead_code)]
+pub mod io {
+    #[derive(Debug)]
+    pub enum ErrorKind {
+        InvalidData,
+    }
+
+    #[derive(Debug)]
+    pub struct Error(ErrorKind);
+
+    impl From<ErrorKind> for Error {
+        fn from(kind: ErrorKind) -> Self {
+            Error(kind)
+        }
+    }
+}

@@ -201,7 +201,7 @@ fn build_under<K: TrieKey, A: Allocator + Copy>(
 /// on.
 ///
 /// ```
-/// # use zerotrie::{rstd::examples::*, zerotrie_index::*, zerotrie_base::*, zerotrie_core::*};
+/// # use zerotrie::{rstd::examples::*, zerotrie_index::*, zerotrie_base::*, zerotrie_core::*, zerotrie_sealed::*};
 /// let index = build(Global, 0, &[("ad", 22), ("adef", 33)])?;
 /// let (head, rest) = index.as_slice().split_at(16);
 /// let (entries, pool) = rest.split_at(40);

@@ -70,7 +70,7 @@ fn after_blocks(factor: u64, start: u64, key: &[u8]) -> u64 {
 /// Returns the hash of a key under a seed.
 ///
 /// ```
-/// # use zerotrie::{rstd::examples::*, zerotrie_index::*, zerotrie_base::*, zerotrie_core::*};
+/// # use zerotrie::{rstd::examples::*, zerotrie_index::*, zerotrie_base::*, zerotrie_core::*, zerotrie_sealed::*};
 /// assert_eq!(hash_of(0, b"adef"), 0x4378_AF77_1912_CE2E);
 /// assert_eq!(hash_of(1, b"https://example.org/"), 0x32EE_CB06_5348_F7EA);
 /// # Ok::<(), Fail>(())

@@ -14,7 +14,7 @@ use crate::zerotrie_base::{ConvertStore, TrieKey, TrieStore};
 /// place.
 ///
 /// ```
-/// # use zerotrie::{rstd::examples::*, zerotrie_index::*, zerotrie_base::*, zerotrie_core::*};
+/// # use zerotrie::{rstd::examples::*, zerotrie_index::*, zerotrie_base::*, zerotrie_core::*, zerotrie_sealed::*};
 /// let index = ZeroIndex::try_from_sorted_slice(Global, &[("ad", 22), ("adef", 33)])?;
 /// assert_eq!(index.get(b"adef"), Some(33));
 /// assert_eq!(index.get(b"ade"), None);
@@ -32,7 +32,7 @@ impl ZeroIndex<Vec<u8>> {
     /// Builds the index of a slice, whose keys must strictly ascend by their bytes.
     ///
     /// ```
-    /// # use zerotrie::{rstd::examples::*, zerotrie_index::*, zerotrie_base::*, zerotrie_core::*};
+    /// # use zerotrie::{rstd::examples::*, zerotrie_index::*, zerotrie_base::*, zerotrie_core::*, zerotrie_sealed::*};
     /// let unsorted = [("to", 1), ("in", 2)];
     /// let built = ZeroIndex::try_from_sorted_slice(Global, &unsorted);
     /// assert!(matches!(built, Err(ZeroIndexBuildError::Unsorted)));
@@ -53,7 +53,7 @@ impl ZeroIndex<Vec<u8>> {
     /// Builds the index of a slice in any order, whose keys must be distinct.
     ///
     /// ```
-    /// # use zerotrie::{rstd::examples::*, zerotrie_index::*, zerotrie_base::*, zerotrie_core::*};
+    /// # use zerotrie::{rstd::examples::*, zerotrie_index::*, zerotrie_base::*, zerotrie_core::*, zerotrie_sealed::*};
     /// let index = ZeroIndex::try_from_unsorted_slice(Global, &[("to", 1), ("in", 2)])?;
     /// assert_eq!(index.get(b"in"), Some(2));
     /// # Ok::<(), Fail>(())
@@ -72,7 +72,7 @@ impl ZeroIndex<Vec<u8>> {
     /// know the seed can't choose keys that make the build return `Crowded`.
     ///
     /// ```
-    /// # use zerotrie::{rstd::examples::*, zerotrie_index::*, zerotrie_base::*, zerotrie_core::*};
+    /// # use zerotrie::{rstd::examples::*, zerotrie_index::*, zerotrie_base::*, zerotrie_core::*, zerotrie_sealed::*};
     /// let index = ZeroIndex::try_from_seed(Global, 0x5EED, &[("to", 1), ("in", 2)])?;
     /// assert_eq!(index.get(b"to"), Some(1));
     /// # Ok::<(), Fail>(())
@@ -94,7 +94,7 @@ impl ZeroIndex<Vec<u8>> {
     /// is done.
     ///
     /// ```
-    /// # use zerotrie::{rstd::examples::*, zerotrie_index::*, zerotrie_base::*, zerotrie_core::*};
+    /// # use zerotrie::{rstd::examples::*, zerotrie_index::*, zerotrie_base::*, zerotrie_core::*, zerotrie_sealed::*};
     /// let index = ZeroIndex::try_from_iter(Global, [("to", 1), ("in", 2)])?;
     /// assert_eq!(index.get(b"in"), Some(2));
     /// let twice = ZeroIndex::try_from_iter(Global, [("to", 1), ("to", 1)]);
@@ -120,7 +120,7 @@ impl<S: TrieStore> ZeroIndex<S> {
     /// Takes bytes as an index. Does not validate them.
     ///
     /// ```
-    /// # use zerotrie::{rstd::examples::*, zerotrie_index::*, zerotrie_base::*, zerotrie_core::*};
+    /// # use zerotrie::{rstd::examples::*, zerotrie_index::*, zerotrie_base::*, zerotrie_core::*, zerotrie_sealed::*};
     /// let index = ZeroIndex::try_from_sorted_slice(Global, &[("ad", 22)])?;
     /// let shipped = ZeroIndex::from_bytes(index.as_bytes());
     /// assert_eq!(shipped.get(b"ad"), Some(22));
@@ -133,7 +133,7 @@ impl<S: TrieStore> ZeroIndex<S> {
     /// Takes bytes as an index if they are one.
     ///
     /// ```
-    /// # use zerotrie::{rstd::examples::*, zerotrie_index::*, zerotrie_base::*, zerotrie_core::*};
+    /// # use zerotrie::{rstd::examples::*, zerotrie_index::*, zerotrie_base::*, zerotrie_core::*, zerotrie_sealed::*};
     /// let index = ZeroIndex::try_from_sorted_slice(Global, &[("ad", 22)])?;
     /// let shipped = ZeroIndex::try_from_bytes(index.as_bytes())?;
     /// assert_eq!(shipped.get(b"ad"), Some(22));
@@ -172,7 +172,7 @@ impl<S: TrieStore> ZeroIndex<S> {
     /// Returns whether a key is there.
     ///
     /// ```
-    /// # use zerotrie::{rstd::examples::*, zerotrie_index::*, zerotrie_base::*, zerotrie_core::*};
+    /// # use zerotrie::{rstd::examples::*, zerotrie_index::*, zerotrie_base::*, zerotrie_core::*, zerotrie_sealed::*};
     /// let index = ZeroIndex::try_from_sorted_slice(Global, &[("ad", 22)])?;
     /// assert!(index.contains_key(b"ad") && !index.contains_key(b"a"));
     /// # Ok::<(), Fail>(())
@@ -184,7 +184,7 @@ impl<S: TrieStore> ZeroIndex<S> {
     /// Returns the index of the same bytes over another type of store. Does not allocate.
     ///
     /// ```
-    /// # use zerotrie::{rstd::examples::*, zerotrie_index::*, zerotrie_base::*, zerotrie_core::*};
+    /// # use zerotrie::{rstd::examples::*, zerotrie_index::*, zerotrie_base::*, zerotrie_core::*, zerotrie_sealed::*};
     /// let index = ZeroIndex::try_from_sorted_slice(Global, &[("ad", 22)])?;
     /// let shared: ZeroIndex<CowSlice<'_, u8>> = index.convert_store();
     /// assert_eq!(shared.get(b"ad"), Some(22));

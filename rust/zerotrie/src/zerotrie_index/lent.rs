@@ -48,7 +48,7 @@ fn items_of<'a>(
 /// a trie can give it each pair.
 ///
 /// ```
-/// # use zerotrie::{rstd::examples::*, zerotrie_index::*, zerotrie_base::*, zerotrie_core::*};
+/// # use zerotrie::{rstd::examples::*, zerotrie_index::*, zerotrie_base::*, zerotrie_core::*, zerotrie_sealed::*};
 /// let mut builder = ZeroIndexBuilder::new(Global);
 /// builder.push(b"to", 1)?;
 /// builder.push(b"in", 2)?;

@@ -37,7 +37,7 @@ impl ZeroIndex<Vec<u8>> {
     /// are in lower case; ask for these.
     ///
     /// ```
-    /// # use zerotrie::{rstd::examples::*, zerotrie_index::*, zerotrie_base::*, zerotrie_core::*};
+    /// # use zerotrie::{rstd::examples::*, zerotrie_index::*, zerotrie_base::*, zerotrie_core::*, zerotrie_sealed::*};
     /// let trie = b"a\xC2bc\x01\x81\x82";           // the keys "ab" with value 1 and "ac" with value 2
     /// let index = ZeroIndex::from_trie::<Simple>(Global, trie)?;
     /// assert_eq!(index.get(b"ac"), Some(2));

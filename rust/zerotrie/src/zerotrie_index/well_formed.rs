@@ -88,7 +88,7 @@ fn are_buckets(seed: u64, count: u32, table: &[u8], pool: &[u8]) -> bool {
 /// bounded number of times.
 ///
 /// ```
-/// # use zerotrie::{rstd::examples::*, zerotrie_index::*, zerotrie_base::*, zerotrie_core::*};
+/// # use zerotrie::{rstd::examples::*, zerotrie_index::*, zerotrie_base::*, zerotrie_core::*, zerotrie_sealed::*};
 /// use zerotrie::zerotrie_index::is_well_formed;
 ///
 /// let index = build(Global, 0, &[("in", 1), ("on", 2)])?;

@@ -4,6 +4,8 @@
 use crate::rstd::prelude::*;
 use crate::zerotrie_sealed::checksum::crc32c_of_both;
 use crate::zerotrie_sealed::writing::{FRONT_LEN, HEADER_LEN, MAGIC, VERSION};
+use crate::rstd::io;
+use crate::rstd::io::ErrorKind;
 use crate::zerotrie_base::TrieKind;
 
 /// Why a file is not taken for a sealed one.
@@ -40,6 +42,13 @@ impl core::fmt::Display for SealError {
 }
 
 impl core::error::Error for SealError {}
+
+/// Of the kind `InvalidData`, for those who read files at places.
+impl From<SealError> for io::Error {
+    fn from(_: SealError) -> Self {
+        io::Error::from(ErrorKind::InvalidData)
+    }
+}
 
 /// What a sealed file has.
 #[derive(Clone, Copy, PartialEq, Eq, Debug)]

@@ -1,0 +1,127 @@
+// Made from crates/zerotrie_index/src/in_blocks.rt by rust/make: edit that.
+//! A sealed index in blocks that is read at places, as in a file: each block that is read is tested.
+
+use crate::rstd::prelude::*;
+use crate::zerotrie_index::placed::{ReadAt, read_part};
+use crate::rstd::alloc::{AllocError, Global};
+use crate::zerotrie_sealed::{BLOCK_LEN, HEADER_LEN, SealError, crc32c, open_table, table_len};
+
+/// An index in a file that is sealed in blocks, of which only the blocks are read that a look-up
+/// needs. What is read through it are the bytes of the index.
+///
+/// Each block is tested by its checksum as it is read: damage in it is `SealError::Checksum`. What
+/// isn't read isn't tested. `zerotrie_sealed::open_index` of all bytes finds damage anywhere.
+pub struct SealedIndex<S> {
+    source: S,
+    alloc: Global,
+    /// Where the index starts in the file.
+    start: u64,
+    /// The number of bytes of the index.
+    index_len: usize,
+    /// The checksums of the blocks.
+    sums: Vec<u8>,
+}
+
+/// Tests the checksum of the block of this number.
+fn test_block(sums: &[u8], number: usize, block: &[u8]) -> Result<(), SealError> {
+    let Some((_, sums)) = sums.split_at_checked(4 * number) else {
+        return Err(SealError::Checksum);
+    };
+    match sums.strip_prefix(&crc32c(block).to_le_bytes()) {
+        Some(_) => Ok(()),
+        None => Err(SealError::Checksum),
+    }
+}
+
+/// Reads the table of an index of this length.
+fn read_table<S: ReadAt>(alloc: Global, source: &mut S, len: usize) -> Result<Vec<u8>, S::Error>
+where
+    S::Error: From<AllocError> + From<SealError>,
+{
+    if usize::MAX - HEADER_LEN < len {
+        return Err(S::Error::from(SealError::CutShort));
+    }
+    read_part(alloc, source, HEADER_LEN as u64, len)
+}
+
+impl<S: ReadAt> SealedIndex<S>
+where
+    S::Error: From<AllocError> + From<SealError>,
+{
+    /// Reads the header of a file and the table behind it.
+    ///
+    /// The errors are those of the reads, and `table_len` and `open_table` return the others: the
+    /// file does not begin as an index that is sealed in blocks.
+    pub fn open(alloc: Global, source: S) -> Result<Self, S::Error> {
+        let mut source = source;
+        let mut header = [0; HEADER_LEN];
+        source.fill(0, &mut header)?;
+        let len = table_len(&header)?;
+        let table = read_table(alloc, &mut source, len)?;
+        let table = open_table(&header, table.as_slice())?;
+        let mut sums = Vec::new(alloc);
+        sums.extend_from_slice(table.sums)?;
+        Ok(SealedIndex {
+            source,
+            alloc,
+            start: (HEADER_LEN + len) as u64,
+            index_len: table.index_len,
+            sums,
+        })
+    }
+
+    /// Returns the number of bytes of the index.
+    pub fn index_len(&self) -> usize {
+        self.index_len
+    }
+
+    /// Reads and tests the block of this number.
+    fn read_block(&mut self, number: usize) -> Result<Vec<u8>, S::Error> {
+        let place = number * BLOCK_LEN;
+        let mut block = Vec::new(self.alloc);
+        block.resize(BLOCK_LEN.min(self.index_len.saturating_sub(place)), 0)?;
+        let Some(place) = self.start.checked_add(place as u64) else {
+            return Err(S::Error::from(SealError::CutShort));
+        };
+        self.source.fill(place, block.as_mut_slice())?;
+        test_block(self.sums.as_slice(), number, block.as_slice())?;
+        Ok(block)
+    }
+
+    /// Appends bytes of the index from this place on: as many as its block has, at most these.
+    fn add_part(&mut self, place: u64, most: usize, part: &mut Vec<u8>) -> Result<(), S::Error> {
+        let block = self.read_block((place / BLOCK_LEN as u64) as usize)?;
+        let offset = (place % BLOCK_LEN as u64) as usize;
+        if block.len() <= offset {
+            return Err(S::Error::from(SealError::CutShort));
+        }
+        let count = most.min(block.len() - offset);
+        part.extend_from_slice(&block.as_slice()[offset..offset + count])?;
+        Ok(())
+    }
+
+    /// Reads as many bytes of the index from this place on.
+    fn read(&mut self, place: u64, len: usize) -> Result<Vec<u8>, S::Error> {
+        let mut part = Vec::new(self.alloc);
+        while part.len() < len {
+            let Some(next) = place.checked_add(part.len() as u64) else {
+                return Err(S::Error::from(SealError::CutShort));
+            };
+            self.add_part(next, len - part.len(), &mut part)?;
+        }
+        Ok(part)
+    }
+}
+
+impl<S: ReadAt> ReadAt for SealedIndex<S>
+where
+    S::Error: From<AllocError> + From<SealError>,
+{
+    type Error = S::Error;
+
+    fn fill(&mut self, place: u64, room: &mut [u8]) -> Result<(), S::Error> {
+        let part = self.read(place, room.len())?;
+        room.copy_from_slice(part.as_slice());
+        Ok(())
+    }
+}
