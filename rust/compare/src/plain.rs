@@ -6,11 +6,13 @@ use std::ops::Bound;
 use zerotrie::dense::{RecordError, ZeroAsciiDenseSparse2dTrieBorrowed, ZeroAsciiDenseSparse2dTrieOwned};
 use zerotrie::index::{ZeroIndex, ZeroIndexBuildError};
 use zerotrie::rstd::alloc::Global;
-use zerotrie::search::{Automaton, BeginsWith, Glob, GlobError, KeyRange, Levenshtein, LevenshteinChars, Subsequence};
+use zerotrie::search::{
+    AnyAutomaton, Automaton, BeginsWith, ByKind, KeyRange, SearchBy, WordError, by_automaton, fold_by, fold_word,
+};
 use zerotrie::sets::{MergeAll, Rule, RuleError, Selection};
 use zerotrie::zerotrie_sealed::seal_index_in_blocks;
 use zerotrie::{
-    FaultCause, SealError, TagError, ZeroAsciiIgnoreCaseTrie, ZeroTrie, ZeroTrieBuildError, ZeroTrieExtendedCapacity,
+    FaultCause, SealError, TagError, TrieKind, ZeroAsciiIgnoreCaseTrie, ZeroTrie, ZeroTrieBuildError, ZeroTrieExtendedCapacity,
     ZeroTriePerfectHash, ZeroTrieSimpleAscii,
 };
 
@@ -192,31 +194,35 @@ impl Library for Plain {
     }
 
     fn search(&self, kind: u8, bytes: &[u8], prefix: &[u8], search: Search, beginnings: bool) -> Result<Found, Status> {
-        Ok(match search {
-            Search::Range(from, to) => found(kind, bytes, prefix, KeyRange { from, to }, beginnings),
-            Search::Glob(pattern) => {
-                let glob = Glob::new(pattern).map_err(|error| if error == GlobError::TooLong { 22 } else { 21u32 })?;
-                found(kind, bytes, prefix, glob, beginnings)
+        let of = TrieKind::of_tag(kind).expect("the number of a kind");
+        let (by, word) = match search {
+            Search::Range(from, to) => {
+                let folded = |bound: Bound<&[u8]>| {
+                    bound.map(|key| {
+                        let mut key = key.to_vec();
+                        fold_by(of, &mut key);
+                        key
+                    })
+                };
+                let (from, to) = (folded(from), folded(to));
+                let range = KeyRange {
+                    from: from.as_ref().map(Vec::as_slice),
+                    to: to.as_ref().map(Vec::as_slice),
+                };
+                return Ok(found(kind, bytes, prefix, ByKind(of, range), beginnings));
             }
-            Search::Subsequence(letters) => found(kind, bytes, prefix, Subsequence(letters), beginnings),
-            Search::Edits(word, edits) => found(
-                kind,
-                bytes,
-                prefix,
-                Levenshtein::new(word, edits).ok_or(22u32)?,
-                beginnings,
-            ),
-            Search::CharEdits(word, edits) => {
-                let word = std::str::from_utf8(word).map_err(|_| 21u32)?;
-                found(
-                    kind,
-                    bytes,
-                    prefix,
-                    LevenshteinChars::new(word, edits).ok_or(22u32)?,
-                    beginnings,
-                )
-            }
-        })
+            Search::Glob(pattern) => (SearchBy::Glob, pattern),
+            Search::Subsequence(letters) => (SearchBy::Subsequence, letters),
+            Search::Edits(word, edits) => (SearchBy::Fuzzy(edits.into()), word),
+            Search::CharEdits(word, edits) => (SearchBy::FuzzyChars(edits.into()), word),
+        };
+        let mut word = word.to_vec();
+        fold_word(of, by, &mut word);
+        let any = AnyAutomaton::by_kind(of, by, &word).map_err(|error| match error {
+            WordError::TooLong => 22,
+            WordError::Malformed => 21u32,
+        })?;
+        Ok(by_automaton!(any, automaton => found(kind, bytes, prefix, ByKind(of, automaton), beginnings)))
     }
 
     fn walk(&self, kind: u8, bytes: &[u8], prefix: &[u8], moves: &[Move]) -> Vec<Moved> {
