@@ -119,7 +119,8 @@ impl Library for Plain {
     fn get(&self, kind: u8, bytes: &[u8], key: &[u8]) -> Option<usize> {
         ask!(kind, bytes, trie => {
             let found = trie.get(key);
-            assert_eq!(trie.look_ups().get(key), found);
+            // of malformed bytes both return, and not the same
+            assert!(!trie.is_well_formed() || trie.look_ups().get(key) == found);
             found
         })
     }
