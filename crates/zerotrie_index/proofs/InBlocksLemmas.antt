@@ -1,54 +1,81 @@
 -- A sealed index in blocks that is read at places.
-use Rattle.std.proofs.Common.{◌≡◌, ℕ, ◌+◌, ◌-◌, ◌*◌, ◌/◌, ◌%◌, ◌^◌, ◌<◌, ◌≤◌, List, ◌++◌, Option, Some, None, length, take, drop, refl, sym, subst, ap, ◌∙◌, arith}
-use Rattle.std.specs.Prelude.{IfSome, min}
-use Rattle.std.specs.Int.{w64, to_le_bytes}
+use Rattle.std.proofs.Common.{◌≡◌, ℕ, ◌+◌, ◌-◌, ◌*◌, ◌/◌, ◌%◌, ◌^◌, ◌<◌, ◌≤◌, List, ◌++◌, length, take, drop, sym, subst, ap, ◌∙◌, arith}
+use Rattle.std.specs.Prelude.{min}
+use Rattle.std.specs.Int.{w64, to_le_bytes, from_le_bytes}
 use Rattle.std.proofs.Common.{length-append}
-use Rattle.std.proofs.lemmas.List.{drop_at, length-take, length-take-le, length-drop, take-take, drop-take, drop-drop}
+use Rattle.std.proofs.lemmas.List.{drop_at, take_all, take_min, length-take, length-take-le, length-drop, take-take, drop-take, drop-drop}
 use Rattle.zerotrie_sealed.specs.Sealed.{blocks_number, IsSealedAs, HasFront}
-use Rattle.zerotrie_index.specs.InBlocks.{HasTableOf, behind}
+use Rattle.std.proofs.lemmas.Nat.{from_le_bytes-to_le_bytes_8}
+use Rattle.zerotrie_sealed.specs.Laws.{IndexIsBehind}
+use Rattle.zerotrie_index.specs.InBlocks.{HasItsBlocks, HasTableOf, IsRightBlock, MayBeIndex, block_of}
 use Rattle.zerotrie_index.specs.Placed.{IsPart}
-use Rattle.zerotrie_index.proofs.PlacedLemmas.{more_part}
+use Rattle.zerotrie_index.proofs.PlacedLemmas.{joined}
 
 -- the header and the table that were read are what a file begins with
-begins : (file header table : List ℕ) → length header ≡ 24 → IsPart (Some file) 0 header → IsPart (Some file) 24 table → header ++ table ≡ take (24 + length table) file
+begins : (file header table : List ℕ) → length header ≡ 24 → header ≡ take (length header) file → table ≡ take (length table) (drop 24 file) → header ++ table ≡ take (24 + length table) file
 begins file header table long first second =
-    more_part (Some file) 0 header table first (subst (λ n. IsPart (Some file) (0 + n) table) (sym long) second)
+    joined header table file first (subst (λ n. table ≡ take (length table) (drop n file)) (sym long) second)
     ∙ ap (λ n. take n file) (length-append header table ∙ ap (λ n. n + length table) long)
 
-pub front_read : (held : Option (List ℕ)) (header table : List ℕ) → length header ≡ 24 → IsPart held 0 header → IsPart held 24 table
-    → 24 + length table < 2 ^ 64 → IsSealedAs blocks_number table (header ++ table) → IfSome held (HasFront (24 + length table))
-front_read None header table long first second fits sealed = tt
-front_read (Some file) header table long first second fits sealed =
+pub front_read : (file header table : List ℕ) → length header ≡ 24 → header ≡ take (length header) file → table ≡ take (length table) (drop 24 file)
+    → 24 + length table < 2 ^ 64 → IsSealedAs blocks_number table (header ++ table) → HasFront (24 + length table) file
+front_read file header table long first second fits sealed =
     let whole : header ++ table ≡ take (24 + length table) file = begins file header table long first second in
     let count : length (header ++ table) ≡ 24 + length table = length-append header table ∙ ap (λ n. n + length table) long in
     let least : 24 + length table ≡ min (24 + length table) (length file) = sym count ∙ ap length whole ∙ length-take (24 + length table) file in
     (omega (arith, least), fits, table, subst (IsSealedAs blocks_number table) whole sealed)
 
-pub table_read : (held : Option (List ℕ)) (header table : List ℕ) (index_len : ℕ) (sums : List ℕ) → length header ≡ 24 → IsPart held 0 header → IsPart held 24 table
-    → table ≡ to_le_bytes w64 index_len ++ sums → IfSome held (HasTableOf (24 + length table) index_len sums)
-table_read None header table index_len sums long first second is = tt
-table_read (Some file) header table index_len sums long first second is =
-    ap (drop 24) (sym (begins file header table long first second)) ∙ drop_at header table 24 long ∙ is
+pub table_read : (file header table : List ℕ) (index_len : ℕ) (sums : List ℕ) → length header ≡ 24 → header ≡ take (length header) file → table ≡ take (length table) (drop 24 file)
+    → index_len < 2 ^ 64 → table ≡ to_le_bytes w64 index_len ++ sums → HasTableOf (24 + length table) index_len sums file
+table_read file header table index_len sums long first second fits is =
+    (fits, ap (drop 24) (sym (begins file header table long first second)) ∙ drop_at header table 24 long ∙ is)
 
-part_of : (block file : List ℕ) (start number offset count : ℕ) → block ≡ take (length block) (drop (start + 65536 * number) file) → count + offset ≤ length block
-    → take count (drop offset block) ≡ take count (drop (65536 * number + offset) (drop start file))
-part_of block file start number offset count is within =
-    let rest = drop (start + 65536 * number) file in
-    let left = length block - offset in
-    let split : length block ≡ offset + left = omega (arith, within) in
+shorter : (a b : ℕ) (xs : List ℕ) → take a (take b xs) ≡ take (min a b) xs
+shorter a b xs =
+    let l = length-take b xs in
+    sym (take_min a (take b xs)) ∙ take-take (min a (length (take b xs))) b xs (omega (arith, l)) ∙ ap (λ n. take n xs) (omega (arith, l)) ∙ take_min (min a b) xs
+
+-- what is read of a block is the block of the index in the file
+is_block : (block file : List ℕ) (start len number : ℕ) → block ≡ take (length block) (drop (start + 65536 * number) file) → length block ≡ min 65536 (len - 65536 * number)
+    → 65536 * number ≤ len → block ≡ block_of number (take len (drop start file))
+is_block block file start len number is long within =
+    let left = len - 65536 * number in
+    let split : len ≡ 65536 * number + left = omega (arith, within) in
+    let rest : drop (65536 * number) (drop start file) ≡ drop (start + 65536 * number) file = drop-drop (65536 * number) start file ∙ ap (λ n. drop n file) (omega arith) in
+    is ∙ ap (λ n. take n (drop (start + 65536 * number) file)) long ∙ sym (shorter 65536 left (drop (start + 65536 * number) file))
+    ∙ ap (λ r. take 65536 (take left r)) (sym rest) ∙ ap (take 65536) (sym (drop-take (65536 * number) left (drop start file)))
+    ∙ ap (λ n. block_of number (take n (drop start file))) (sym split)
+
+part_of : (block bytes : List ℕ) (number offset count : ℕ) → block ≡ block_of number bytes → count + offset ≤ 65536 → take count (drop offset block) ≡ take count (drop (65536 * number + offset) bytes)
+part_of block bytes number offset count is within =
+    let rest = drop (65536 * number) bytes in
+    let left = 65536 - offset in
+    let split : 65536 ≡ offset + left = omega (arith, within) in
     ap (λ b. take count (drop offset b)) (is ∙ ap (λ n. take n rest) split)
     ∙ ap (take count) (drop-take offset left rest)
     ∙ take-take count left (drop offset rest) (omega (arith, within))
-    ∙ ap (take count) (drop-drop offset (start + 65536 * number) file ∙ ap (λ n. drop n file) (omega arith) ∙ sym (drop-drop (65536 * number + offset) start file))
+    ∙ ap (take count) (drop-drop offset (65536 * number) bytes ∙ ap (λ n. drop n bytes) (omega arith))
 
--- a part of a block is one of the index
-pub block_part : (held : Option (List ℕ)) (block part : List ℕ) (start place offset count : ℕ) → IsPart held (start + 65536 * (place / 65536)) block → offset ≡ place % 65536
-    → count + offset ≤ length block → part ≡ take count (drop offset block) → length part ≡ count → IsPart (behind start held) place part
-block_part None block part start place offset count read at within is long = tt
-block_part (Some file) block part start place offset count read at within is long =
-    is ∙ part_of block file start (place / 65536) offset count read within
-    ∙ ap (λ n. take count (drop n (drop start file))) (omega (arith, at))
-    ∙ ap (λ n. take n (drop place (drop start file))) (sym long)
+-- a part of a block that is right is one of the index
+pub block_part : (MayHold : List ℕ → Type 0) (block part : List ℕ) (start len : ℕ) (sums : List ℕ) (place offset count : ℕ) → IsPart MayHold (start + 65536 * (place / 65536)) block
+    → length block ≡ min 65536 (len - 65536 * (place / 65536)) → IsRightBlock sums (place / 65536) block → offset ≡ place % 65536 → 0 < count
+    → count + offset ≤ length block → part ≡ take count (drop offset block) → length part ≡ count → IsPart (MayBeIndex MayHold start len sums) place part
+block_part MayHold block part start len sums place offset count read whole right at some within is long = λ bytes may.
+    let number = place / 65536 in
+    let own : block ≡ block_of number (take len (drop start may.0)) = is_block block may.0 start len number (read may.0 may.1) whole (omega (arith, whole, some, within)) in
+    let same : block ≡ block_of number bytes = own ∙ sym (may.3 len sums may.2 number (subst (IsRightBlock sums number) own right)) in
+    is ∙ part_of block bytes number offset count same (omega (arith, whole, within))
+    ∙ ap (λ n. take count (drop n bytes)) (omega (arith, at))
+    ∙ ap (λ n. take n (drop place bytes)) (sym long)
 
 pub long_part : (block : List ℕ) (offset count : ℕ) → count + offset ≤ length block → length (take count (drop offset block)) ≡ count
 long_part block offset count within = length-take-le count (drop offset block) (let left = length-drop offset block in omega (arith, left, within))
+
+-- ---- a sealed index
+
+pub its_blocks : IndexIsBehind → HasItsBlocks
+its_blocks behind index file start is has = λ index_len sums table number right.
+    let b = behind index file start is has in
+    let len : index_len ≡ length index =
+    sym (from_le_bytes-to_le_bytes_8 index_len table.0) ∙ ap (λ l. from_le_bytes w64 (take 8 l)) (sym table.1 ∙ b.1) ∙ from_le_bytes-to_le_bytes_8 (length index) b.2 in
+    ap (block_of number) (sym (ap (take index_len) b.0 ∙ take_all index_len index (omega (arith, len))))

@@ -1,5 +1,5 @@
 -- An index that is read at places.
-use Rattle.std.specs.Prelude.{◌≡◌, ℕ, ◌+◌, ◌-◌, ◌*◌, ◌/◌, ◌^◌, ◌<◌, ◌≤◌, [], ◌++◌, List, length, get_or, take, drop, Option, Some, None, suc}
+use Rattle.std.specs.Prelude.{◌≡◌, ℕ, ◌+◌, ◌-◌, ◌*◌, ◌/◌, ◌^◌, ◌<◌, ◌≤◌, [], ◌++◌, List, length, get_or, take, drop, Option, None, suc}
 use Rattle.std.specs.List.{flat_map}
 use Rattle.std.specs.Int.{from_le_bytes, w64}
 use Rattle.std.proofs.Common.{refl, ap, sym, ◌∙◌, arith, subst, length-append}
@@ -11,7 +11,7 @@ use Rattle.zerotrie_base.specs.Kind.{simple_ascii}
 use Rattle.zerotrie_base.specs.Maps.{Pairs, value_at}
 use Rattle.zerotrie_index.specs.Hash.{eight_at, hash_of}
 use Rattle.zerotrie_index.specs.Layout.{word, place_of, mark_of, AreRecords, IsIndex}
-use Rattle.zerotrie_index.specs.Placed.{IsPart, AreWords, IsAnswer}
+use Rattle.zerotrie_index.specs.Placed.{IsPart, AreWords}
 use Rattle.zerotrie_index.proofs.BucketLemmas.{Has, has, one_more}
 use Rattle.zerotrie_index.proofs.WordLemmas.{drop_word, length-words, words_from}
 
@@ -26,27 +26,25 @@ two part a b x y after is below under xs ys = (
   ys ∙ ap (λ p. from_le_bytes w64 (drop 8 p)) is ∙ from_le_bytes-to_le_bytes_8 b under,
 )
 
-pub two_words : (held : Option (List ℕ)) (place : ℕ) (part : List ℕ) (x y : ℕ) → length part ≡ 16 → IsPart held place part
-    → x ≡ eight_at part 0 → y ≡ eight_at part 8 → AreWords held place x y
-two_words None place part x y long is xs ys = tt
-two_words (Some bytes) place part x y long is xs ys = λ a b after below under at.
+pub two_words : (bytes : List ℕ) (place : ℕ) (part : List ℕ) (x y : ℕ) → length part ≡ 16 → part ≡ take (length part) (drop place bytes)
+    → x ≡ eight_at part 0 → y ≡ eight_at part 8 → AreWords bytes place x y
+two_words bytes place part x y long is xs ys = λ a b after below under at.
     two part a b x y after (is ∙ ap (λ n. take n (drop place bytes)) long ∙ ap (take 16) at) below under xs ys
 
 -- nothing was read
-pub no_part : (held : Option (List ℕ)) (place : ℕ) → IsPart held place []
-no_part None place = tt
-no_part (Some bytes) place = refl
+pub no_part : (MayHold : List ℕ → Type 0) (place : ℕ) → IsPart MayHold place []
+no_part MayHold place = λ bytes may. refl
 
-joined : (part more bytes : List ℕ) → part ≡ take (length part) bytes → more ≡ take (length more) (drop (length part) bytes)
+pub joined : (part more bytes : List ℕ) → part ≡ take (length part) bytes → more ≡ take (length more) (drop (length part) bytes)
     → part ++ more ≡ take (length (part ++ more)) bytes
 joined part more bytes is and =
     ap (λ p. p ++ more) is ∙ ap (λ q. take (length part) bytes ++ q) and ∙ sym (take-add (length part) (length more) bytes)
     ∙ ap (λ n. take n bytes) (sym (length-append part more))
 
 -- what was read behind a part belongs to it
-pub more_part : (held : Option (List ℕ)) (place : ℕ) (part more : List ℕ) → IsPart held place part → IsPart held (place + length part) more → IsPart held place (part ++ more)
-more_part None place part more is and = tt
-more_part (Some bytes) place part more is and = joined part more (drop place bytes) is (and ∙ ap (take (length more)) (sym (drop-drop (length part) place bytes)))
+pub more_part : (MayHold : List ℕ → Type 0) (place : ℕ) (part more : List ℕ) → IsPart MayHold place part → IsPart MayHold (place + length part) more → IsPart MayHold place (part ++ more)
+more_part MayHold place part more is and = λ bytes may.
+    joined part more (drop place bytes) (is bytes may) (and bytes may ∙ ap (take (length more)) (sym (drop-drop (length part) place bytes)))
 
 -- ---- where the parts of an index lie
 
@@ -75,27 +73,30 @@ records_at seed count entries before records after place is =
 
 -- ---- the answer
 
+-- this is the value of the key in each index that the bytes are
+abbrev pub IsValue : List ℕ → List ℕ → Option ℕ → Type 0
+IsValue bytes key found = (pairs : Pairs) → IsIndex pairs bytes → found ≡ value_at simple_ascii pairs key
+
 -- an index of which its front was read
 abbrev IsFront : (pairs : Pairs) (bytes : List ℕ) → IsIndex pairs bytes → ℕ → ℕ → Type 0
 IsFront pairs bytes is seed count = (seed ≡ is.seed) × (count ≡ length is.buckets)
 
-front : (pairs : Pairs) (bytes : List ℕ) (is : IsIndex pairs bytes) (seed count : ℕ) → AreWords (Some bytes) 0 seed count → IsFront pairs bytes is seed count
+front : (pairs : Pairs) (bytes : List ℕ) (is : IsIndex pairs bytes) (seed count : ℕ) → AreWords bytes 0 seed count → IsFront pairs bytes is seed count
 front pairs bytes is seed count read =
     read is.seed (length is.buckets) (flat_map word is.entries ++ is.pool) is.seed_below (let few = is.few_buckets in omega arith) is.bytes_are
 
 -- more buckets than there can be
-pub many_buckets : (held : Option (List ℕ)) (key : List ℕ) (seed count : ℕ) → AreWords held 0 seed count → 2 ^ 32 ≤ count → IsAnswer held key None
-many_buckets None key seed count read many = tt
-many_buckets (Some bytes) key seed count read many = λ pairs is.
+pub many_buckets : (bytes key : List ℕ) (seed count : ℕ) → AreWords bytes 0 seed count → 2 ^ 32 ≤ count → IsValue bytes key None
+many_buckets bytes key seed count read many = λ pairs is.
     absurd (let same = (front pairs bytes is seed count read).1 in let few = is.few_buckets in omega arith)
 
 -- What was read of an index: the hash of the key, and the entries of its bucket and of the next one.
-pub record IsRead (held : Option (List ℕ)) (key : List ℕ) (seed count hash number entry next : ℕ) : Type 0 where
-  pub front : AreWords held 0 seed count
+pub record IsRead (bytes key : List ℕ) (seed count hash number entry next : ℕ) : Type 0 where
+  pub front : AreWords bytes 0 seed count
   pub hashed : hash ≡ hash_of seed key
   pub small : hash < 2 ^ 64
   pub placed : number ≡ place_of count hash
-  pub entries : AreWords held (16 + 8 * number) entry next
+  pub entries : AreWords bytes (16 + 8 * number) entry next
 
 -- What it has, then, if the bytes are an index.
 record Found (pairs : Pairs) (bytes : List ℕ) (is : IsIndex pairs bytes) (key : List ℕ) (count hash number entry next : ℕ) : Type 0 where
@@ -105,7 +106,7 @@ record Found (pairs : Pairs) (bytes : List ℕ) (is : IsIndex pairs bytes) (key 
   behind : next ≡ get_or is.entries (suc number) 0
 
 found : (pairs : Pairs) (bytes : List ℕ) (is : IsIndex pairs bytes) (key : List ℕ) (seed count hash number entry next : ℕ)
-    → IsRead (Some bytes) key seed count hash number entry next → Found pairs bytes is key count hash number entry next
+    → IsRead bytes key seed count hash number entry next → Found pairs bytes is key count hash number entry next
 found pairs bytes is key seed count hash number entry next read =
     let f = front pairs bytes is seed count read.front in
     let h = has pairs bytes is key seed count number hash f.0 f.1 read.hashed read.small read.placed in
@@ -115,28 +116,25 @@ found pairs bytes is key seed count hash number entry next read =
     record { has = h; counted = f.1; own = e.0; behind = e.1 }
 
 -- the key is not marked
-pub unmarked : (held : Option (List ℕ)) (key : List ℕ) (seed count hash number entry next : ℕ) → IsRead held key seed count hash number entry next
-    → mark_of entry hash ≡ 0 → IsAnswer held key None
-unmarked None key seed count hash number entry next read none = tt
-unmarked (Some bytes) key seed count hash number entry next read none = λ pairs is.
+pub unmarked : (bytes key : List ℕ) (seed count hash number entry next : ℕ) → IsRead bytes key seed count hash number entry next
+    → mark_of entry hash ≡ 0 → IsValue bytes key None
+unmarked bytes key seed count hash number entry next read none = λ pairs is.
     let f = found pairs bytes is key seed count hash number entry next read in
     sym (f.has.unmarked (ap (λ x. mark_of x hash) (sym f.own) ∙ none))
 
 -- the bucket of no index ends before it starts
-pub ends_early : (held : Option (List ℕ)) (key : List ℕ) (seed count hash number entry next : ℕ) → IsRead held key seed count hash number entry next
-    → next / 2 ^ 32 < entry / 2 ^ 32 → IsAnswer held key None
-ends_early None key seed count hash number entry next read early = tt
-ends_early (Some bytes) key seed count hash number entry next read early = λ pairs is.
+pub ends_early : (bytes key : List ℕ) (seed count hash number entry next : ℕ) → IsRead bytes key seed count hash number entry next
+    → next / 2 ^ 32 < entry / 2 ^ 32 → IsValue bytes key None
+ends_early bytes key seed count hash number entry next read early = λ pairs is.
     let f = found pairs bytes is key seed count hash number entry next read in
     let b = f.has.bucket in
     absurd (let from = ap (λ x. x / 2 ^ 32) f.own ∙ b.from in let to = ap (λ x. x / 2 ^ 32) f.behind ∙ b.to in omega arith)
 
 -- the records of the bucket were read
-pub answered : (held : Option (List ℕ)) (key : List ℕ) (seed count hash number entry next place : ℕ) (records : List ℕ) (result : Option ℕ)
-    → IsRead held key seed count hash number entry next → IsPart held place records → place ≡ 16 + 8 * (count + 1) + entry / 2 ^ 32
-    → length records ≡ next / 2 ^ 32 - entry / 2 ^ 32 → ((pairs : Pairs) → AreRecords pairs records → result ≡ value_at simple_ascii pairs key) → IsAnswer held key result
-answered None key seed count hash number entry next place records result read part at long finds = tt
-answered (Some bytes) key seed count hash number entry next place records result read part at long finds = λ pairs is.
+pub answered : (bytes key : List ℕ) (seed count hash number entry next place : ℕ) (records : List ℕ) (result : Option ℕ)
+    → IsRead bytes key seed count hash number entry next → records ≡ take (length records) (drop place bytes) → place ≡ 16 + 8 * (count + 1) + entry / 2 ^ 32
+    → length records ≡ next / 2 ^ 32 - entry / 2 ^ 32 → ((pairs : Pairs) → AreRecords pairs records → result ≡ value_at simple_ascii pairs key) → IsValue bytes key result
+answered bytes key seed count hash number entry next place records result read part at long finds = λ pairs is.
     let f = found pairs bytes is key seed count hash number entry next read in
     let b = f.has.bucket in
     let from = ap (λ x. x / 2 ^ 32) f.own ∙ b.from in

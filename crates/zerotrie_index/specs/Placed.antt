@@ -1,18 +1,22 @@
 -- An index that is read at places, as in a file.
-use Rattle.std.specs.Prelude.{◌≡◌, ◌<◌, ◌^◌, ◌++◌, ℕ, List, length, take, drop, Option, IfSome}
+use Rattle.std.specs.Prelude.{◌≡◌, ◌<◌, ◌^◌, ◌++◌, ℕ, List, length, take, drop, Option}
 use Rattle.zerotrie_base.specs.Kind.{simple_ascii}
 use Rattle.zerotrie_base.specs.Maps.{Pairs, value_at}
 use Rattle.zerotrie_index.specs.Layout.{word, IsIndex}
 
--- if the bytes are known, these are as many of them from the place on
-abbrev pub IsPart : Option (List ℕ) → ℕ → List ℕ → Type 0
-IsPart held place part = IfSome held (λ bytes. part ≡ take (length part) (drop place bytes))
+-- whatever may be held before may be held after
+abbrev pub MayStill : (List ℕ → Type 0) → (List ℕ → Type 0) → Type 0
+MayStill Before After = (bytes : List ℕ) → Before bytes → After bytes
 
--- if the bytes are known, these are the two words from the place on
-abbrev pub AreWords : Option (List ℕ) → ℕ → ℕ → ℕ → Type 0
-AreWords held place first second = IfSome held (λ bytes. (a b : ℕ) (after : List ℕ) → a < 2 ^ 64 → b < 2 ^ 64
-    → drop place bytes ≡ word a ++ (word b ++ after) → (first ≡ a) × (second ≡ b))
+-- these are as many bytes from the place on, of all that may be held
+abbrev pub IsPart : (List ℕ → Type 0) → ℕ → List ℕ → Type 0
+IsPart MayHold place part = (bytes : List ℕ) → MayHold bytes → part ≡ take (length part) (drop place bytes)
 
--- if the bytes are known, this is the value of the key in each index that they are
-abbrev pub IsAnswer : Option (List ℕ) → List ℕ → Option ℕ → Type 0
-IsAnswer held key found = IfSome held (λ bytes. (pairs : Pairs) → IsIndex pairs bytes → found ≡ value_at simple_ascii pairs key)
+-- these are the two words from the place on
+abbrev pub AreWords : List ℕ → ℕ → ℕ → ℕ → Type 0
+AreWords bytes place first second = (a b : ℕ) (after : List ℕ) → a < 2 ^ 64 → b < 2 ^ 64
+    → drop place bytes ≡ word a ++ (word b ++ after) → (first ≡ a) × (second ≡ b)
+
+-- this is the value of the key in each index that may be held
+abbrev pub IsAnswer : (List ℕ → Type 0) → List ℕ → Option ℕ → Type 0
+IsAnswer MayHold key found = (bytes : List ℕ) → MayHold bytes → (pairs : Pairs) → IsIndex pairs bytes → found ≡ value_at simple_ascii pairs key

@@ -1,8 +1,8 @@
 //! A sealed index in blocks that is read at places, as in a file: each block that is read is tested.
 
-ghost use Rattle.std.specs.Prelude.{◌≡◌, ◌+◌, ◌*◌, ◌<◌, ◌≤◌, ◌^◌, ℕ, List, ◌++◌, IfOk, IfErr, IfSome, OnOk, length};
-ghost use Rattle.zerotrie_index.specs.InBlocks.{HasTableOf, IsRightBlock, behind};
-ghost use Rattle.zerotrie_index.specs.Placed.{IsPart};
+ghost use Rattle.std.specs.Prelude.{◌≡◌, ◌+◌, ◌-◌, ◌*◌, ◌<◌, ◌≤◌, ◌^◌, ℕ, List, ◌++◌, IfOk, IfErr, OnOk, length, min};
+ghost use Rattle.zerotrie_index.specs.InBlocks.{HasTableOf, IsRightBlock, MayBeIndex};
+ghost use Rattle.zerotrie_index.specs.Placed.{IsPart, MayStill};
 ghost use Rattle.zerotrie_sealed.specs.Sealed.{HasFront};
 ghost use Rattle.zerotrie_sealed.specs.declared.reading.SealError.TheVariants.{Checksum};
 
@@ -19,6 +19,12 @@ use zerotrie_sealed::{BLOCK_LEN, HEADER_LEN, SealError, crc32c, open_table, tabl
 pub struct SealedIndex<S> {
     source: S,
     alloc: Global,
+    front: Front,
+}
+
+/// What the front of a file says of the index behind it.
+#[derive(Drop)]
+struct Front {
     /// Where the index starts in the file.
     start: u64,
     /// The number of bytes of the index.
@@ -46,10 +52,10 @@ fn test_block(sums: &[u8], number: usize, block: &[u8]) -> Result<(), SealError>
 fn read_table<S: ReadAt>(alloc: Global, source: &mut S, len: usize) -> Result<Vec<u8>, S::Error>
 where
     S::Error: From<AllocError> + From<SealError>,
-    ensures part { IfOk result (λ table. IsPart (S.held source.old) 24 table.items) }
+    ensures part { IfOk result (λ table. IsPart (S.MayHold source.old) 24 table.items) }
     ensures length { IfOk result (λ table. length table.items ≡ len) }
     ensures fits { IfOk result (λ _. 24 + len < 2 ^ 64) }
-    ensures same { S.held source.new ≡ S.held source.old }
+    ensures same { MayStill (S.MayHold source.old) (S.MayHold source.new) }
 {
     if usize::MAX - HEADER_LEN < len {
         return Err(S::Error::from(SealError::CutShort));
@@ -66,10 +72,11 @@ where
     /// The errors are those of the reads, and `table_len` and `open_table` return the others: the
     /// file does not begin as an index that is sealed in blocks.
     pub fn open(alloc: Global, source: S) -> Result<Self, S::Error>
-        ensures front { IfOk result (λ index. IfSome (S.held source) (HasFront index.start)) }
-        ensures table { IfOk result (λ index. IfSome (S.held source)
-            (HasTableOf index.start index.index_len index.sums.items)) }
-        ensures same { IfOk result (λ index. S.held index.source ≡ S.held source) }
+        ensures front { IfOk result (λ index. (file : List ℕ)
+            → S.MayHold source file → HasFront index.front.start file) }
+        ensures table { IfOk result (λ index. (file : List ℕ) → S.MayHold source file
+            → HasTableOf index.front.start index.front.index_len index.front.sums.items file) }
+        ensures same { IfOk result (λ index. MayStill (S.MayHold source) (S.MayHold index.source)) }
     {
         let mut source = source;
         let mut header = [0; HEADER_LEN];
@@ -79,52 +86,76 @@ where
         let table = open_table(&header, table.as_slice())?;
         let mut sums = Vec::new(alloc);
         sums.extend_from_slice(table.sums)?;
-        Ok(SealedIndex {
-            source,
-            alloc,
+        let front = Front {
             start: (HEADER_LEN + len) as u64,
             index_len: table.index_len,
             sums,
+        };
+        Ok(SealedIndex {
+            source,
+            alloc,
+            front,
         })
     }
 
     /// Returns the number of bytes of the index.
     pub fn index_len(&self) -> usize
-        ensures { result ≡ self.now.index_len }
+        ensures { result ≡ self.now.front.index_len }
     {
-        self.index_len
+        self.front.index_len
     }
+}
 
+impl Front {
     /// Reads and tests the block of this number.
-    fn read_block(&mut self, number: usize) -> Result<Vec<u8>, S::Error>
+    fn read_block<S: ReadAt>(
+        &self,
+        alloc: Global,
+        source: &mut S,
+        number: usize,
+    ) -> Result<Vec<u8>, S::Error>
+    where
+        S::Error: From<AllocError> + From<SealError>,
         requires { number < 2 ^ 48 }
         ensures part { IfOk result (λ block.
-            IsPart (S.held self.old.source) (self.old.start + 65536 * number) block.items) }
-        ensures right { IfOk result (λ block. IsRightBlock self.old.sums.items number block.items) }
-        ensures source { S.held self.new.source ≡ S.held self.old.source }
-        ensures start { self.new.start ≡ self.old.start }
+            IsPart (S.MayHold source.old) (self.now.start + 65536 * number) block.items) }
+        ensures length { IfOk result (λ block.
+            length block.items ≡ min 65536 (self.now.index_len - 65536 * number)) }
+        ensures right { IfOk result (λ block.
+            IsRightBlock self.now.sums.items number block.items) }
+        ensures same { MayStill (S.MayHold source.old) (S.MayHold source.new) }
     {
         let place = number * BLOCK_LEN;
-        let mut block = Vec::new(self.alloc);
+        let mut block = Vec::new(alloc);
         block.resize(BLOCK_LEN.min(self.index_len.saturating_sub(place)), 0)?;
         let Some(place) = self.start.checked_add(place as u64) else {
             return Err(S::Error::from(SealError::CutShort));
         };
-        self.source.fill(place, block.as_mut_slice())?;
+        source.fill(place, block.as_mut_slice())?;
         test_block(self.sums.as_slice(), number, block.as_slice())?;
         Ok(block)
     }
 
     /// Appends bytes of the index from this place on: as many as its block has, at most these.
-    fn add_part(&mut self, place: u64, most: usize, part: &mut Vec<u8>) -> Result<(), S::Error>
+    fn add_part<S: ReadAt>(
+        &self,
+        alloc: Global,
+        source: &mut S,
+        place: u64,
+        most: usize,
+        part: &mut Vec<u8>,
+    ) -> Result<(), S::Error>
+    where
+        S::Error: From<AllocError> + From<SealError>,
         requires { 0 < most }
         ensures part { OnOk result ((more : List ℕ)
-            × IsPart (behind self.old.start (S.held self.old.source)) place more
+            × IsPart (MayBeIndex (S.MayHold source.old) self.now.start self.now.index_len self.now.sums.items)
+            place more
             × (0 < length more) × (length more ≤ most) × (part.new.items ≡ part.old.items ++ more)) }
-        ensures source { S.held self.new.source ≡ S.held self.old.source }
-        ensures start { self.new.start ≡ self.old.start }
+        ensures same { MayStill (S.MayHold source.old) (S.MayHold source.new) }
     {
-        let block = self.read_block((place / BLOCK_LEN as u64) as usize)?;
+        let number = (place / BLOCK_LEN as u64) as usize;
+        let block = self.read_block(alloc, source, number)?;
         let offset = (place % BLOCK_LEN as u64) as usize;
         if block.len() <= offset {
             return Err(S::Error::from(SealError::CutShort));
@@ -135,19 +166,27 @@ where
     }
 
     /// Reads as many bytes of the index from this place on.
-    fn read(&mut self, place: u64, len: usize) -> Result<Vec<u8>, S::Error>
+    fn read<S: ReadAt>(
+        &self,
+        alloc: Global,
+        source: &mut S,
+        place: u64,
+        len: usize,
+    ) -> Result<Vec<u8>, S::Error>
+    where
+        S::Error: From<AllocError> + From<SealError>,
         ensures part { IfOk result (λ part.
-            IsPart (behind self.old.start (S.held self.old.source)) place part.items) }
+            IsPart (MayBeIndex (S.MayHold source.old) self.now.start self.now.index_len self.now.sums.items)
+            place part.items) }
         ensures length { IfOk result (λ part. length part.items ≡ len) }
-        ensures source { S.held self.new.source ≡ S.held self.old.source }
-        ensures start { self.new.start ≡ self.old.start }
+        ensures same { MayStill (S.MayHold source.old) (S.MayHold source.new) }
     {
-        let mut part = Vec::new(self.alloc);
+        let mut part = Vec::new(alloc);
         while part.len() < len {
             let Some(next) = place.checked_add(part.len() as u64) else {
                 return Err(S::Error::from(SealError::CutShort));
             };
-            self.add_part(next, len - part.len(), &mut part)?;
+            self.add_part(alloc, source, next, len - part.len(), &mut part)?;
         }
         Ok(part)
     }
@@ -157,14 +196,16 @@ impl<S: ReadAt + Drop> ReadAt for SealedIndex<S>
 where
     S::Error: From<AllocError> + From<SealError>,
 {
-    ghost use Rattle.zerotrie_index.specs.InBlocks.{behind};
+    ghost use Rattle.zerotrie_index.specs.InBlocks.{MayBeIndex};
 
-    ghost held = { λ index. behind index.start (S.held index.source) };
+    ghost MayHold = { λ index bytes. MayBeIndex (S.MayHold index.source) index.front.start index.front.index_len index.front.sums.items bytes };
 
     type Error = S::Error;
 
     fn fill(&mut self, place: u64, room: &mut [u8]) -> Result<(), S::Error> {
-        let part = self.read(place, room.len())?;
+        let part = self
+            .front
+            .read(self.alloc, &mut self.source, place, room.len())?;
         room.copy_from_slice(part.as_slice());
         Ok(())
     }

@@ -1,7 +1,7 @@
 //! Look-ups in an index that is read at places, as in a file: the memory for it does not grow.
 
-ghost use Rattle.std.specs.Prelude.{◌≡◌, ℕ, ◌+◌, ◌-◌, ◌≤◌, ◌<◌, ◌^◌, List, ◌++◌, length, take, drop, Option, Some, IfOk, IfSome, OnOk};
-ghost use Rattle.zerotrie_index.specs.Placed.{IsPart, AreWords, IsAnswer};
+ghost use Rattle.std.specs.Prelude.{◌≡◌, ℕ, ◌+◌, ◌≤◌, ◌<◌, ◌^◌, List, ◌++◌, length, IfOk, OnOk};
+ghost use Rattle.zerotrie_index.specs.Placed.{IsPart, AreWords, IsAnswer, MayStill};
 
 use crate::hash::{eight_at, hash_of};
 use crate::reader::{bucket_of, find_in};
@@ -12,22 +12,24 @@ const ROOM: usize = 1 << 10;
 
 /// Bytes that are read at places, as those of a file are. The crate's README has an example.
 pub trait ReadAt {
-    /// The bytes. `None` says nothing of them.
-    ghost held: { Self → Option (List ℕ) };
+    /// Holds of the bytes that it may hold: what is read is right for each of them. If nothing is
+    /// known of the bytes, it holds of none.
+    ghost MayHold: { Self → List ℕ → Type 0 };
 
     /// Why a read fails.
     type Error;
 
     /// Fills all of the room with the bytes from this place on.
     fn fill(&mut self, place: u64, room: &mut [u8]) -> Result<(), Self::Error>
-        ensures part { IfOk result (λ _. IsPart (held self.old) place room.new) }
-        ensures same { held self.new ≡ held self.old };
+        ensures part { IfOk result (λ _. IsPart (MayHold self.old) place room.new) }
+        ensures same { MayStill (MayHold self.old) (MayHold self.new) };
 }
 
 /// Reads the two words from this place on.
 fn two_words<S: ReadAt>(source: &mut S, place: u64) -> Result<(u64, u64), S::Error>
-    ensures words { IfOk result (λ r. AreWords (S.held source.old) place r.0 r.1) }
-    ensures same { S.held source.new ≡ S.held source.old }
+    ensures words { IfOk result (λ r. (bytes : List ℕ)
+        → S.MayHold source.old bytes → AreWords bytes place r.0 r.1) }
+    ensures same { MayStill (S.MayHold source.old) (S.MayHold source.new) }
 {
     let mut room = [0; 16];
     source.fill(place, &mut room)?;
@@ -44,9 +46,9 @@ fn add_part<S: ReadAt>(
 where
     S::Error: From<AllocError>,
     requires { count ≤ 1024 }
-    ensures part { OnOk result ((more : List ℕ) × IsPart (S.held source.old) place more
+    ensures part { OnOk result ((more : List ℕ) × IsPart (S.MayHold source.old) place more
         × (length more ≡ count) × (part.new.items ≡ part.old.items ++ more)) }
-    ensures same { S.held source.new ≡ S.held source.old }
+    ensures same { MayStill (S.MayHold source.old) (S.MayHold source.new) }
 {
     let mut all = [0; ROOM];
     let (room, _) = all.split_at_mut(count);
@@ -65,9 +67,9 @@ pub(crate) fn read_part<S: ReadAt>(
 where
     S::Error: From<AllocError>,
     requires { place + len < 2 ^ 64 }
-    ensures part { IfOk result (λ part. IsPart (S.held source.old) place part.items) }
+    ensures part { IfOk result (λ part. IsPart (S.MayHold source.old) place part.items) }
     ensures length { IfOk result (λ part. length part.items ≡ len) }
-    ensures same { S.held source.new ≡ S.held source.old }
+    ensures same { MayStill (S.MayHold source.old) (S.MayHold source.new) }
 {
     let mut part = Vec::new(alloc);
     while part.len() < len {
@@ -91,8 +93,8 @@ pub fn get_at<S: ReadAt>(
 ) -> Result<Option<usize>, S::Error>
 where
     S::Error: From<AllocError>,
-    ensures found { IfOk result (IsAnswer (S.held source.old) key.now) }
-    ensures same { S.held source.new ≡ S.held source.old }
+    ensures found { IfOk result (IsAnswer (S.MayHold source.old) key.now) }
+    ensures same { MayStill (S.MayHold source.old) (S.MayHold source.new) }
 {
     let (seed, count) = two_words(source, 0)?;
     let Ok(count) = u32::try_from(count) else {

@@ -234,7 +234,8 @@ front-whole : (start : ℕ) (file : List ℕ) (has : HasFront start file) → fi
 front-whole start file has =
     sym (take-append-drop start file) ∙ ap (λ f. f ++ drop start file) has.3.parts ∙ append_assoc (header_as blocks_number has.2) has.2 (drop start file)
 
-pub index_behind : (index file : List ℕ) (start : ℕ) → IsSealedIndex index file → HasFront start file → drop start file ≡ index
+pub index_behind : (index file : List ℕ) (start : ℕ) → IsSealedIndex index file → HasFront start file
+    → (drop start file ≡ index) × (drop 24 (take start file) ≡ table_of index) × (length index < 2 ^ 64)
 index_behind index file start (inl is) has =
     absurd (kind_in-whole index file is (ap kind_in (front-whole start file has) ∙ kind_in-header blocks_number has.2 (has.2 ++ drop start file) (omega arith)))
 index_behind index file start (inr is) has =
@@ -243,4 +244,9 @@ index_behind index file start (inr is) has =
     let long : 24 + length table ≡ start = sym (length-sealed blocks_number table) ∙ ap length (sym has.3.parts) ∙ length-take-le start file has.0 in
     let len : length_in file ≡ length table =
     ap length_in (front-whole start file has) ∙ length_in-header blocks_number table (table ++ rest) (let small = has.1 in omega (arith, long, small)) in
-    ap (λ n. drop n file) (sym long ∙ ap (λ n. 24 + n) (sym len)) ∙ (stands index file is).behind
+    let within : table_in file ≡ table =
+    ap (λ n. take n (drop 24 file)) len ∙ ap (λ f. take (length table) (drop 24 f)) (front-whole start file has) ∙ take-append_seam table rest in (
+      ap (λ n. drop n file) (sym long ∙ ap (λ n. 24 + n) (sym len)) ∙ (stands index file is).behind,
+      ap (drop 24) has.3.parts ∙ sym within ∙ (stands index file is).table,
+      is.fits,
+    )

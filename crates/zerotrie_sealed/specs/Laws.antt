@@ -1,7 +1,7 @@
 -- Laws of sealed files.
-use Rattle.std.specs.Prelude.{◌≡◌, ◌<◌, ◌^◌, ℕ, List, [], ◌∷◌, ◌++◌, length, drop, slice_index}
+use Rattle.std.specs.Prelude.{◌≡◌, ◌<◌, ◌^◌, ℕ, List, [], ◌∷◌, ◌++◌, length, take, drop, slice_index}
 use Rattle.zerotrie_base.specs.Kind.{Kind}
-use Rattle.zerotrie_sealed.specs.Sealed.{IsSealed, IsSealedAs, IsSealedIndex, HasFront}
+use Rattle.zerotrie_sealed.specs.Sealed.{IsSealed, IsSealedAs, IsSealedIndex, HasFront, table_of}
 
 -- no file is the seal of two tries, or of one trie in two kinds
 abbrev pub OneTrie : Type 0
@@ -43,6 +43,7 @@ OneByteOfIndexShows = (index second front behind : List ℕ) (b d : ℕ)
     → AreBytes (front ++ (b ∷ behind)) → AreBytes (front ++ (d ∷ behind))
     → IsSealedIndex index (front ++ (b ∷ behind)) → IsSealedIndex second (front ++ (d ∷ behind)) → b ≡ d
 
--- if a sealed index begins with the front of one in blocks, the index is what is behind it
+-- if a sealed index begins with the front of one in blocks, the index is what is behind it, and the table in it is that of the index
 abbrev pub IndexIsBehind : Type 0
-IndexIsBehind = (index file : List ℕ) (start : ℕ) → IsSealedIndex index file → HasFront start file → drop start file ≡ index
+IndexIsBehind = (index file : List ℕ) (start : ℕ) → IsSealedIndex index file → HasFront start file
+    → (drop start file ≡ index) × (drop 24 (take start file) ≡ table_of index) × (length index < 2 ^ 64)

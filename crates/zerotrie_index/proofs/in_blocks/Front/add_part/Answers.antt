@@ -1,12 +1,10 @@
-use Rattle.std.proofs.Common.{rules, ◌≡◌, ◌+◌, ◌*◌, ◌/◌, ◌%◌, ◌<◌, ◌≤◌, ◌++◌, length, take, drop, refl, arith, ap, sym, subst, ◌∙◌}
-use Rattle.std.proofs.lemmas.List.{length-take-le, length-drop}
-use Rattle.zerotrie_index.specs.Placed.{IsPart}
+use Rattle.std.proofs.Common.{rules, ◌≡◌, ◌+◌, ◌%◌, ◌<◌, ◌≤◌, length, take, drop, refl, sym, subst}
 use Rattle.zerotrie_index.proofs.InBlocksLemmas.{block_part, long_part}
-use Rattle.zerotrie_index.proofs.in_blocks.SealedIndex.add_part.Goals as goal
+use Rattle.zerotrie_index.proofs.in_blocks.Front.add_part.Goals as goal
 
 pub returns-clause-part : goal.returns-clause-part
 returns-clause-part g c =
-    let held = g.S.ReadAt.held c.args.self.now.source in
+    let front = c.args.self.now in
     let block = c.in_ok-block.block.items in
     let offset = c.args.place % 65536 in
     let count = c.min-count.result in
@@ -17,7 +15,8 @@ returns-clause-part g c =
     let few : count ≤ c.args.most = search rules in
     let long : length more ≡ count = long_part block offset count within in (
       more,
-      block_part held block more c.args.self.now.start c.args.place offset count c.in_ok-block.ensures.part refl within refl long,
+      block_part (g.S.ReadAt.MayHold c.args.source.now) block more front.start front.index_len front.sums.items c.args.place offset count
+          c.in_ok-block.ensures.part c.in_ok-block.ensures.length c.in_ok-block.ensures.right refl some within refl long,
       subst (λ n. 0 < n) (sym long) some,
       subst (λ n. n ≤ c.args.most) (sym long) few,
       search rules,
