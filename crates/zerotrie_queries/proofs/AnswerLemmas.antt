@@ -1,5 +1,5 @@
 -- What is printed of texts that are answered part by part.
-use Rattle.std.proofs.Common.{◌≡◌, ℕ, ◌+◌, ◌<◌, inl, inr, List, [], ◌∷◌, ◌++◌, map, take, drop, length, get_or, Option, Some, None, Bool, true, false, refl, sym, ◌∙◌, ap, subst, arith, append_assoc, append-nil}
+use Rattle.std.proofs.Common.{◌≡◌, ℕ, ◌+◌, ◌<◌, inl, inr, List, [], ◌∷◌, ◌++◌, map, take, drop, length, get_or, Option, None, Bool, true, false, refl, sym, ◌∙◌, ap, subst, arith, append_assoc, append-nil}
 use Rattle.std.specs.Prelude.{◌&&◌, nat_lt, is_some, codes}
 use Rattle.std.specs.Borrow.{Bor}
 use Rattle.std.specs.Io.KnownBytes.{Appends}
@@ -200,32 +200,28 @@ pub by_index : (asked : Asked) (bytes key old new : List ℕ) (value : Option �
 by_index asked bytes key old new value found is adds d has =
     subst (λ e. AddsAnswer (as_is asked) e key old new found) (sym has.3) (adds has.1 has.0 (is has.1 has.2))
 
-pub by_index_at : (held : Option (List ℕ)) (asked : Asked) (key old new : List ℕ) (value : Option ℕ) (found : Bool) → placed.IsAnswer held key value
+pub by_index_at : (MayHold : List ℕ → Type 0) (asked : Asked) (key old new : List ℕ) (value : Option ℕ) (found : Bool) → placed.IsAnswer MayHold key value
     → ((pairs : Pairs) → asks_keys asked ≡ true → value ≡ value_at simple_ascii pairs key → AddsAnswer (as_is asked) (dictionary_of (value_at simple_ascii pairs) pairs) key old new found)
-    → IsAddedAt held (as_is asked) key old new found
-by_index_at None asked key old new value found is adds = tt
-by_index_at (Some bytes) asked key old new value found is adds = by_index asked bytes key old new value found is adds
+    → IsAddedAt MayHold (as_is asked) key old new found
+by_index_at MayHold asked key old new value found is adds = λ bytes may. by_index asked bytes key old new value found (is bytes may) adds
 
 -- the same by how a text is written
-pub plain_at : (held : Option (List ℕ)) (q : Query) (text old new : List ℕ) (found : Bool) → q.spelling ≡ Plain → IsAddedAt held (as_is q.asked) text old new found
-    → IsAddedAt held q text old new found
-plain_at held q text old new found is h = subst (λ x. IsAddedAt held x text old new found) (is_plain q is) h
+pub plain_at : (MayHold : List ℕ → Type 0) (q : Query) (text old new : List ℕ) (found : Bool) → q.spelling ≡ Plain → IsAddedAt MayHold (as_is q.asked) text old new found
+    → IsAddedAt MayHold q text old new found
+plain_at MayHold q text old new found is h = subst (λ x. IsAddedAt MayHold x text old new found) (is_plain q is) h
 
-pub escaped_at : (held : Option (List ℕ)) (q : Query) (text key old new : List ℕ) (found : Bool) → q.spelling ≡ Escaped → Spells text key → IsAddedAt held (as_is q.asked) key old new found
-    → IsAddedAt held q text old new found
-escaped_at None q text key old new found is spells h = tt
-escaped_at (Some bytes) q text key old new found is spells h =
-    subst (λ x. IsAdded x (IndexFinds x.asked bytes) text old new found) (is_escaped q is) (added_spelled q.asked (IndexFinds q.asked bytes) text key old new found spells h)
+pub escaped_at : (MayHold : List ℕ → Type 0) (q : Query) (text key old new : List ℕ) (found : Bool) → q.spelling ≡ Escaped → Spells text key → IsAddedAt MayHold (as_is q.asked) key old new found
+    → IsAddedAt MayHold q text old new found
+escaped_at MayHold q text key old new found is spells h = λ bytes may.
+    subst (λ x. IsAdded x (IndexFinds x.asked bytes) text old new found) (is_escaped q is) (added_spelled q.asked (IndexFinds q.asked bytes) text key old new found spells (h bytes may))
 
 -- the answers to no texts, and to one more
-pub none_at : (held : Option (List ℕ)) (q : Query) (a : List ℕ) → AreAddedAt held q [] a a true
-none_at None q a = tt
-none_at (Some bytes) q a = λ d has. ([], (refl, refl), sym (append-nil a))
+pub none_at : (MayHold : List ℕ → Type 0) (q : Query) (a : List ℕ) → AreAddedAt MayHold q [] a a true
+none_at MayHold q a = λ bytes may d has. ([], (refl, refl), sym (append-nil a))
 
-pub more_at : (held : Option (List ℕ)) (q : Query) (texts : List (List ℕ)) (text a b c : List ℕ) (all found : Bool) → AreAddedAt held q texts a b all → IsAddedAt held q text b c found
-    → AreAddedAt held q (texts ++ text ∷ []) a c (all && found)
-more_at None q texts text a b c all found h k = tt
-more_at (Some bytes) q texts text a b c all found h k = λ d has.
-    let x = h d has in
-    let y = k d has in
+pub more_at : (MayHold : List ℕ → Type 0) (q : Query) (texts : List (List ℕ)) (text a b c : List ℕ) (all found : Bool) → AreAddedAt MayHold q texts a b all → IsAddedAt MayHold q text b c found
+    → AreAddedAt MayHold q (texts ++ text ∷ []) a c (all && found)
+more_at MayHold q texts text a b c all found h k = λ bytes may d has.
+    let x = h bytes may d has in
+    let y = k bytes may d has in
     (x.0 ++ y.0, more_asked q d texts (text ∷ []) x.0 y.0 all found x.1 (one_asked q d text y.0 found y.1), y.2 ∙ ap (λ l. l ++ y.0) x.2 ∙ append_assoc a x.0 y.0)

@@ -1,5 +1,5 @@
 -- What is printed of keys and texts that a trie is asked for.
-use Rattle.std.specs.Prelude.{◌≡◌, ◌⊎◌, ℕ, List, [], ◌∷◌, ◌++◌, ◌&&◌, map, length, nat_lt, Option, None, IfSome, Bool, true, false, is_some, codes}
+use Rattle.std.specs.Prelude.{◌≡◌, ◌⊎◌, ℕ, List, [], ◌∷◌, ◌++◌, ◌&&◌, map, length, nat_lt, Option, None, Bool, true, false, is_some, codes}
 use Rattle.std.specs.Borrow.{Bor}
 use Rattle.std.specs.Io.KnownBytes.{Appends}
 use Rattle.zerotrie_core.specs.Kind.{Kind}
@@ -79,11 +79,11 @@ AddsAnswer query d text old new found = (printed : List ℕ) × IsAnswerAs query
 abbrev pub IsAdded : Query → (Dictionary → Type 0) → (text old new : List ℕ) → (found : Bool) → Type 0
 IsAdded query MayHave text old new found = (d : Dictionary) → MayHave d → AddsAnswer query d text old new found
 
--- the answer of an index, if its bytes are known, was added to a buffer
-abbrev pub IsAddedAt : Option (List ℕ) → Query → (text old new : List ℕ) → (found : Bool) → Type 0
-IsAddedAt held query text old new found = IfSome held (λ bytes. IsAdded query (IndexFinds query.asked bytes) text old new found)
+-- the answer of each index whose bytes may be held was added to a buffer
+abbrev pub IsAddedAt : (List ℕ → Type 0) → Query → (text old new : List ℕ) → (found : Bool) → Type 0
+IsAddedAt MayHold query text old new found = (bytes : List ℕ) → MayHold bytes → IsAdded query (IndexFinds query.asked bytes) text old new found
 
 -- the answers to texts were, one after another
-abbrev pub AreAddedAt : Option (List ℕ) → Query → (texts : List (List ℕ)) → (old new : List ℕ) → (all : Bool) → Type 0
-AreAddedAt held query texts old new all = IfSome held (λ bytes. (d : Dictionary) → IndexFinds query.asked bytes d
-    → (printed : List ℕ) × Belongs query d texts printed all × (new ≡ old ++ printed))
+abbrev pub AreAddedAt : (List ℕ → Type 0) → Query → (texts : List (List ℕ)) → (old new : List ℕ) → (all : Bool) → Type 0
+AreAddedAt MayHold query texts old new all = (bytes : List ℕ) → MayHold bytes → (d : Dictionary) → IndexFinds query.asked bytes d
+    → (printed : List ℕ) × Belongs query d texts printed all × (new ≡ old ++ printed)

@@ -5,7 +5,7 @@ use Rattle.zerotrie_core.specs.Faults.{IsFirstFault}
 use Rattle.zerotrie_any.specs.Tagged.{tagged, IsTagFault}
 use Rattle.zerotrie_any.specs.declared.bytes.TagError.{TagError}
 use Rattle.zerotrie_sealed.specs.Sealed.{magic, IsSealed}
-use Rattle.zerotrie_sealed.specs.Faults.{IsSealFault, IsIndexFault}
+use Rattle.zerotrie_sealed.specs.Faults.{IsSealFault}
 use Rattle.zerotrie_sealed.specs.declared.reading.SealError.{SealError}
 use Rattle.zerotrie_core.specs.Kinds.{kind_of, IsTag}
 use Rattle.zerotrie_core.specs.declared.TrieKind.{TrieKind}
@@ -44,10 +44,9 @@ abbrev pub HasNoKind : Option TrieKind → List ℕ → TagError → Type 0
 HasNoKind None file why = (HasMagic file → ⊥) × IsTagFault IsTag file why
 HasNoKind (Some named) file why = ⊥
 
--- why a file is damaged: none was named, it begins as a sealed one, and it is the seal of no bytes of any kind; the fault is one of a
--- trie, or of an index
+-- why a file is damaged: none was named, it begins as a sealed one, and it is the seal of no bytes of any kind
 abbrev pub IsDamaged : Option TrieKind → List ℕ → SealError → Type 0
-IsDamaged None file why = HasMagic file × (IsSealFault file why ⊎ IsIndexFault file why) × ((kind : TrieKind) (bytes : List ℕ) → IsSealed (kind_of kind) bytes file → ⊥)
+IsDamaged None file why = HasMagic file × IsSealFault file why × ((kind : TrieKind) (bytes : List ℕ) → IsSealed (kind_of kind) bytes file → ⊥)
 IsDamaged (Some named) file why = ⊥
 
 -- the file has bytes of this kind unsealed that are malformed

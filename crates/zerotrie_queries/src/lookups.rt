@@ -7,6 +7,7 @@ ghost use Rattle.zerotrie_core.specs.Prefixes.{Leaves, fronts_left};
 ghost use Rattle.zerotrie_core.specs.Texts.{Lists, Means};
 ghost use Rattle.zerotrie_core.specs.Kinds.{kind_of};
 ghost use Rattle.zerotrie_files.specs.Faults.{IsNoted};
+ghost use Rattle.zerotrie_index.specs.Placed.{MayStill};
 ghost use Rattle.zerotrie_queries.specs.Printed.{front_lines};
 ghost use Rattle.zerotrie_queries.specs.Finders.{Finds, IndexFinds, asks_keys, dictionary_of};
 ghost use Rattle.zerotrie_queries.specs.Answers.{as_is, with_escapes, AddsAnswer, IsAdded, IsAddedAt, AreAddedAt, AreAnswered, AreAnsweredInPart};
@@ -160,9 +161,9 @@ fn add_answer_at<S: ReadAt>(
 ) -> Result<bool, S::Error>
 where
     S::Error: From<AllocError>,
-    ensures added { IfOk result (λ found. IsAddedAt (S.held index.old) (as_is asked) key.now
+    ensures added { IfOk result (λ found. IsAddedAt (S.MayHold index.old) (as_is asked) key.now
         line.old.items line.new.items found) }
-    ensures same { S.held index.new ≡ S.held index.old }
+    ensures same { MayStill (S.MayHold index.old) (S.MayHold index.new) }
 {
     let value = get_at(alloc, index, key)?;
     Ok(add_indexed(line, value, asked, key)?)
@@ -179,9 +180,9 @@ fn add_queried_at<S: ReadAt>(
 ) -> Result<bool, S::Error>
 where
     S::Error: From<AllocError>,
-    ensures added { IfOk result (λ found. IsAddedAt (S.held index.old) query text.now
+    ensures added { IfOk result (λ found. IsAddedAt (S.MayHold index.old) query text.now
         line.old.items line.new.items found) }
-    ensures same { S.held index.new ≡ S.held index.old }
+    ensures same { MayStill (S.MayHold index.old) (S.MayHold index.new) }
 {
     match query.spelling {
         Spelling::Plain => {
@@ -212,9 +213,9 @@ pub fn add_answers_at<S: ReadAt>(
 ) -> Result<bool, S::Error>
 where
     S::Error: From<AllocError>,
-    ensures added { IfOk result (λ all. AreAddedAt (S.held index.old) query
+    ensures added { IfOk result (λ all. AreAddedAt (S.MayHold index.old) query
         (map (λ t. t.now) texts.now) lines.old.items lines.new.items all) }
-    ensures same { S.held index.new ≡ S.held index.old }
+    ensures same { MayStill (S.MayHold index.old) (S.MayHold index.new) }
 {
     let mut buffer = Vec::new(alloc);
     let mut all = true;

@@ -22,8 +22,8 @@ use Rattle.zerotrie_files.specs.Disks.{Story}
 use Rattle.zerotrie_files.specs.Faults.{Watched}
 use Rattle.zerotrie_queries.specs.declared.file.OpenError.TheVariants.{BadTag, Damaged, NotWellFormed, OutOfMemory}
 use Rattle.zerotrie_queries.specs.Finders.{Dictionary, KindFinds, TrieFinds, IndexFinds}
-use Rattle.zerotrie_run.specs.Runs.Content.{of_trie, of_index}
-use Rattle.zerotrie_run.specs.Runs.{Answers, AnswersInPart, Content, ContentAnswers, ContentAnswersInPart, IndexAnswers, IndexAnswersInPart, AreKeys, KeysAnswered, KeysAnsweredInPart, IsNoAnswer, IsRead, IsUnanswered, Opens, EndsAsk, ask_refusal, are_lines, of_lines}
+use Rattle.zerotrie_run.specs.Runs.Content.{of_trie, of_index, in_blocks}
+use Rattle.zerotrie_run.specs.Runs.{Answers, AnswersInPart, Content, ContentAnswers, ContentAnswersInPart, IndexAnswers, IndexAnswersInPart, AreKeys, KeysAnswered, KeysAnsweredInPart, IsNoAnswer, IsRead, IsUnanswered, Opens, EndsAsk, ask_refusal, are_lines, of_lines, IsUnasked}
 use Rattle.zerotrie_run.specs.Told.{HasReason}
 use Rattle.zerotrie_run.specs.declared.ask.AskError.{AskError}
 use Rattle.zerotrie_run.specs.declared.ask.AskError.TheVariants.{TwoInputs, Unread, NoTrie, NotText, Unanswered}
@@ -63,6 +63,7 @@ kept_index (View view) input bytes a b c all h k = (h.0, Keeps-trans a b c h.1 k
 pub kept_content : (x : Content) (q : Question) (input : Option (List ℕ)) (a b c : Option (List ℕ)) (all : Bool) → ContentAnswers x q input a b all → Keeps b c → ContentAnswers x q input a c all
 kept_content (of_trie kind bytes) q input a b c all h k = kept_answer q input kind bytes a b c all h k
 kept_content (of_index bytes) q input a b c all h k = kept_index q input bytes a b c all h k
+kept_content (in_blocks start held) q input a b c all h k = λ bytes has. kept_index q input bytes a b c all (h bytes has) k
 
 -- words are the same keys whatever standard input has
 other_keys : (keys : Keys) (i j : Option (List ℕ)) (ks : List (List ℕ)) → (are_lines keys ≡ true → ⊥) → AreKeys keys i ks → AreKeys keys j ks
@@ -92,6 +93,7 @@ other_input_index (View view) i j bytes a b all apart h = h
 other_input_content : (x : Content) (q : Question) (i j : Option (List ℕ)) (a b : Option (List ℕ)) (all : Bool) → (of_lines q ≡ true → ⊥) → ContentAnswers x q i a b all → ContentAnswers x q j a b all
 other_input_content (of_trie kind bytes) q i j a b all apart h = other_input q i j kind bytes a b all apart h
 other_input_content (of_index bytes) q i j a b all apart h = other_input_index q i j bytes a b all apart h
+other_input_content (in_blocks start held) q i j a b all apart h = λ bytes has. other_input_index q i j bytes a b all apart (h bytes has)
 
 -- the input that is left after a file was read answers as all of it
 pub same_answer : {R : Type 0} (place : Place) (remaining : R → Option (List ℕ)) (old new : Watched R) (x : Content) (q : Question) (a b : Option (List ℕ)) (all : Bool)
@@ -139,6 +141,7 @@ index_in_part (View view) input bytes a b all h = h.1
 pub answer_in_part : (x : Content) (q : Question) (input : Option (List ℕ)) (a b : Option (List ℕ)) (all : Bool) → ContentAnswers x q input a b all → ContentAnswersInPart x q input a b
 answer_in_part (of_trie kind bytes) q input a b all h = trie_in_part q input kind bytes a b all h
 answer_in_part (of_index bytes) q input a b all h = index_in_part q input bytes a b all h
+answer_in_part (in_blocks start held) q input a b all h = λ bytes has. index_in_part q input bytes a b all (h bytes has)
 
 -- a beginning of an answer whose keys are no lines is one whatever standard input has
 other_part : (q : Question) (i j : Option (List ℕ)) (kind : TrieKind) (bytes : List ℕ) (a b : Option (List ℕ)) → (of_lines q ≡ true → ⊥) → AnswersInPart q i kind bytes a b → AnswersInPart q j kind bytes a b
@@ -162,6 +165,7 @@ other_part_index (View view) i j bytes a b apart h = h
 other_part_content : (x : Content) (q : Question) (i j : Option (List ℕ)) (a b : Option (List ℕ)) → (of_lines q ≡ true → ⊥) → ContentAnswersInPart x q i a b → ContentAnswersInPart x q j a b
 other_part_content (of_trie kind bytes) q i j a b apart h = other_part q i j kind bytes a b apart h
 other_part_content (of_index bytes) q i j a b apart h = other_part_index q i j bytes a b apart h
+other_part_content (in_blocks start held) q i j a b apart h = λ bytes has. other_part_index q i j bytes a b apart (h bytes has)
 
 pub same_part : {R : Type 0} (place : Place) (remaining : R → Option (List ℕ)) (old new : Watched R) (x : Content) (q : Question) (a b : Option (List ℕ))
     → ((place ≡ Stream) × (of_lines q ≡ true) → ⊥) → (place ≡ Stream) ⊎ (new ≡ old) → ContentAnswersInPart x q (remaining new.inner) a b → ContentAnswersInPart x q (remaining old.inner) a b
@@ -188,7 +192,7 @@ ends_unanswered file q i j files held old new (NotText key) read same h = (key.i
 -- why it has none is so of what was read
 pub reason_unanswered : (file : TrieFile) (q : Question) (i j : Option (List ℕ)) (files : Option Story) (held : List ℕ) (old new : Option (List ℕ)) (e : AskError) → IsRead file.place i files held
     → IsUnanswered file q j held old new e
-    → HasReason file q i files e
+    → HasReason (IsUnasked file q) file q i files e
 reason_unanswered file q i j files held old new TwoInputs read h = tt
 reason_unanswered file q i j files held old new (Unread e) read h = tt
 reason_unanswered file q i j files held old new (NoTrie why t) read h = (held, read, h.0.0, h.1)

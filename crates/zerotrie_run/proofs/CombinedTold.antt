@@ -33,6 +33,7 @@ use Rattle.zerotrie_run.specs.declared.command.Command.TheVariants as commands
 use Rattle.zerotrie_run.proofs.CombinedLemmas.{IsOfPairs, file_there, of_pairs}
 use Rattle.zerotrie_run.proofs.CombinedLemmas.IsOfPairs.{keys, refused, index_refused, memory}
 use Rattle.zerotrie_run.proofs.ToldLemmas.{told_last, no_memory, failure_told}
+use Rattle.zerotrie_run.specs.Runs.{IsUnopened}
 
 -- a refusal of what the combination takes
 taken_told : (o : Combine) (input : Option (List ℕ)) (files : Option Story) (a b c : Option (List ℕ)) (text : List ℕ) (e : CombinationError) → OfFiles o input files (λ maps. ExplainsMaps o.combination maps e)
@@ -54,9 +55,9 @@ file_place o number place is = inl (file_there (λ other. source_name place ≡ 
 
 -- a line tells that one of the files has no trie
 unopened_told : (o : Combine) (input : Option (List ℕ)) (files : Option Story) (a b c : Option (List ℕ)) (text : List ℕ) (number : ℕ) (why : OpenError) (t : Bool) → HasCombineCause o input files (NoTrie number why t)
-    → TellsCombine o (NoTrie number why t) text → TellsMore a b → Appends b c text → Any (λ place. TellsUnopened (file_of place) input files a c) o.from.now
+    → TellsCombine o (NoTrie number why t) text → TellsMore a b → Appends b c text → Any (λ place. TellsUnopened (IsUnopened (file_of place)) (file_of place) input files a c) o.from.now
 unopened_told o input files a b c text number why t cause tells more h =
-    file_there (λ place. TellsUnopened (file_of place) input files a c) o.from.now number cause.0 cause.1
+    file_there (λ place. TellsUnopened (IsUnopened (file_of place)) (file_of place) input files a c) o.from.now number cause.0 cause.1
     (cause.2, cause.3, why, cause.4, text, tells.0 cause.0 cause.1, subst (λ t. TellsNoTrie why t text) cause.5 tells.1, told_last a b c text more h)
 
 text_told : (o : Combine) (input : Option (List ℕ)) (files : Option Story) (a b c : Option (List ℕ)) (text : List ℕ) (read write closed : Bool) (e : CombineError) → HasCombineCause o input files e → TellsCombine o e text

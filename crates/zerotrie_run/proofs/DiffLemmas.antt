@@ -11,7 +11,7 @@ use Rattle.zerotrie_queries.specs.Diffs.{change_lines}
 use Rattle.zerotrie_queries.specs.declared.file.OpenError.TheVariants.{BadTag, Damaged, NotWellFormed}
 use Rattle.zerotrie_queries.specs.declared.file.OpenError.TheVariants as unopened
 use Rattle.zerotrie_queries.proofs.PartLemmas.{part_all}
-use Rattle.zerotrie_run.specs.Runs.{HasNumberToo, IsDoubtful, IsRead, ask_refusal}
+use Rattle.zerotrie_run.specs.Runs.{HasNumberToo, IsDoubtful, IsRead, ask_refusal, IsUnopened}
 use Rattle.zerotrie_run.specs.Statuses.{failure}
 use Rattle.zerotrie_run.specs.Messages.{source_name}
 use Rattle.zerotrie_run.specs.Told.{HasReason, HasDiffReason, IsPlaceOf, IsTold, TellsMore, ended}
@@ -115,14 +115,14 @@ ends_uncompared diff input files held other a b e r s (inl (inr h, same)) = ends
 ends_uncompared diff input files held other a b e r s (inr h) = ends_begun diff input files a b e.error h.1 (are_diffed_in_part diff input files held other a b r s h.2)
 
 -- the reasons why
-reason_unopened : (file : TrieFile) (input : Option (List ℕ)) (files : Option Story) (held : List ℕ) (e : AskError) → IsRead file.place input files held → HasNoTrieIn file held e → HasReason file Verify input files e
+reason_unopened : (file : TrieFile) (input : Option (List ℕ)) (files : Option Story) (held : List ℕ) (e : AskError) → IsRead file.place input files held → HasNoTrieIn file held e → HasReason (IsUnopened file) file Verify input files e
 reason_unopened file input files held ask.TwoInputs r h = absurd h
 reason_unopened file input files held (ask.Unread e) r h = absurd h
 reason_unopened file input files held (ask.NoTrie why t) r h = (held, r, h.0, h.1)
 reason_unopened file input files held (ask.NotText key) r h = absurd h
 reason_unopened file input files held (ask.Unanswered e) r h = absurd h
 
-reason_unanswered : (file : TrieFile) (input : Option (List ℕ)) (files : Option Story) (e : AskError) → IsUnanswered e → HasReason file Verify input files e
+reason_unanswered : (file : TrieFile) (input : Option (List ℕ)) (files : Option Story) (e : AskError) → IsUnanswered e → HasReason (IsUnopened file) file Verify input files e
 reason_unanswered file input files ask.TwoInputs h = absurd h
 reason_unanswered file input files (ask.Unread e) h = absurd h
 reason_unanswered file input files (ask.NoTrie why t) h = absurd h
@@ -132,9 +132,9 @@ reason_unanswered file input files (ask.Unanswered e) h = tt
 pub reason_uncompared : (diff : Diff) (input : Option (List ℕ)) (files : Option Story) (held other : List ℕ) (a b : Option (List ℕ)) (e : DiffError) → IsRead diff.old input files held → IsRead diff.new input files other
     → AreUncompared diff held other a b e → HasDiffReason diff input files e
 reason_uncompared diff input files held other a b e r s (inl (inl h, same)) =
-    (inl h.0, subst (λ file. HasReason file Verify input files e.error) (sym h.0) (reason_unopened (old_file diff) input files held e.error r h.1))
+    (inl h.0, subst (λ file. HasReason (IsUnopened file) file Verify input files e.error) (sym h.0) (reason_unopened (old_file diff) input files held e.error r h.1))
 reason_uncompared diff input files held other a b e r s (inl (inr h, same)) =
-    (inr h.0, subst (λ file. HasReason file Verify input files e.error) (sym h.0) (reason_unopened (new_file diff) input files other e.error s h.1))
+    (inr h.0, subst (λ file. HasReason (IsUnopened file) file Verify input files e.error) (sym h.0) (reason_unopened (new_file diff) input files other e.error s h.1))
 reason_uncompared diff input files held other a b e r s (inr h) = (h.0, reason_unanswered e.file input files e.error h.1)
 
 -- how a comparison ends after its message
@@ -198,7 +198,7 @@ ends_unread diff input files a (ask.NoTrie why t) is = absurd is
 ends_unread diff input files a (ask.NotText key) is = absurd is
 ends_unread diff input files a (ask.Unanswered e) is = absurd is
 
-reason_of_unread : (file : TrieFile) (input : Option (List ℕ)) (files : Option Story) (e : AskError) → IsUnread e → HasReason file Verify input files e
+reason_of_unread : (file : TrieFile) (input : Option (List ℕ)) (files : Option Story) (e : AskError) → IsUnread e → HasReason (IsUnopened file) file Verify input files e
 reason_of_unread file input files ask.TwoInputs is = absurd is
 reason_of_unread file input files (ask.Unread e) is = tt
 reason_of_unread file input files (ask.NoTrie why t) is = absurd is

@@ -7,7 +7,7 @@ use Rattle.zerotrie_core.specs.declared.TrieKind.{TrieKind}
 use Rattle.zerotrie_core.specs.declared.TrieKind.TheVariants.{Simple, Ignore, Hash, Ext}
 use Rattle.zerotrie_any.specs.Tagged.{tagged, IsTagFault}
 use Rattle.zerotrie_any.specs.declared.bytes.TagError.{TagError}
-use Rattle.zerotrie_sealed.specs.Sealed.{IsSealedAs, IsSealedIndex, index_number}
+use Rattle.zerotrie_sealed.specs.Sealed.{IsSealedAs, IsSealedIndex, IsIndexNumber, index_number}
 use Rattle.zerotrie_sealed.specs.Faults.{IsIndexFault}
 use Rattle.zerotrie_sealed.specs.declared.reading.SealError.TheVariants.{UnknownKind}
 use Rattle.zerotrie_sealed.specs.Laws.{OneTrie, OneIndex}
@@ -15,7 +15,7 @@ use Rattle.zerotrie_sealed.specs.declared.reading.SealError.{SealError}
 use Rattle.zerotrie_queries.specs.Files.{Holds, HoldsUnsealed, HoldsSealed, HasMagic, HasNoKind, IsDamaged}
 use Rattle.zerotrie_queries.specs.declared.file.OpenError.{OpenError}
 use Rattle.zerotrie_queries.specs.declared.file.OpenError.TheVariants as unopened
-use Rattle.zerotrie_run.specs.Runs.{OpensBy, IsUnopened, IsUnopenedBy}
+use Rattle.zerotrie_run.specs.Runs.{Opens, OpensBy, IsDamagedIndex, IsUnasked, IsUnopened, IsUnopenedBy, asks_index}
 use Rattle.zerotrie_run.specs.declared.command.TrieFile.{TrieFile}
 use Rattle.zerotrie_run.specs.declared.command.Check.{Check}
 use Rattle.zerotrie_run.specs.declared.command.Check.TheVariants as check
@@ -123,6 +123,15 @@ not_damaged None file k b why bad (inl sealed) = bad.2 k b sealed
 not_damaged None file k b why bad (inr is) = tagged_magic (kind_of k) b file is bad.0
 not_damaged (Some n) file k b why bad h = bad
 
+-- nor as an index
+not_damaged_index : (named : Option TrieKind) (file : List ℕ) (k : TrieKind) (b : List ℕ) (why : OpenError) → IsDamagedIndex named file why → Holds named file k b → ⊥
+not_damaged_index None file k b (unopened.BadTag why) bad h = bad
+not_damaged_index None file k b (unopened.Damaged why) bad (inl sealed) = bad.3 k b sealed
+not_damaged_index None file k b (unopened.Damaged why) bad (inr is) = tagged_magic (kind_of k) b file is bad.0
+not_damaged_index None file k b (unopened.NotWellFormed j f) bad h = bad
+not_damaged_index None file k b unopened.OutOfMemory bad h = bad
+not_damaged_index (Some n) file k b why bad h = bad
+
 -- nor are its bytes malformed if they mean a map
 not_unsound : OneTrie → (named : Option TrieKind) (file : List ℕ) (j k : TrieKind) (a b : List ℕ) → Holds named file j a → (IsWellFormed (kind_of j) a → ⊥) → Holds named file k b → IsWellFormed (kind_of k) b → ⊥
 not_unsound one named file j k a b held bad h good =
@@ -148,15 +157,19 @@ opened one check.Full named file (unopened.Damaged why) k b none h = not_damaged
 opened one check.Full named file (unopened.NotWellFormed j f) k b none h = not_unsound one named file j k none.0 b none.1.0 none.1.1 h.0 h.1
 opened one check.Full named file unopened.OutOfMemory k b none h = not_unsound one named file none.0 k none.1 b none.2.0 none.2.1 h.0 h.1
 
--- what is wrong with the seal of an index is so of a file that is to have a trie
-pub index_unopened : (file : TrieFile) (held : List ℕ) (why : OpenError) (number : ℕ) (fault : SealError) → why ≡ unopened.Damaged (UnknownKind number)
-    → IsUnopened file held why → IsIndexFault held fault → IsUnopened file held (unopened.Damaged fault)
-index_unopened file held why number fault is h damage = by file.check file.bare (subst (λ w. IsUnopenedBy file.check file.bare held w) is h)
+pub opened_asked : OneTrie → (file : TrieFile) (q : Question) (held : List ℕ) (why : OpenError) (k : TrieKind) (b : List ℕ) → IsUnasked file q held why → Opens file held k b → ⊥
+opened_asked one file q held why k b (inl none) h = opened one file.check file.bare held why k b none h
+opened_asked one file q held why k b (inr bad) h = not_damaged_index file.bare held k b why bad.1 (holds_of file.check file.bare held k b h)
+
+-- what is wrong with the seal of an index is why a question to one has no answer
+pub index_unasked : (file : TrieFile) (q : Question) (held : List ℕ) (why : OpenError) (number : ℕ) (fault : SealError) → why ≡ unopened.Damaged (UnknownKind number) → IsIndexNumber number
+    → asks_index q ≡ true → IsUnopened file held why → IsIndexFault held fault → IsUnasked file q held (unopened.Damaged fault)
+index_unasked file q held why number fault is known asks h damage = inr (asks, by file.check file.bare (subst (λ w. IsUnopenedBy file.check file.bare held w) is h))
   where
-    by : (c : Check) (named : Option TrieKind) → IsUnopenedBy c named held (unopened.Damaged (UnknownKind number)) → IsUnopenedBy c named held (unopened.Damaged fault)
-    by check.Skip None h = (h.0, inr damage, h.2)
-    by check.Usual None h = (h.0, inr damage, h.2)
-    by check.Full None h = (h.0, inr damage, h.2)
+    by : (c : Check) (named : Option TrieKind) → IsUnopenedBy c named held (unopened.Damaged (UnknownKind number)) → IsDamagedIndex named held (unopened.Damaged fault)
+    by check.Skip None h = (h.0, subst IsIndexNumber (sym h.1.0) known, damage, h.2)
+    by check.Usual None h = (h.0, subst IsIndexNumber (sym h.1.0) known, damage, h.2)
+    by check.Full None h = (h.0, subst IsIndexNumber (sym h.1.0) known, damage, h.2)
     by check.Skip (Some n) h = h
     by check.Usual (Some n) h = h
     by check.Full (Some n) h = h

@@ -9,7 +9,8 @@ use Rattle.zerotrie_core.specs.WellFormed.{IsWellFormed}
 use Rattle.zerotrie_lines.specs.Tables.{lowered}
 use Rattle.zerotrie_any.specs.Tagged.{tagged}
 use Rattle.zerotrie_sealed.specs.Sealed.{IsSealed, IsSealedIndex}
-use Rattle.zerotrie_sealed.specs.Laws.{OneTrie, OneIndex, IndexIsBehind}
+use Rattle.zerotrie_index.specs.InBlocks.{HasItsBlocks, HasRightBlocks}
+use Rattle.zerotrie_sealed.specs.Laws.{OneTrie, OneIndex}
 use Rattle.zerotrie_index.specs.Built.{IsIndexOf}
 use Rattle.zerotrie_core.specs.Kinds.{kind_of}
 use Rattle.zerotrie_queries.specs.Files.{Holds}
@@ -24,7 +25,7 @@ use Rattle.zerotrie_making.specs.declared.plan.Plan.{Plan}
 use Rattle.zerotrie_making.specs.declared.plan.FileForm.{FileForm}
 use Rattle.zerotrie_making.specs.declared.plan.FileForm.TheVariants as form
 use Rattle.zerotrie_run.specs.Runs.{World, Content, IsRead, IsWritten, OpensFor, OpensToAnswer}
-use Rattle.zerotrie_run.specs.Runs.Content.{of_trie, of_index}
+use Rattle.zerotrie_run.specs.Runs.Content.{of_trie, of_index, in_blocks}
 use Rattle.zerotrie_run.specs.Laws.{IsNamedAsMade, MadeOpens, OpensAsMade, MadeIndexOpens, IndexOpensAsMade, IsIndexAsMade}
 use Rattle.zerotrie_run.specs.declared.command.Question.{Question}
 use Rattle.zerotrie_run.specs.declared.command.TrieFile.{TrieFile}
@@ -113,29 +114,30 @@ index_opened one pairs bytes made file plain is index question (of_trie k b) ope
 index_opened one pairs bytes made file plain is index question (of_index b) opens =
     let same = (one bytes made is).0 b opens.1.1 in
     (opens.1.1, subst (λ x. IsIndexOf pairs x) same index)
+index_opened one pairs bytes made file plain is index question (in_blocks start held) opens = absurd opens
 
 -- and so is what is asked of it at places
-front_opened : OneIndex → IndexIsBehind → (pairs : Pairs) (bytes made : List ℕ) (file : TrieFile) → file.bare ≡ None → IsSealedIndex bytes made → IsIndexOf pairs bytes
+front_opened : OneIndex → HasItsBlocks → (pairs : Pairs) (bytes made : List ℕ) (file : TrieFile) → file.bare ≡ None → IsSealedIndex bytes made → IsIndexOf pairs bytes
     → (question : Question) (content : Content) → OpensToAnswer file question made content → IsIndexAsMade pairs made content
-front_opened one behind pairs bytes made file plain is index question content (inl opens) = index_opened one pairs bytes made file plain is index question content opens
-front_opened one behind pairs bytes made file plain is index question (of_trie k b) (inr opens) = absurd opens
-front_opened one behind pairs bytes made file plain is index question (of_index b) (inr opens) =
-    let same : b ≡ bytes = opens.5 ∙ behind bytes made opens.3 is opens.4 in
-    (subst (λ x. IsSealedIndex x made) (sym same) is, subst (λ x. IsIndexOf pairs x) (sym same) index)
+front_opened one has pairs bytes made file plain is index question content (inl opens) = index_opened one pairs bytes made file plain is index question content opens
+front_opened one has pairs bytes made file plain is index question (of_trie k b) (inr opens) = absurd opens
+front_opened one has pairs bytes made file plain is index question (of_index b) (inr opens) = absurd opens
+front_opened one has pairs bytes made file plain is index question (in_blocks start held) (inr opens) =
+    (bytes, subst (λ x. HasRightBlocks start x bytes) (sym opens.4) (has bytes made start is opens.3), is, index)
 
 -- a file that holds a sealed index opens as it
-index_opens : OneIndex → IndexIsBehind → (pairs : Pairs) (bytes made : List ℕ) (file : TrieFile) (stdin : Option (List ℕ)) (files : Option Story)
+index_opens : OneIndex → HasItsBlocks → (pairs : Pairs) (bytes made : List ℕ) (file : TrieFile) (stdin : Option (List ℕ)) (files : Option Story)
     → ((got : List ℕ) → IsRead file.place stdin files got → got ≡ made) → file.bare ≡ None → IsSealedIndex bytes made → IsIndexOf pairs bytes
     → IndexOpensAsMade file stdin files pairs made
-index_opens one behind pairs bytes made file stdin files back plain is index = record {
+index_opens one has pairs bytes made file stdin files back plain is index = record {
   taken = λ question asks none.
       none.3.1 bytes (asks, (plain, subst (λ x. IsSealedIndex bytes x) (sym (back none.0 none.1)) is, λ full. (index.0, index.1)));
   opened = λ question got content read opens.
-      front_opened one behind pairs bytes made file plain is index question content (subst (λ x. OpensToAnswer file question x content) (back got read) opens);
+      front_opened one has pairs bytes made file plain is index question content (subst (λ x. OpensToAnswer file question x content) (back got read) opens);
 }
 
-pub made_index_opens : OneIndex → IndexIsBehind → MadeIndexOpens
-made_index_opens one behind build input before after held files known same made file stdin away at as_index plain =
+pub made_index_opens : OneIndex → HasItsBlocks → MadeIndexOpens
+made_index_opens one has build input before after held files known same made file stdin away at as_index plain =
     let f = made.made.3 in
     let pairs = kept build.plan.read.duplicates (lowered build.plan.read.lower_case made.made.1) in
     let kind = kind_for build.plan.file.kind pairs in
@@ -144,6 +146,6 @@ made_index_opens one behind build input before after held files known same made 
       made.made.0,
       made.made.1,
       made.made.2,
-      index_opens one behind pairs f.bytes made.file file stdin after.files back plain (subst (λ of. IsFormOf of kind f.bytes made.file) as_index f.is)
+      index_opens one has pairs f.bytes made.file file stdin after.files back plain (subst (λ of. IsFormOf of kind f.bytes made.file) as_index f.is)
           (index_built build.plan.file.sorted pairs f.bytes (subst (λ of. IsBuiltAs (content_of of kind) build.plan.file.sorted pairs f.bytes) as_index f.build)),
     )

@@ -1,12 +1,12 @@
 -- A question is refused exactly if the file has no trie.
-use Rattle.std.proofs.Common.{◌≡◌, ◌⊎◌, ◌≤◌, arith, ℕ, List, Option, Some, refl, sym, subst, ◌∙◌, inl, inr}
+use Rattle.std.proofs.Common.{◌≡◌, ◌⊎◌, ◌≤◌, arith, ℕ, List, Option, Some, Bool, true, false, refl, sym, subst, ◌∙◌, inl, inr}
 use Rattle.std.proofs.lemmas.Option.{same_Some}
 use Rattle.zerotrie_sealed.specs.Laws.{OneTrie}
 use Rattle.zerotrie_files.specs.Disks.{Story}
-use Rattle.zerotrie_run.specs.Runs.{World, Content, IsRead, IsUnopenedFor, OpensFor, OpensToAnswer, RunsAsk, RunsBuild}
-use Rattle.zerotrie_run.specs.Runs.Content.{of_trie, of_index}
+use Rattle.zerotrie_run.specs.Runs.{World, Content, IsAsked, IsRead, IsUnopenedFor, OpensFor, OpensToAnswer, RunsAsk, RunsBuild}
+use Rattle.zerotrie_run.specs.Runs.Content.{of_trie, of_index, in_blocks}
 use Rattle.zerotrie_queries.specs.declared.file.OpenError.{OpenError}
-use Rattle.zerotrie_run.specs.Laws.{HasAnswer, HasFrontToAsk, MakesFile, RefusedExactly, UnmadeIsRefused}
+use Rattle.zerotrie_run.specs.Laws.{HasAnswer, HasAnswerInBlocks, MakesFile, RefusedExactly, UnmadeIsRefused}
 use Rattle.zerotrie_run.specs.Statuses.{number_of}
 use Rattle.zerotrie_run.specs.declared.status.Status.{Status}
 use Rattle.zerotrie_run.specs.declared.status.Status.TheVariants.{Done, Absent, Refused, Taken, BadUsage, BadInput, Unread, Unwritten, OutOfMemory, Closed}
@@ -15,7 +15,7 @@ use Rattle.zerotrie_run.specs.declared.command.Place.TheVariants.{File, Stream}
 use Rattle.zerotrie_run.specs.declared.command.TrieFile.{TrieFile}
 use Rattle.zerotrie_run.specs.declared.command.Question.{Question}
 use Rattle.zerotrie_run.specs.declared.command.Build.{Build}
-use Rattle.zerotrie_run.proofs.FileLemmas.{opened}
+use Rattle.zerotrie_run.proofs.FileLemmas.{opened_asked}
 
 -- what is read of a place is one list of bytes
 pub read_once : (place : Place) (input : List ℕ) (files : Story) (a b : List ℕ) → IsRead place (Some input) (Some files) a → IsRead place (Some input) (Some files) b → a ≡ b
@@ -29,27 +29,28 @@ only_so one file q input files old new runs has =
     not_opened one file q has.0 none.2 has.2 (subst (λ held. IsUnopenedFor file q held none.2) same none.3) has.3
   where
     not_opened : OneTrie → (file : TrieFile) (q : Question) (held : List ℕ) (why : OpenError) (x : Content) → IsUnopenedFor file q held why → OpensFor file q held x → ⊥
-    not_opened one file q held why (of_trie kind bytes) none h = opened one file.check file.bare held why kind bytes none.0 h
+    not_opened one file q held why (of_trie kind bytes) none h = opened_asked one file q held why kind bytes none.0 h
     not_opened one file q held why (of_index bytes) none h = none.1 bytes h
+    not_opened one file q held why (in_blocks start all) none h = h
 
 -- what is asked is there
-unasked : {A : Type 0} (file : TrieFile) (q : Question) (input : List ℕ) (files : Story) (held : List ℕ) → IsRead file.place (Some input) (Some files) held → (x : Content)
-    → OpensToAnswer file q held x → (HasAnswer file q input files → ⊥) → (HasFrontToAsk file q input files → ⊥) → A
-unasked file q input files held read x (inl opens) none front = absurd (none (held, read, x, opens))
-unasked file q input files held read x (inr opens) none front = absurd (front (held, read, x, opens))
+unasked : {A : Type 0} (file : TrieFile) (q : Question) (input : List ℕ) (files : Story) (old new : Option (List ℕ)) (all : Bool) → (h : IsAsked file q (Some input) (Some files) old new all)
+    → (HasAnswer file q input files → ⊥) → (HasAnswerInBlocks file q input files old new → ⊥) → OpensToAnswer file q h.held h.content → A
+unasked file q input files old new all h none blocks (inl opens) = absurd (none (h.held, h.read, h.content, opens))
+unasked file q input files old new all h none blocks (inr opens) = absurd (blocks (h.held, h.read, h.content, opens, all, h.answers))
 
 always_so : (file : TrieFile) (q : Question) (input : List ℕ) (files : Story) (old new : Option (List ℕ)) (status : Status) → RunsAsk file q (Some input) (Some files) old new status → (HasAnswer file q input files → ⊥)
-    → (HasFrontToAsk file q input files → ⊥) → (status ≡ BadInput) ⊎ (status ≡ BadUsage) ⊎ (3 ≤ number_of status)
-always_so file q input files old new Done h none front = unasked file q input files h.held h.read h.content h.opens none front
-always_so file q input files old new Absent h none front = unasked file q input files h.held h.read h.content h.opens none front
-always_so file q input files old new Refused h none front = absurd (none (h.1.held, h.1.read, of_trie h.1.kind h.1.bytes, h.1.opens))
-always_so file q input files old new Taken h none front = absurd h
-always_so file q input files old new BadUsage h none front = inr (inl refl)
-always_so file q input files old new BadInput h none front = inl refl
-always_so file q input files old new Unread h none front = inr (inr (omega arith))
-always_so file q input files old new Unwritten h none front = inr (inr (omega arith))
-always_so file q input files old new OutOfMemory h none front = inr (inr (omega arith))
-always_so file q input files old new Closed h none front = inr (inr (omega arith))
+    → (HasAnswerInBlocks file q input files old new → ⊥) → (status ≡ BadInput) ⊎ (status ≡ BadUsage) ⊎ (3 ≤ number_of status)
+always_so file q input files old new Done h none blocks = unasked file q input files old new true h none blocks h.opens
+always_so file q input files old new Absent h none blocks = unasked file q input files old new false h none blocks h.opens
+always_so file q input files old new Refused h none blocks = absurd (none (h.1.held, h.1.read, of_trie h.1.kind h.1.bytes, h.1.opens))
+always_so file q input files old new Taken h none blocks = absurd h
+always_so file q input files old new BadUsage h none blocks = inr (inl refl)
+always_so file q input files old new BadInput h none blocks = inl refl
+always_so file q input files old new Unread h none blocks = inr (inr (omega arith))
+always_so file q input files old new Unwritten h none blocks = inr (inr (omega arith))
+always_so file q input files old new OutOfMemory h none blocks = inr (inr (omega arith))
+always_so file q input files old new Closed h none blocks = inr (inr (omega arith))
 
 pub refused_exactly : OneTrie → RefusedExactly
 refused_exactly one file q input files old new status runs = record {

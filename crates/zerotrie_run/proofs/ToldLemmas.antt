@@ -10,7 +10,7 @@ use Rattle.zerotrie_queries.specs.declared.file.OpenError.TheVariants as unopene
 use Rattle.zerotrie_making.specs.declared.error.MakeError.TheVariants as made
 use Rattle.zerotrie_run.specs.Statuses.{failure}
 use Rattle.zerotrie_run.specs.Messages.{IsLineOn, TellsAsk, TellsBuild, TellsNoTrie, source_name, target_name, unit_of}
-use Rattle.zerotrie_run.specs.Runs.{RunsAsk, EndsAsk, FailsAsk, LeavesInputOf, ask_refusal, build_refusal}
+use Rattle.zerotrie_run.specs.Runs.{RunsAsk, EndsAsk, FailsAsk, LeavesInputOf, ask_refusal, build_refusal, IsUnasked}
 use Rattle.zerotrie_run.specs.Told.{TellsMore, ToldLast, LineTold, IsPlaceOf, HasReason, HasCause, IsTold, ended, last_text}
 use Rattle.zerotrie_run.specs.declared.status.Status.{Status}
 use Rattle.zerotrie_run.specs.declared.status.Status.TheVariants.{Done, Absent, Refused, Taken, BadUsage, BadInput, Unread, Unwritten, OutOfMemory, Closed}
@@ -79,7 +79,7 @@ pub build_told : (command : Command) (build : Build) (input : Option (List ℕ))
 build_told command build input files a b c read write closed e status result r at cause is tells more ends (inl silent) = rw silent tt
 build_told command build input files a b c read write closed e status result r at cause is tells more ends (inr h) = rw (at, ends) (build_told_by build input files a b c read write closed e status r cause is tells more h)
 
-ask_text_told : (file : TrieFile) (q : Question) (input : Option (List ℕ)) (files : Option Story) (a b c : Option (List ℕ)) (text : List ℕ) (read write closed : Bool) (e : AskError) → HasReason file q input files e → TellsAsk file.place e text
+ask_text_told : (file : TrieFile) (q : Question) (input : Option (List ℕ)) (files : Option Story) (a b c : Option (List ℕ)) (text : List ℕ) (read write closed : Bool) (e : AskError) → HasReason (IsUnasked file q) file q input files e → TellsAsk file.place e text
     → TellsMore a b → Appends b c text → IsTold (commands.Ask file q) input files a c (unwrap_or (ask_refusal e) (failure read write closed))
 ask_text_told file q input files a b c text read write closed ask.TwoInputs cause tells more h = (text, tells, told_last a b c text more h)
 ask_text_told file q input files a b c text read write closed (ask.Unread e) cause tells more h = failure_told (commands.Ask file q) input files a b c text (source_name file.place) read write closed (inl refl) tells more h
@@ -96,7 +96,7 @@ ask_text_told file q input files a b c text read write closed (ask.NotText key) 
 
 -- what is told last if a question has no answer
 ask_told_by : (file : TrieFile) (q : Question) (input : Option (List ℕ)) (files : Option Story) (a b c : Option (List ℕ)) (read write closed : Bool) (e : AskError) (status : Status) (r : Result (Vec ℕ Global) AllocError)
-    → HasReason file q input files e
+    → HasReason (IsUnasked file q) file q input files e
     → status ≡ unwrap_or (ask_refusal e) (failure read write closed) → IfOk r (λ text. TellsAsk file.place e text.items) → TellsMore a b → Appends b c (last_text r)
     → IsTold (commands.Ask file q) input files a c (ended status r)
 ask_told_by file q input files a b c read write closed e status (Ok text) cause is tells more h = rw is (ask_text_told file q input files a b c text.items read write closed e cause tells more h)
@@ -104,7 +104,7 @@ ask_told_by file q input files a b c read write closed e status (Err x) cause is
 
 pub ask_told : (command : Command) (file : TrieFile) (q : Question) (input : Option (List ℕ)) (files : Option Story) (a b c : Option (List ℕ)) (read write closed : Bool) (e : AskError) (status result : Status)
     (r : Result (Vec ℕ Global) AllocError)
-    → command ≡ commands.Ask file q → HasReason file q input files e → status ≡ unwrap_or (ask_refusal e) (failure read write closed) → IfOk r (λ text. TellsAsk file.place e text.items) → TellsMore a b
+    → command ≡ commands.Ask file q → HasReason (IsUnasked file q) file q input files e → status ≡ unwrap_or (ask_refusal e) (failure read write closed) → IfOk r (λ text. TellsAsk file.place e text.items) → TellsMore a b
     → result ≡ ended status r → (result ≡ Closed) ⊎ Appends b c (last_text r)
     → IsTold command input files a c result
 ask_told command file q input files a b c read write closed e status result r at cause is tells more ends (inl silent) = rw silent tt

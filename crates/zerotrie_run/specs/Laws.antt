@@ -13,8 +13,8 @@ use Rattle.zerotrie_making.specs.Kept.{kept}
 use Rattle.zerotrie_making.specs.Made.{IsFile, OfInput}
 use Rattle.zerotrie_making.specs.declared.plan.FileForm.{FileForm}
 use Rattle.zerotrie_making.specs.declared.plan.FileForm.TheVariants as form
-use Rattle.zerotrie_run.specs.Runs.{World, IsRead, Opens, Content, OpensFor, OpensAtPlaces, OpensToAnswer, HasNoTrie, HasNoAnswer, IsMade, RunsAsk, RunsBuild, asks_index}
-use Rattle.zerotrie_run.specs.Runs.Content.{of_trie, of_index}
+use Rattle.zerotrie_run.specs.Runs.{World, IsRead, Opens, Content, ContentAnswers, OpensFor, OpensAtPlaces, OpensToAnswer, HasNoTrie, HasNoAnswer, IsMade, RunsAsk, RunsBuild, asks_index}
+use Rattle.zerotrie_run.specs.Runs.Content.{of_trie, of_index, in_blocks}
 use Rattle.zerotrie_run.specs.Statuses.{number_of}
 use Rattle.zerotrie_run.specs.declared.status.Status.{Status}
 use Rattle.zerotrie_run.specs.declared.status.Status.TheVariants.{Refused, Taken, BadUsage, BadInput}
@@ -44,10 +44,11 @@ MadeOpens = (build : Build) (input : Option (List ℕ)) (before after : World) (
     → OfInput build.plan made.all (λ given. let pairs = kept build.plan.read.duplicates given in IsNamedAsMade build.plan.file.form (kind_for build.plan.file.kind pairs) file.bare
     → OpensAsMade file stdin after.files build.plan.file.form (kind_for build.plan.file.kind pairs) pairs made.file)
 
--- what a file has is the index that was made, of the pairs in some order
+-- what a file has is the index that was made, of the pairs in some order, or its right blocks are that index's
 abbrev pub IsIndexAsMade : Pairs → List ℕ → Content → Type 0
 IsIndexAsMade pairs made (of_trie kind bytes) = ⊥
 IsIndexAsMade pairs made (of_index bytes) = IsSealedIndex bytes made × IsIndexOf pairs bytes
+IsIndexAsMade pairs made (in_blocks start held) = (bytes : List ℕ) × HasRightBlocks start held bytes × IsSealedIndex bytes made × IsIndexOf pairs bytes
 
 -- No question that an index answers is refused, and whatever a question is asked of is the index that was made.
 pub record IndexOpensAsMade (file : TrieFile) (input : Option (List ℕ)) (files : Option Story) (pairs : Pairs) (made : List ℕ) : Type 0 where
@@ -71,20 +72,23 @@ HasTrie file input files = (held : List ℕ) × IsRead file.place (Some input) (
 abbrev pub HasAnswer : TrieFile → Question → List ℕ → Story → Type 0
 HasAnswer file question input files = (held : List ℕ) × IsRead file.place (Some input) (Some files) held × (content : Content) × OpensFor file question held content
 
--- the file that is read begins with the front of an index, which is asked at places
-abbrev pub HasFrontToAsk : TrieFile → Question → List ℕ → Story → Type 0
-HasFrontToAsk file question input files = (held : List ℕ) × IsRead file.place (Some input) (Some files) held × (content : Content) × OpensAtPlaces file question held content
+-- the file that is read begins with the front of an index, and what was printed is the answer of each index that has its right
+-- blocks
+abbrev pub HasAnswerInBlocks : TrieFile → Question → List ℕ → Story → (old new : Option (List ℕ)) → Type 0
+HasAnswerInBlocks file question input files old new = (held : List ℕ) × IsRead file.place (Some input) (Some files) held
+    × (content : Content) × OpensAtPlaces file question held content × (all : Bool) × ContentAnswers content question (Some input) old new all
 
 -- A question to a file that is not taken without a test is refused as bad input only if the file has no trie, nor an index that answers it;
--- and if it has none, nor the front of an index that is asked at places, that is how it ends, unless the usage is bad or something failed.
-pub record IsRefusedExactly (file : TrieFile) (question : Question) (input : List ℕ) (files : Story) (status : Status) : Type 0 where
+-- and if it has none, and its right blocks gave no answer, that is how it ends, unless the usage is bad or something failed.
+pub record IsRefusedExactly (file : TrieFile) (question : Question) (input : List ℕ) (files : Story) (old new : Option (List ℕ)) (status : Status) : Type 0 where
   pub only : status ≡ BadInput → HasAnswer file question input files → ⊥
-  pub always : (HasAnswer file question input files → ⊥) → (HasFrontToAsk file question input files → ⊥) → (status ≡ BadInput) ⊎ (status ≡ BadUsage) ⊎ (3 ≤ number_of status)
+  pub always : (HasAnswer file question input files → ⊥) → (HasAnswerInBlocks file question input files old new → ⊥)
+      → (status ≡ BadInput) ⊎ (status ≡ BadUsage) ⊎ (3 ≤ number_of status)
 
 -- so each question ends, over files and an input that are known
 abbrev pub RefusedExactly : Type 0
 RefusedExactly = (file : TrieFile) (question : Question) (input : List ℕ) (files : Story) (old new : Option (List ℕ)) (status : Status)
-    → RunsAsk file question (Some input) (Some files) old new status → IsRefusedExactly file question input files status
+    → RunsAsk file question (Some input) (Some files) old new status → IsRefusedExactly file question input files old new status
 
 -- the input that is read makes a file
 abbrev pub MakesFile : Build → List ℕ → Story → Type 0

@@ -1,5 +1,5 @@
 -- What each command prints, what it leaves in files, and how it ends.
-use Rattle.std.specs.Prelude.{◌≡◌, ◌≢◌, ◌⊎◌, ◌<◌, ℕ, suc, List, [], ◌∷◌, Option, Some, None, IfSome, Result, Ok, Err, Bool, true, false, is_none, map, drop, codes}
+use Rattle.std.specs.Prelude.{◌≡◌, ◌≢◌, ◌⊎◌, ◌<◌, ℕ, suc, List, [], ◌∷◌, Option, Some, None, IfSome, Result, Ok, Err, Bool, true, false, is_none, map, codes}
 use Rattle.std.specs.Io.KnownBytes.{Appends, Keeps}
 use Rattle.std.specs.Io.Buffered.{writer_buffer}
 use Rattle.std.specs.declared.io.buffered.BufWriter.{BufWriter}
@@ -9,7 +9,7 @@ use Rattle.zerotrie_lines.specs.Lines.{lines_of}
 use Rattle.zerotrie_any.specs.Tagged.{tagged}
 use Rattle.zerotrie_core.specs.Kinds.{kind_of}
 use Rattle.zerotrie_core.specs.Faults.{IsFirstFault}
-use Rattle.zerotrie_queries.specs.Files.{Holds, IsOpened, HasNoKind, IsDamaged, IsUnknown, Explains}
+use Rattle.zerotrie_queries.specs.Files.{Holds, IsOpened, HasMagic, HasNoKind, IsDamaged, IsUnknown, Explains}
 use Rattle.zerotrie_queries.specs.Texts.{looks_like_text}
 use Rattle.zerotrie_core.specs.declared.TrieKind.{TrieKind}
 use Rattle.zerotrie_queries.specs.declared.file.OpenError.{OpenError}
@@ -17,8 +17,10 @@ use Rattle.zerotrie_queries.specs.declared.file.OpenError.TheVariants as unopene
 use Rattle.zerotrie_files.specs.Parts.{AppendsPart}
 use Rattle.zerotrie_queries.specs.Answers.{AreAnswered, AreAnsweredInPart, Belongs}
 use Rattle.zerotrie_queries.specs.Finders.{Dictionary, TrieFinds, IndexFinds, asks_keys}
+use Rattle.zerotrie_index.specs.InBlocks.{HasRightBlocks}
 use Rattle.zerotrie_index.specs.Layout.{IsIndex}
-use Rattle.zerotrie_sealed.specs.Sealed.{HasFront, IsSealedIndex}
+use Rattle.zerotrie_sealed.specs.Faults.{IsIndexFault, kind_in}
+use Rattle.zerotrie_sealed.specs.Sealed.{HasFront, IsIndexNumber, IsSealed, IsSealedIndex}
 use Rattle.zerotrie_queries.specs.Sorted.{picked}
 use Rattle.zerotrie_queries.specs.Listed.{AreListed, AreListedInPart, AreMeasured, AreMeasuredInPart, AreNoText}
 use Rattle.zerotrie_queries.specs.declared.question.Query.{Query}
@@ -149,22 +151,34 @@ asks_index (View view) = false
 abbrev pub OpensIndex : TrieFile → List ℕ → List ℕ → Type 0
 OpensIndex file all bytes = (file.bare ≡ None) × IsSealedIndex bytes all × (file.check ≡ check.Full → (pairs : Pairs) × IsIndex pairs bytes)
 
--- what a file has: the bytes of a trie of this kind, or of an index
+-- what a file has: the bytes of a trie of this kind, or of an index; or the right blocks of an index that is behind as many bytes of the file
 pub data Content : Type 0 where
   of_trie : TrieKind → List ℕ → Content
   of_index : List ℕ → Content
+  in_blocks : ℕ → List ℕ → Content
 
 -- it has this, which is asked the question
 abbrev pub OpensFor : TrieFile → Question → List ℕ → Content → Type 0
 OpensFor file question all (of_trie kind bytes) = Opens file all kind bytes
 OpensFor file question all (of_index bytes) = (asks_index question ≡ true) × OpensIndex file all bytes
+OpensFor file question all (in_blocks start held) = ⊥
 
--- A file begins with the front of an index in blocks, and what is behind it is asked for the values of keys. It is read at places, so damage
--- elsewhere does not show: of a sealed index it is all of it.
+-- whether an index that is read at places answers a question: what values keys have that are words
+abbrev pub asks_places : Question → Bool
+asks_places (LookUp query (Words words)) = asks_keys query.asked
+asks_places (LookUp query Lines) = false
+asks_places (Listing form choice order limit) = false
+asks_places (Distances choice limit) = false
+asks_places (Code language name) = false
+asks_places (Report form) = false
+asks_places Verify = false
+asks_places (View view) = false
+
+-- A file begins with the front of an index in blocks, and those blocks behind it that are right are asked.
 abbrev pub OpensAtPlaces : TrieFile → Question → List ℕ → Content → Type 0
 OpensAtPlaces file question all (of_trie kind bytes) = ⊥
-OpensAtPlaces file question all (of_index bytes) = (asks_index question ≡ true) × (file.bare ≡ None) × (file.check ≢ check.Full)
-    × (start : ℕ) × HasFront start all × (bytes ≡ drop start all)
+OpensAtPlaces file question all (of_index bytes) = ⊥
+OpensAtPlaces file question all (in_blocks start held) = (asks_places question ≡ true) × (file.bare ≡ None) × (file.check ≢ check.Full) × HasFront start all × (held ≡ all)
 
 -- what is asked of a file, which is read as a whole or at places
 abbrev pub OpensToAnswer : TrieFile → Question → List ℕ → Content → Type 0
@@ -191,9 +205,21 @@ IsUnopenedBy check.Full named all why = ExplainsInFull named all why
 abbrev pub IsUnopened : TrieFile → List ℕ → OpenError → Type 0
 IsUnopened file all why = IsUnopenedBy file.check file.bare all why
 
+-- a file whose kind is not named is sealed as an index and as no trie, and this is wrong with its seal
+abbrev pub IsDamagedIndex : Option TrieKind → List ℕ → OpenError → Type 0
+IsDamagedIndex (Some named) all why = ⊥
+IsDamagedIndex None all (unopened.BadTag why) = ⊥
+IsDamagedIndex None all (unopened.Damaged why) = HasMagic all × IsIndexNumber (kind_in all) × IsIndexFault all why × ((kind : TrieKind) (bytes : List ℕ) → IsSealed (kind_of kind) bytes all → ⊥)
+IsDamagedIndex None all (unopened.NotWellFormed kind fault) = ⊥
+IsDamagedIndex None all unopened.OutOfMemory = ⊥
+
+-- why a file has no trie that is asked the question; or that it is damaged, if the question is one to an index
+abbrev pub IsUnasked : TrieFile → Question → List ℕ → OpenError → Type 0
+IsUnasked file question all why = IsUnopened file all why ⊎ ((asks_index question ≡ true) × IsDamagedIndex file.bare all why)
+
 -- why a file has nothing that is asked the question: no trie, for this reason, nor an index that answers it
 abbrev pub IsUnopenedFor : TrieFile → Question → List ℕ → OpenError → Type 0
-IsUnopenedFor file question all why = IsUnopened file all why × ((bytes : List ℕ) → OpensFor file question all (of_index bytes) → ⊥)
+IsUnopenedFor file question all why = IsUnasked file question all why × ((bytes : List ℕ) → OpensFor file question all (of_index bytes) → ⊥)
 
 -- what was printed, and whether all was found, belong to the keys, whichever dictionary it may be
 abbrev pub KeysAnswered : Query → Keys → (input : Option (List ℕ)) → (Dictionary → Type 0) → (old new : Option (List ℕ)) → Bool → Type 0
@@ -219,10 +245,11 @@ IndexAnswers Verify input bytes old new all = (all ≡ true) × Keeps old new
 IndexAnswers (Report form) input bytes old new all = (all ≡ true) × Keeps old new
 IndexAnswers (View view) input bytes old new all = (all ≡ true) × Keeps old new
 
--- the same of what a file has
+-- the same of what a file has: in right blocks, of each index that has them
 abbrev pub ContentAnswers : Content → Question → (input : Option (List ℕ)) → (old new : Option (List ℕ)) → Bool → Type 0
 ContentAnswers (of_trie kind bytes) question input old new all = Answers question input kind bytes old new all
 ContentAnswers (of_index bytes) question input old new all = IndexAnswers question input bytes old new all
+ContentAnswers (in_blocks start held) question input old new all = (bytes : List ℕ) → HasRightBlocks start held bytes → IndexAnswers question input bytes old new all
 
 -- a beginning of what belongs to the keys was printed, whichever dictionary it may be
 abbrev pub KeysAnsweredInPart : Query → Keys → (input : Option (List ℕ)) → (Dictionary → Type 0) → (old new : Option (List ℕ)) → Type 0
@@ -252,6 +279,7 @@ IndexAnswersInPart (View view) input bytes old new = Keeps old new
 abbrev pub ContentAnswersInPart : Content → Question → (input : Option (List ℕ)) → (old new : Option (List ℕ)) → Type 0
 ContentAnswersInPart (of_trie kind bytes) question input old new = AnswersInPart question input kind bytes old new
 ContentAnswersInPart (of_index bytes) question input old new = IndexAnswersInPart question input bytes old new
+ContentAnswersInPart (in_blocks start held) question input old new = (bytes : List ℕ) → HasRightBlocks start held bytes → IndexAnswersInPart question input bytes old new
 
 -- the pairs that are asked for can't be printed so: this is the first of their keys that is not UTF-8
 abbrev pub IsUnprintable : Question → TrieKind → List ℕ → List ℕ → Type 0
@@ -319,10 +347,11 @@ abbrev pub held_at : Option Story → List ℕ → Option (List ℕ)
 held_at None path = None
 held_at (Some known) path = known.now path
 
--- this is what is printed of keys, and whether all was found, by the index behind the front of a file that holds this
+-- this is what is printed of keys, and whether all was found, by each index that has the right blocks behind the front of a file that holds
+-- this
 abbrev pub AreLookedUp : Query → List (List ℕ) → Option (List ℕ) → List ℕ → Bool → Type 0
-AreLookedUp query keys held text all = IfSome held (λ bytes. (start : ℕ) × HasFront start bytes
-    × ((d : Dictionary) → IndexFinds query.asked (drop start bytes) d → Belongs query d keys text all))
+AreLookedUp query keys held text all = IfSome held (λ file. (start : ℕ) × HasFront start file
+    × ((bytes : List ℕ) → HasRightBlocks start file bytes → (d : Dictionary) → IndexFinds query.asked bytes d → Belongs query d keys text all))
 
 -- who prints this text has answered the question to a file, and who prints a beginning of it has begun to; keys are not read from standard
 -- input

@@ -15,7 +15,7 @@ use Rattle.zerotrie_making.specs.declared.plan.Made.{Made}
 use Rattle.zerotrie_core.specs.declared.TrieKind.{TrieKind}
 use Rattle.zerotrie_run.specs.Statuses.{made_refusal}
 use Rattle.zerotrie_run.specs.Messages.{IsLine, IsLineOn, Says, TellsMade, TellsNoTrie, TellsUnmade, kind_line, made_line, source_name, target_name, told_key, unit_of}
-use Rattle.zerotrie_run.specs.Runs.{IsRead, IsThere, IsUnopened, IsUnprinted, HasNumberToo}
+use Rattle.zerotrie_run.specs.Runs.{IsRead, IsThere, IsUnasked, IsUnopened, IsUnprinted, HasNumberToo}
 use Rattle.zerotrie_run.specs.Diffs.{IsFileOf, NotesNumbers}
 use Rattle.zerotrie_run.specs.declared.command.Diff.{Diff}
 use Rattle.zerotrie_run.specs.declared.diff.DiffError.{DiffError}
@@ -68,17 +68,17 @@ IsPlaceOf (commands.Combine c) name = Any (λ place. name ≡ source_name place)
 abbrev pub PlaceTold : Command → (old new : Option (List ℕ)) → Type 0
 PlaceTold command old new = (name : List ℕ) × IsPlaceOf command name × ToldOf name old new
 
--- why a question has no answer is so of what was read of the file
-abbrev pub HasReason : TrieFile → Question → Option (List ℕ) → Option Story → AskError → Type 0
-HasReason file question input files ask.TwoInputs = Unit {0}
-HasReason file question input files (ask.Unread e) = Unit {0}
-HasReason file question input files (ask.NoTrie why is_text) = (held : List ℕ) × IsRead file.place input files held × IsUnopened file held why × (is_text ≡ looks_like_text held)
-HasReason file question input files (ask.Unanswered e) = Unit {0}
-HasReason file question input files (ask.NotText key) = IsUnprinted file question input files key.items
+-- why a question has no answer is so of what was read of the file, which has no trie for such a reason
+abbrev pub HasReason : (List ℕ → OpenError → Type 0) → TrieFile → Question → Option (List ℕ) → Option Story → AskError → Type 0
+HasReason IsWhy file question input files ask.TwoInputs = Unit {0}
+HasReason IsWhy file question input files (ask.Unread e) = Unit {0}
+HasReason IsWhy file question input files (ask.NoTrie why is_text) = (held : List ℕ) × IsRead file.place input files held × IsWhy held why × (is_text ≡ looks_like_text held)
+HasReason IsWhy file question input files (ask.Unanswered e) = Unit {0}
+HasReason IsWhy file question input files (ask.NotText key) = IsUnprinted file question input files key.items
 
 -- why two files were not compared is so of what was read of one of them
 abbrev pub HasDiffReason : Diff → Option (List ℕ) → Option Story → DiffError → Type 0
-HasDiffReason diff input files e = IsFileOf diff e.file × HasReason e.file Verify input files e.error
+HasDiffReason diff input files e = IsFileOf diff e.file × HasReason (IsUnopened e.file) e.file Verify input files e.error
 
 -- why no file was made is so of what was read
 abbrev pub HasCause : Build → Option (List ℕ) → Option Story → BuildError → Type 0
@@ -133,18 +133,18 @@ TellsCombined c input files old new = (made : Made) × (several : Bool) × OfFil
     × Appends old new (combined_lines c several made)
 
 -- a line tells why a file that was read has no trie, by its first fault
-abbrev pub TellsUnopened : TrieFile → Option (List ℕ) → Option Story → (old new : Option (List ℕ)) → Type 0
-TellsUnopened file input files old new = (held : List ℕ) × IsRead file.place input files held
-    × (why : OpenError) × IsUnopened file held why × (text : List ℕ) × IsLineOn (source_name file.place) text × TellsNoTrie why (looks_like_text held) text × ToldLast old new text
+abbrev pub TellsUnopened : (List ℕ → OpenError → Type 0) → TrieFile → Option (List ℕ) → Option Story → (old new : Option (List ℕ)) → Type 0
+TellsUnopened IsWhy file input files old new = (held : List ℕ) × IsRead file.place input files held
+    × (why : OpenError) × IsWhy held why × (text : List ℕ) × IsLineOn (source_name file.place) text × TellsNoTrie why (looks_like_text held) text × ToldLast old new text
 
 -- a line tells why what was read is refused: which pairs of an input, or which fault in a trie
 abbrev pub TellsRefusal : Command → Option (List ℕ) → Option Story → (old new : Option (List ℕ)) → Status → Type 0
 TellsRefusal (commands.Build build) input files old new status = (all : List ℕ) × IsRead build.from input files all
     × (e : MakeError) × made.Explains build.plan all e × (made_refusal e ≡ Some status)
     × (text : List ℕ) × IsLineOn (source_name build.from) text × TellsMade (unit_of build.plan.read.source) e text × ToldLast old new text
-TellsRefusal (commands.Ask file question) input files old new status = TellsUnopened file input files old new
-TellsRefusal (commands.Diff diff) input files old new status = (file : TrieFile) × IsFileOf diff file × TellsUnopened file input files old new
-TellsRefusal (commands.Combine c) input files old new status = Any (λ place. TellsUnopened (file_of place) input files old new) c.from.now
+TellsRefusal (commands.Ask file question) input files old new status = TellsUnopened (IsUnasked file question) file input files old new
+TellsRefusal (commands.Diff diff) input files old new status = (file : TrieFile) × IsFileOf diff file × TellsUnopened (IsUnopened file) file input files old new
+TellsRefusal (commands.Combine c) input files old new status = Any (λ place. TellsUnopened (IsUnopened (file_of place)) (file_of place) input files old new) c.from.now
 
 -- a line tells what is refused: a build, or pairs with a key that can't be printed
 abbrev pub TellsRefused : Command → Option (List ℕ) → Option Story → (old new : Option (List ℕ)) → Type 0

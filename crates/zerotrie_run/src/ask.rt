@@ -9,7 +9,7 @@ ghost use Rattle.zerotrie_run.specs.Commands.{ReadsTwice};
 ghost use Rattle.zerotrie_queries.specs.Finders.{Finds, TrieFinds};
 ghost use Rattle.zerotrie_queries.specs.declared.question.Asked.TheVariants.{KeyOf};
 ghost use Rattle.zerotrie_run.specs.Failures.{AnswerFailed, AskFailed, ReadFailed, WriteFailed};
-ghost use Rattle.zerotrie_run.specs.Runs.{OpensFor, Content, ContentAnswers, IndexAnswers, IndexAnswersInPart, KeysAnswered, KeysAnsweredInPart, Answers, IsNoAnswer, IsAsked, EndsAsk, IsUnanswered, IsDoubtful, LeavesKeys, LeavesInputOf, HandsOn, ask_fails, ask_refusal, asked_refusal, are_lines, of_lines};
+ghost use Rattle.zerotrie_run.specs.Runs.{OpensFor, Content, ContentAnswers, IndexAnswers, IndexAnswersInPart, KeysAnswered, KeysAnsweredInPart, Answers, IsNoAnswer, IsAsked, IsUnasked, EndsAsk, IsUnanswered, IsDoubtful, LeavesKeys, LeavesInputOf, HandsOn, ask_fails, ask_refusal, asked_refusal, are_lines, of_lines};
 ghost use Rattle.zerotrie_run.specs.Told.{HasReason, NotesNumber, TellsMore};
 ghost use Rattle.zerotrie_run.specs.declared.command.Command.TheVariants.{Ask};
 ghost use Rattle.zerotrie_run.specs.declared.command.Keys.TheVariants.{Lines};
@@ -325,7 +325,7 @@ pub fn ask<D: Disk, R: Read, W: Write + Drop, M: Write>(
         (writer_contents W.contents output.new.inner) (ask_refusal e)) }
     ensures same { files.new.disk ≡ files.old.disk }
     ensures handed { IfOk result (λ _. HandsOn output.old.inner output.new.inner) }
-    ensures why { IfErr result (HasReason file.entry question.entry (R.remaining input.old.inner)
+    ensures why { IfErr result (HasReason (IsUnasked file.entry question.entry) file.entry question.entry (R.remaining input.old.inner)
         (D.story files.old.disk)) }
     ensures notes { IfOk result (λ _. messages.new.failed ≡ false
         → NotesNumber file.entry (R.remaining input.old.inner) (D.story files.old.disk)

@@ -22,9 +22,10 @@ struct PlacedFile<'a, D> {
 }
 
 impl<'a, D: Disk> ReadAt for PlacedFile<'a, D> {
+    ghost use Rattle.std.specs.Prelude.{◌≡◌, Some};
     ghost use Rattle.zerotrie_run.specs.Runs.{held_at};
 
-    ghost held = { λ file. held_at (D.story file.disk.now) file.path.now };
+    ghost MayHold = { λ file bytes. held_at (D.story file.disk.now) file.path.now ≡ Some bytes };
 
     type Error = io::Error;
 

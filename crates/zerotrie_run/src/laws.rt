@@ -4,7 +4,8 @@
 ghost use Rattle.zerotrie_run.specs.CombinedLaws.{CombinedOpens, CombineRefusedExactly};
 ghost use Rattle.zerotrie_run.specs.Laws.{MadeIndexOpens, MadeOpens, RefusedExactly, UnmadeIsRefused};
 
-use zerotrie_sealed::laws::{index_is_behind, one_index, one_trie};
+use zerotrie_index::laws::has_its_blocks;
+use zerotrie_sealed::laws::{one_index, one_trie};
 
 /// States that the file of a trie that a build made opens as the trie of the pairs that the build read,
 /// if its kind is named as it was for the build. So each question to it is answered by them.
@@ -20,12 +21,12 @@ pub fn made_index_opens()
     ensures { MadeIndexOpens }
 {
     one_index();
-    index_is_behind();
+    has_its_blocks();
 }
 
 /// States that a question to a file is refused exactly if the file has no trie, nor an index that
-/// answers it, by the test that was asked for, unless the usage is bad or something failed, or the file
-/// begins as an index that is read at places.
+/// answers it, by the test that was asked for, unless the usage is bad or something failed, or those
+/// blocks of an index that are right answered it.
 pub fn refused_exactly()
     ensures { RefusedExactly }
 {

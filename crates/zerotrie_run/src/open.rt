@@ -1,8 +1,8 @@
 //! Opens the trie or the index that is in the bytes of a file.
 
-ghost use Rattle.std.specs.Prelude.{◌≡◌, ℕ, List, IfOk, IfErr, IfSome, IfNone, IsTrue};
+ghost use Rattle.std.specs.Prelude.{◌≡◌, ◌↔◌, ℕ, List, IfOk, IfErr, IfSome, IfNone, IsTrue};
 ghost use Rattle.zerotrie_queries.specs.declared.file.OpenError.TheVariants.{Damaged};
-ghost use Rattle.zerotrie_run.specs.Runs.{Opens, OpensBy, OpensFor, ExplainsInFull, IsUnopened, asks_index};
+ghost use Rattle.zerotrie_run.specs.Runs.{Opens, OpensBy, OpensFor, ExplainsInFull, IsUnasked, IsUnopened, asks_index};
 ghost use Rattle.zerotrie_run.specs.Runs.Content.{of_index};
 ghost use Rattle.zerotrie_run.specs.declared.command.Check.TheVariants.{Full};
 ghost use Rattle.zerotrie_sealed.specs.Sealed.{IsIndexNumber};
@@ -91,8 +91,8 @@ pub fn open_index<'a>(
 
 /// Returns whether a file is sealed as an index, by why it has no trie.
 fn is_index(why: &OpenError) -> bool
-    ensures { IsTrue result → (number : ℕ) × IsIndexNumber number
-        × (why.now ≡ Damaged (UnknownKind number)) }
+    ensures { IsTrue result ↔ ((number : ℕ) × IsIndexNumber number
+        × (why.now ≡ Damaged (UnknownKind number))) }
 {
     match why {
         OpenError::Damaged(SealError::UnknownKind(number)) => is_index_number(*number),
@@ -112,7 +112,7 @@ pub fn open_trie<'a>(
     held: &'a [u8],
 ) -> Result<TrieRef<'a>, OpenError>
     ensures ok { IfOk result (λ trie. Opens file.entry held.now trie.kind trie.bytes.now) }
-    ensures err { IfErr result (IsUnopened file.entry held.now) }
+    ensures err { IfErr result (IsUnasked file.entry question.entry held.now) }
 {
     let why = match open(alloc, file, held) {
         Ok(trie) => return Ok(trie),
