@@ -14,7 +14,7 @@ use crate::numbers::{
 use crate::tags::{put_both, zerotrie_tagged_kind};
 use std::alloc::Global;
 use zerotrie_sealed::{
-    HEADER_LEN, SealError, begins_sealed, header_of, open, open_index, seal_index_in_blocks,
+    HEADER_LEN, SealError, begins_sealed, header_of, open, open_index, seal_index,
 };
 
 /// Finds the trie in a file that begins as no sealed one.
@@ -138,7 +138,7 @@ pub extern "C" fn zerotrie_seal_index(
 ) -> u32
     ensures { IsIndexSealed index.now result sealed_len.old sealed_len.new out.old out.new }
 {
-    match seal_index_in_blocks(alloc, index) {
+    match seal_index(alloc, index) {
         Ok(file) => hand_out(file.as_slice(), out, sealed_len),
         Err(_) => OUT_OF_MEMORY,
     }

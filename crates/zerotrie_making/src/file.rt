@@ -20,7 +20,7 @@ use crate::tries::{bytes_of, index_bytes_of, kind_for, why_refused, why_unindexe
 use std::alloc::{AllocError, Global};
 use zerotrie_core::{TrieKind, ZeroTrieBuildError};
 use zerotrie_index::ZeroIndexBuildError;
-use zerotrie_sealed::{seal, seal_index_in_blocks};
+use zerotrie_sealed::{seal, seal_index};
 use zerotrie_sets::Rule;
 
 /// Returns these bytes with the number of the kind in front.
@@ -47,7 +47,7 @@ pub(crate) fn file_of(
         FileForm::Sealed => seal(alloc, kind, bytes.as_slice()),
         FileForm::Tagged => tag(kind, bytes),
         FileForm::Bare => Ok(bytes),
-        FileForm::Index => seal_index_in_blocks(alloc, bytes.as_slice()),
+        FileForm::Index => seal_index(alloc, bytes.as_slice()),
     }
 }
 

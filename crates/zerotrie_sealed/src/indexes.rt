@@ -21,7 +21,7 @@ pub struct IndexTable<'a> {
 /// Returns whether a number in a header is that of an index: `open` refuses both by `UnknownKind`.
 ///
 /// ```
-/// let file = seal_index_in_blocks(rt.alloc(), b"an index")?;
+/// let file = seal_index(rt.alloc(), b"an index")?;
 /// assert!(rt; matches!(open(file.as_slice()), Err(SealError::UnknownKind(25))));
 /// assert!(rt; is_index_number(25) && is_index_number(24) && !is_index_number(3));
 /// ```
@@ -104,7 +104,7 @@ fn index_in(file: &[u8]) -> Result<&[u8], SealError>
 /// validate them, and does not allocate.
 ///
 /// ```
-/// let file = seal_index_in_blocks(rt.alloc(), b"an index")?;
+/// let file = seal_index(rt.alloc(), b"an index")?;
 /// assert_eq!(rt; open_index(file.as_slice())?, b"an index".as_slice());
 /// assert!(rt; open(file.as_slice()).err() == Some(SealError::UnknownKind(BLOCKS_NUMBER)));
 ///
@@ -112,8 +112,8 @@ fn index_in(file: &[u8]) -> Result<&[u8], SealError>
 /// assert!(rt; open_index(trie.as_slice()).err() == Some(SealError::UnknownKind(3)));
 /// ```
 ///
-/// A file is taken exactly if it is what `seal_index` or `seal_index_in_blocks` returns for some
-/// bytes, and these are what is returned. What an error says is true of the file, and the parts are
+/// A file is taken exactly if it is what `seal_index` returns for some bytes, or if they are
+/// sealed as a whole, as earlier versions did, and these are what is returned. What an error says is true of the file, and the parts are
 /// looked at in the order of `open`; `UnknownKind` says that it is sealed as no index. In a file of
 /// blocks, the table with its checksum comes first, then the length of the index, and then the
 /// checksum of each block.
@@ -134,7 +134,7 @@ pub fn open_index(file: &[u8]) -> Result<&[u8], SealError>
 /// for files that are read at places; `open_index` needs no such call.
 ///
 /// ```
-/// let file = seal_index_in_blocks(rt.alloc(), b"an index")?;
+/// let file = seal_index(rt.alloc(), b"an index")?;
 /// let Some((header, _)) = file.split_first_chunk() else { return Ok(()) };
 /// assert_eq!(rt; table_len(header)?, 12);
 /// ```
@@ -159,7 +159,7 @@ pub fn table_len(header: &[u8; HEADER_LEN]) -> Result<usize, SealError>
 /// `table_len` returns. It says what each block of the index has to be.
 ///
 /// ```
-/// let file = seal_index_in_blocks(rt.alloc(), b"an index")?;
+/// let file = seal_index(rt.alloc(), b"an index")?;
 /// let Some((header, behind)) = file.split_first_chunk() else { return Ok(()) };
 /// let (table, index) = behind.split_at(table_len(header)?);
 /// let table = open_table(header, table)?;

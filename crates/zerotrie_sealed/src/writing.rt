@@ -3,7 +3,7 @@
 ghost use Rattle.std.specs.Prelude.{◌≡◌, IfOk, ◌++◌};
 ghost use Rattle.std.specs.Int.{w32, to_le_bytes};
 ghost use Rattle.zerotrie_base.specs.Kinds.{kind_of};
-ghost use Rattle.zerotrie_sealed.specs.Sealed.{front_as, header_as, header, table_of, IsSealedAs, IsSealed, IsSealedInBlocks, IsSealedIndex};
+ghost use Rattle.zerotrie_sealed.specs.Sealed.{front_as, header_as, header, table_of, IsSealedAs, IsSealed, IsSealedInBlocks};
 
 use crate::blocks::add_sums;
 use crate::checksum::crc32c_of_both;
@@ -22,7 +22,8 @@ pub(crate) const FRONT_LEN: usize = 20;
 /// The number of bytes in front of the trie or of the table of an index in a sealed file.
 pub const HEADER_LEN: usize = 24;
 
-/// The number in the header of an index that is sealed as a whole. No kind of trie has it.
+/// The number in the header of an index that is sealed as a whole, as earlier versions did. No kind of
+/// trie has it.
 pub const INDEX_NUMBER: u16 = 24;
 
 /// The number in the header of an index that is sealed in blocks. No kind of trie has it.
@@ -104,20 +105,6 @@ fn table_of(alloc: Global, index: &[u8]) -> Result<Vec<u8>, AllocError>
 ///
 /// ```
 /// let file = seal_index(rt.alloc(), b"an index")?;
-/// assert_eq!(rt; file[8..12], b"\x01\x00\x18\x00"[..]);
-/// ```
-///
-/// The bytes need not be an index. An error means that an allocation failed.
-pub fn seal_index(alloc: Global, index: &[u8]) -> Result<Vec<u8>, AllocError>
-    ensures { IfOk result (λ file. IsSealedIndex index.now file.items) }
-{
-    seal_as(alloc, INDEX_NUMBER, index)
-}
-
-/// Returns the sealed file of this index in blocks, which `open_index` reads, and `open` does not.
-///
-/// ```
-/// let file = seal_index_in_blocks(rt.alloc(), b"an index")?;
 /// assert_eq!(rt; file[8..12], b"\x01\x00\x19\x00"[..]);
 /// assert_eq!(rt; file[24..32], 8u64.to_le_bytes()[..]);
 /// assert_eq!(rt; file[32..36], crc32c(b"an index").to_le_bytes()[..]);
@@ -127,7 +114,7 @@ pub fn seal_index(alloc: Global, index: &[u8]) -> Result<Vec<u8>, AllocError>
 /// In front of the index is a table, itself sealed: the length of the index, and the checksum of
 /// each block of `BLOCK_LEN` bytes. So a block can be read and tested without the others. The bytes
 /// need not be an index. An error means that an allocation failed.
-pub fn seal_index_in_blocks(alloc: Global, index: &[u8]) -> Result<Vec<u8>, AllocError>
+pub fn seal_index(alloc: Global, index: &[u8]) -> Result<Vec<u8>, AllocError>
     ensures { IfOk result (λ file. IsSealedInBlocks index.now file.items) }
 {
     let table = table_of(alloc, index)?;

@@ -10,7 +10,7 @@ use zerotrie::search::{
     AnyAutomaton, Automaton, BeginsWith, ByKind, KeyRange, SearchBy, WordError, by_automaton, fold_by, fold_word,
 };
 use zerotrie::sets::{MergeAll, Rule, RuleError, Selection};
-use zerotrie::zerotrie_sealed::seal_index_in_blocks;
+use zerotrie::zerotrie_sealed::seal_index;
 use zerotrie::{
     FaultCause, SealError, TagError, TrieKind, ZeroAsciiIgnoreCaseTrie, ZeroTrie, ZeroTrieBuildError, ZeroTrieExtendedCapacity,
     ZeroTriePerfectHash, ZeroTrieSimpleAscii,
@@ -358,7 +358,7 @@ impl Library for Plain {
 
     // ZeroIndex::seal seals as a whole
     fn index_seal(&self, bytes: &[u8]) -> Vec<u8> {
-        seal_index_in_blocks(Global, bytes).expect("memory").into_inner()
+        seal_index(Global, bytes).expect("memory").into_inner()
     }
 
     fn index_open(&self, file: &[u8]) -> Result<Vec<u8>, Status> {

@@ -10,7 +10,7 @@ use crate::rstd::alloc::{AllocError, Global};
 use crate::sealed::Sealed;
 use crate::zerotrie_core::ZeroTrieWithOptions;
 use crate::zerotrie_index;
-use crate::zerotrie_sealed::{SealError, seal_index_in_blocks};
+use crate::zerotrie_sealed::{SealError, seal_index};
 use alloc::vec::Vec;
 use core::error::Error;
 use core::fmt;
@@ -153,7 +153,7 @@ impl<Store: AsRef<[u8]>> ZeroIndex<Store> {
     /// # Ok::<(), zerotrie::index::ZeroIndexBuildError>(())
     /// ```
     pub fn seal(&self) -> Vec<u8> {
-        allocated(seal_index_in_blocks(Global, self.as_bytes())).into_inner()
+        allocated(seal_index(Global, self.as_bytes())).into_inner()
     }
 }
 

@@ -1,7 +1,7 @@
 -- The table, sealed, and then the index.
 use Rattle.std.proofs.Common.{rules, ◌≡◌, subst}
 use Rattle.zerotrie_sealed.specs.Sealed.{blocks_number, table_of, IsSealedAs}
-use Rattle.zerotrie_sealed.proofs.writing.seal_index_in_blocks.Goals as goal
+use Rattle.zerotrie_sealed.proofs.writing.seal_index.Goals as goal
 
 pub returns : goal.returns
 returns c =
