@@ -1,13 +1,9 @@
 -- Answers by an index that is read at places.
-use Rattle.std.proofs.Common.{◌≡◌, ◌≢◌, ℕ, ◌+◌, ◌^◌, ◌<◌, ◌≤◌, List, [], ◌∷◌, ◌++◌, length, take, drop, map, Option, Some, None, Bool, true, refl, sym, subst, inl, inr}
+use Rattle.std.proofs.Common.{◌≡◌, ◌≢◌, ℕ, List, [], ◌++◌, map, Option, Some, None, Bool, true, refl, sym, subst, inl, inr}
 use Rattle.std.specs.Prelude.{IfSome}
 use Rattle.std.specs.Borrow.{Bor}
-use Rattle.std.proofs.Math.Seq.{take-length}
-use Rattle.std.proofs.lemmas.List.{drop_all}
-use Rattle.std.specs.Io.KnownBytes.{Appends}
 use Rattle.zerotrie_core.specs.Maps.{Pairs}
 use Rattle.zerotrie_files.specs.Disks.{Story}
-use Rattle.zerotrie_files.specs.Parts.{AppendsPart}
 use Rattle.zerotrie_index.specs.Layout.{IsIndex, word}
 use Rattle.zerotrie_sealed.specs.Sealed.{index_number, header_as, HasFront}
 use Rattle.zerotrie_index.specs.InBlocks.{HasTableOf, MayBeIndex}

@@ -1,11 +1,12 @@
 -- A file is made, and then opened.
-use Rattle.std.specs.Prelude.{◌≡◌, ◌⊎◌, ◌≤◌, ℕ, List, Option, Some, None, true}
+use Rattle.std.specs.Prelude.{◌≡◌, ◌⊎◌, ◌≤◌, ℕ, List, Option, Some, None, true, Bool}
 use Rattle.zerotrie_core.specs.Kind.{Kind}
 use Rattle.zerotrie_core.specs.Maps.{Pairs, map_of}
 use Rattle.zerotrie_core.specs.Texts.{Means}
 use Rattle.zerotrie_core.specs.Kinds.{kind_of}
 use Rattle.zerotrie_core.specs.declared.TrieKind.{TrieKind}
 use Rattle.zerotrie_sealed.specs.Sealed.{IsSealedIndex}
+use Rattle.zerotrie_index.specs.InBlocks.{HasRightBlocks}
 use Rattle.zerotrie_index.specs.Built.{IsIndexOf}
 use Rattle.zerotrie_files.specs.Disks.{Story}
 use Rattle.zerotrie_making.specs.Plans.{kind_for, IsFormOf}
