@@ -8,6 +8,7 @@ use Rattle.zerotrie_sealed.specs.Sealed.{blocks_number, IsSealedAs, HasFront}
 use Rattle.std.proofs.lemmas.Nat.{from_le_bytes-to_le_bytes_8}
 use Rattle.zerotrie_sealed.specs.Laws.{IndexIsBehind}
 use Rattle.zerotrie_index.specs.InBlocks.{HasItsBlocks, HasTableOf, IsRightBlock, MayBeIndex, block_of}
+use Rattle.zerotrie_index.specs.declared.in_blocks.Front.{Front}
 use Rattle.zerotrie_index.specs.Placed.{IsPart}
 use Rattle.zerotrie_index.proofs.PlacedLemmas.{joined}
 
@@ -57,13 +58,13 @@ part_of block bytes number offset count is within =
     ∙ ap (take count) (drop-drop offset (65536 * number) bytes ∙ ap (λ n. drop n bytes) (omega arith))
 
 -- a part of a block that is right is one of the index
-pub block_part : (MayHold : List ℕ → Type 0) (block part : List ℕ) (start len : ℕ) (sums : List ℕ) (place offset count : ℕ) → IsPart MayHold (start + 65536 * (place / 65536)) block
-    → length block ≡ min 65536 (len - 65536 * (place / 65536)) → IsRightBlock sums (place / 65536) block → offset ≡ place % 65536 → 0 < count
-    → count + offset ≤ length block → part ≡ take count (drop offset block) → length part ≡ count → IsPart (MayBeIndex MayHold start len sums) place part
-block_part MayHold block part start len sums place offset count read whole right at some within is long = λ bytes may.
+pub block_part : (MayHold : List ℕ → Type 0) (block part : List ℕ) (front : Front) (place offset count : ℕ) → IsPart MayHold (front.start + 65536 * (place / 65536)) block
+    → length block ≡ min 65536 (front.index_len - 65536 * (place / 65536)) → IsRightBlock front.sums.items (place / 65536) block → offset ≡ place % 65536 → 0 < count
+    → count + offset ≤ length block → part ≡ take count (drop offset block) → length part ≡ count → IsPart (MayBeIndex MayHold front) place part
+block_part MayHold block part front place offset count read whole right at some within is long = λ bytes may.
     let number = place / 65536 in
-    let own : block ≡ block_of number (take len (drop start may.0)) = is_block block may.0 start len number (read may.0 may.1) whole (omega (arith, whole, some, within)) in
-    let same : block ≡ block_of number bytes = own ∙ sym (may.3 len sums may.2 number (subst (IsRightBlock sums number) own right)) in
+    let own : block ≡ block_of number (take front.index_len (drop front.start may.0)) = is_block block may.0 front.start front.index_len number (read may.0 may.1) whole (omega (arith, whole, some, within)) in
+    let same : block ≡ block_of number bytes = own ∙ sym (may.3 front.index_len front.sums.items may.2 number (subst (IsRightBlock front.sums.items number) own right)) in
     is ∙ part_of block bytes number offset count same (omega (arith, whole, within))
     ∙ ap (λ n. take count (drop n bytes)) (omega (arith, at))
     ∙ ap (λ n. take n (drop place bytes)) (sym long)

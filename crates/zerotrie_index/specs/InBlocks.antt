@@ -2,6 +2,7 @@
 use Rattle.std.specs.Prelude.{◌≡◌, ◌*◌, ◌<◌, ◌^◌, ℕ, List, ◌++◌, take, drop}
 use Rattle.std.specs.Int.{w32, w64, to_le_bytes}
 use Rattle.zerotrie_sealed.specs.Checksum.{crc32c}
+use Rattle.zerotrie_index.specs.declared.in_blocks.Front.{Front}
 use Rattle.zerotrie_sealed.specs.Sealed.{block_len, HasFront, IsSealedIndex}
 
 -- in the front of a file, behind its header, are this length and these checksums
@@ -22,8 +23,8 @@ HasRightBlocks start file bytes = (index_len : ℕ) (sums : List ℕ) → HasTab
     → (number : ℕ) → let block = block_of number (take index_len (drop start file)) in IsRightBlock sums number block → block_of number bytes ≡ block
 
 -- these may be the bytes of the index behind the front of a file, which may hold any that have the right blocks
-abbrev pub MayBeIndex : (List ℕ → Type 0) → ℕ → ℕ → List ℕ → List ℕ → Type 0
-MayBeIndex MayHold start index_len sums bytes = (file : List ℕ) × MayHold file × HasTableOf start index_len sums file × HasRightBlocks start file bytes
+abbrev pub MayBeIndex : (List ℕ → Type 0) → Front → List ℕ → Type 0
+MayBeIndex MayHold front bytes = (file : List ℕ) × MayHold file × HasTableOf front.start front.index_len front.sums.items file × HasRightBlocks front.start file bytes
 
 -- an index that is sealed in blocks has those of its file
 abbrev pub HasItsBlocks : Type 0

@@ -149,8 +149,7 @@ impl Front {
         S::Error: From<AllocError> + From<SealError>,
         requires { 0 < most }
         ensures part { OnOk result ((more : List ℕ)
-            × IsPart (MayBeIndex (S.MayHold source.old) self.now.start self.now.index_len self.now.sums.items)
-            place more
+            × IsPart (MayBeIndex (S.MayHold source.old) self.now) place more
             × (0 < length more) × (length more ≤ most) × (part.new.items ≡ part.old.items ++ more)) }
         ensures same { MayStill (S.MayHold source.old) (S.MayHold source.new) }
     {
@@ -176,8 +175,7 @@ impl Front {
     where
         S::Error: From<AllocError> + From<SealError>,
         ensures part { IfOk result (λ part.
-            IsPart (MayBeIndex (S.MayHold source.old) self.now.start self.now.index_len self.now.sums.items)
-            place part.items) }
+            IsPart (MayBeIndex (S.MayHold source.old) self.now) place part.items) }
         ensures length { IfOk result (λ part. length part.items ≡ len) }
         ensures same { MayStill (S.MayHold source.old) (S.MayHold source.new) }
     {
@@ -198,7 +196,7 @@ where
 {
     ghost use Rattle.zerotrie_index.specs.InBlocks.{MayBeIndex};
 
-    ghost MayHold = { λ index bytes. MayBeIndex (S.MayHold index.source) index.front.start index.front.index_len index.front.sums.items bytes };
+    ghost MayHold = { λ index bytes. MayBeIndex (S.MayHold index.source) index.front bytes };
 
     type Error = S::Error;
 

@@ -12,8 +12,8 @@ const ROOM: usize = 1 << 10;
 
 /// Bytes that are read at places, as those of a file are. The crate's README has an example.
 pub trait ReadAt {
-    /// Holds of the bytes that it may hold: what is read is right for each of them. If nothing is
-    /// known of the bytes, it holds of none.
+    /// Whether it may hold these bytes. What is read belongs to each list of bytes that it may hold; if
+    /// there is none, nothing is known of what is read.
     ghost MayHold: { Self → List ℕ → Type 0 };
 
     /// Why a read fails.

@@ -7,6 +7,7 @@ use Rattle.zerotrie_files.specs.Disks.{Story}
 use Rattle.zerotrie_index.specs.Layout.{IsIndex, word}
 use Rattle.zerotrie_sealed.specs.Sealed.{index_number, header_as, HasFront}
 use Rattle.zerotrie_index.specs.InBlocks.{HasTableOf, MayBeIndex}
+use Rattle.zerotrie_index.specs.declared.in_blocks.Front.{Front}
 use Rattle.zerotrie_queries.specs.Answers.{AreAddedAt, Belongs}
 use Rattle.zerotrie_queries.specs.Finders.{Dictionary, IndexFinds, asks_keys}
 use Rattle.zerotrie_queries.specs.declared.question.Asked.{Asked}
@@ -77,15 +78,15 @@ answer_text file query keys path (Some known) text all at plain some asks there 
     )
 
 -- what was added is what was looked up
-pub looked_up : (held : Option (List ℕ)) (MayHold : List ℕ → Type 0) (query : Query) (keys : List (List ℕ)) (start index_len : ℕ) (sums old text : List ℕ) (all : Bool)
-    → ((file : List ℕ) → held ≡ Some file → HasFront start file) → ((file : List ℕ) → held ≡ Some file → HasTableOf start index_len sums file) → ((file : List ℕ) → held ≡ Some file → MayHold file)
-    → old ≡ [] → AreAddedAt (MayBeIndex MayHold start index_len sums) query keys old text all → AreLookedUp query keys held text all
-looked_up None MayHold query keys start index_len sums old text all front table may none added = tt
-looked_up (Some file) MayHold query keys start index_len sums old text all front table may none added = (
-  start,
+pub looked_up : (held : Option (List ℕ)) (MayHold : List ℕ → Type 0) (query : Query) (keys : List (List ℕ)) (at : Front) (old text : List ℕ) (all : Bool)
+    → ((file : List ℕ) → held ≡ Some file → HasFront at.start file) → ((file : List ℕ) → held ≡ Some file → HasTableOf at.start at.index_len at.sums.items file) → ((file : List ℕ) → held ≡ Some file → MayHold file)
+    → old ≡ [] → AreAddedAt (MayBeIndex MayHold at) query keys old text all → AreLookedUp query keys held text all
+looked_up None MayHold query keys at old text all front table may none added = tt
+looked_up (Some file) MayHold query keys at old text all front table may none added = (
+  at.start,
   front file refl,
   λ bytes right d has.
-      let x = subst (λ o. AreAddedAt (MayBeIndex MayHold start index_len sums) query keys o text all) none added bytes (file, may file refl, table file refl, right) d has in
+      let x = subst (λ o. AreAddedAt (MayBeIndex MayHold at) query keys o text all) none added bytes (file, may file refl, table file refl, right) d has in
       subst (λ p. Belongs query d keys p all) (sym x.2) x.1,
 )
 

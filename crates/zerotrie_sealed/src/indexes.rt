@@ -112,11 +112,11 @@ fn index_in(file: &[u8]) -> Result<&[u8], SealError>
 /// assert!(rt; open_index(trie.as_slice()).err() == Some(SealError::UnknownKind(3)));
 /// ```
 ///
-/// A file is taken exactly if it is what `seal_index` returns for some bytes, or if they are
-/// sealed as a whole, as earlier versions did, and these are what is returned. What an error says is true of the file, and the parts are
-/// looked at in the order of `open`; `UnknownKind` says that it is sealed as no index. In a file of
-/// blocks, the table with its checksum comes first, then the length of the index, and then the
-/// checksum of each block.
+/// A file is taken exactly if it is what `seal_index` returns for some bytes, or has them sealed as a
+/// whole, as earlier versions did, and these are what is returned. What an error says is true of the
+/// file, and the parts are looked at in the order of `open`; `UnknownKind` says that it is sealed as
+/// no index. In a file of blocks, the table with its checksum comes first, then the length of the
+/// index, and then the checksum of each block.
 pub fn open_index(file: &[u8]) -> Result<&[u8], SealError>
     ensures ok { IfOk result (λ index. IsSealedIndex index.now file.now) }
     ensures fault { IfErr result (IsIndexFault file.now) }

@@ -14,6 +14,11 @@ use crate::zerotrie_sealed::{BLOCK_LEN, HEADER_LEN, SealError, crc32c, open_tabl
 pub struct SealedIndex<S> {
     source: S,
     alloc: Global,
+    front: Front,
+}
+
+/// What the front of a file says of the index behind it.
+struct Front {
     /// Where the index starts in the file.
     start: u64,
     /// The number of bytes of the index.
@@ -61,36 +66,60 @@ where
         let table = open_table(&header, table.as_slice())?;
         let mut sums = Vec::new(alloc);
         sums.extend_from_slice(table.sums)?;
-        Ok(SealedIndex {
-            source,
-            alloc,
+        let front = Front {
             start: (HEADER_LEN + len) as u64,
             index_len: table.index_len,
             sums,
+        };
+        Ok(SealedIndex {
+            source,
+            alloc,
+            front,
         })
     }
 
     /// Returns the number of bytes of the index.
     pub fn index_len(&self) -> usize {
-        self.index_len
+        self.front.index_len
     }
+}
 
+impl Front {
     /// Reads and tests the block of this number.
-    fn read_block(&mut self, number: usize) -> Result<Vec<u8>, S::Error> {
+    fn read_block<S: ReadAt>(
+        &self,
+        alloc: Global,
+        source: &mut S,
+        number: usize,
+    ) -> Result<Vec<u8>, S::Error>
+    where
+        S::Error: From<AllocError> + From<SealError>,
+    {
         let place = number * BLOCK_LEN;
-        let mut block = Vec::new(self.alloc);
+        let mut block = Vec::new(alloc);
         block.resize(BLOCK_LEN.min(self.index_len.saturating_sub(place)), 0)?;
         let Some(place) = self.start.checked_add(place as u64) else {
             return Err(S::Error::from(SealError::CutShort));
         };
-        self.source.fill(place, block.as_mut_slice())?;
+        source.fill(place, block.as_mut_slice())?;
         test_block(self.sums.as_slice(), number, block.as_slice())?;
         Ok(block)
     }
 
     /// Appends bytes of the index from this place on: as many as its block has, at most these.
-    fn add_part(&mut self, place: u64, most: usize, part: &mut Vec<u8>) -> Result<(), S::Error> {
-        let block = self.read_block((place / BLOCK_LEN as u64) as usize)?;
+    fn add_part<S: ReadAt>(
+        &self,
+        alloc: Global,
+        source: &mut S,
+        place: u64,
+        most: usize,
+        part: &mut Vec<u8>,
+    ) -> Result<(), S::Error>
+    where
+        S::Error: From<AllocError> + From<SealError>,
+    {
+        let number = (place / BLOCK_LEN as u64) as usize;
+        let block = self.read_block(alloc, source, number)?;
         let offset = (place % BLOCK_LEN as u64) as usize;
         if block.len() <= offset {
             return Err(S::Error::from(SealError::CutShort));
@@ -101,13 +130,22 @@ where
     }
 
     /// Reads as many bytes of the index from this place on.
-    fn read(&mut self, place: u64, len: usize) -> Result<Vec<u8>, S::Error> {
-        let mut part = Vec::new(self.alloc);
+    fn read<S: ReadAt>(
+        &self,
+        alloc: Global,
+        source: &mut S,
+        place: u64,
+        len: usize,
+    ) -> Result<Vec<u8>, S::Error>
+    where
+        S::Error: From<AllocError> + From<SealError>,
+    {
+        let mut part = Vec::new(alloc);
         while part.len() < len {
             let Some(next) = place.checked_add(part.len() as u64) else {
                 return Err(S::Error::from(SealError::CutShort));
             };
-            self.add_part(next, len - part.len(), &mut part)?;
+            self.add_part(alloc, source, next, len - part.len(), &mut part)?;
         }
         Ok(part)
     }
@@ -120,7 +158,9 @@ where
     type Error = S::Error;
 
     fn fill(&mut self, place: u64, room: &mut [u8]) -> Result<(), S::Error> {
-        let part = self.read(place, room.len())?;
+        let part = self
+            .front
+            .read(self.alloc, &mut self.source, place, room.len())?;
         room.copy_from_slice(part.as_slice());
         Ok(())
     }

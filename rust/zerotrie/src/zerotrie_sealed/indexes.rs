@@ -19,7 +19,7 @@ pub struct IndexTable<'a> {
 ///
 /// ```
 /// # use zerotrie::{rstd::examples::*, zerotrie_sealed::*, zerotrie_base::*};
-/// let file = seal_index_in_blocks(Global, b"an index")?;
+/// let file = seal_index(Global, b"an index")?;
 /// assert!(matches!(open(file.as_slice()), Err(SealError::UnknownKind(25))));
 /// assert!(is_index_number(25) && is_index_number(24) && !is_index_number(3));
 /// # Ok::<(), Fail>(())
@@ -79,7 +79,7 @@ fn index_in(file: &[u8]) -> Result<&[u8], SealError> {
 ///
 /// ```
 /// # use zerotrie::{rstd::examples::*, zerotrie_sealed::*, zerotrie_base::*};
-/// let file = seal_index_in_blocks(Global, b"an index")?;
+/// let file = seal_index(Global, b"an index")?;
 /// assert_eq!(open_index(file.as_slice())?, b"an index".as_slice());
 /// assert!(open(file.as_slice()).err() == Some(SealError::UnknownKind(BLOCKS_NUMBER)));
 ///
@@ -88,11 +88,11 @@ fn index_in(file: &[u8]) -> Result<&[u8], SealError> {
 /// # Ok::<(), Fail>(())
 /// ```
 ///
-/// A file is taken exactly if it is what `seal_index` or `seal_index_in_blocks` returns for some
-/// bytes, and these are what is returned. What an error says is true of the file, and the parts are
-/// looked at in the order of `open`; `UnknownKind` says that it is sealed as no index. In a file of
-/// blocks, the table with its checksum comes first, then the length of the index, and then the
-/// checksum of each block.
+/// A file is taken exactly if it is what `seal_index` returns for some bytes, or has them sealed as a
+/// whole, as earlier versions did, and these are what is returned. What an error says is true of the
+/// file, and the parts are looked at in the order of `open`; `UnknownKind` says that it is sealed as
+/// no index. In a file of blocks, the table with its checksum comes first, then the length of the
+/// index, and then the checksum of each block.
 pub fn open_index(file: &[u8]) -> Result<&[u8], SealError> {
     match number_in(file)? {
         BLOCKS_NUMBER => index_in(file),
@@ -106,7 +106,7 @@ pub fn open_index(file: &[u8]) -> Result<&[u8], SealError> {
 ///
 /// ```
 /// # use zerotrie::{rstd::examples::*, zerotrie_sealed::*, zerotrie_base::*};
-/// let file = seal_index_in_blocks(Global, b"an index")?;
+/// let file = seal_index(Global, b"an index")?;
 /// let Some((header, _)) = file.split_first_chunk() else { return Ok(()) };
 /// assert_eq!(table_len(header)?, 12);
 /// # Ok::<(), Fail>(())
@@ -127,7 +127,7 @@ pub fn table_len(header: &[u8; HEADER_LEN]) -> Result<usize, SealError> {
 ///
 /// ```
 /// # use zerotrie::{rstd::examples::*, zerotrie_sealed::*, zerotrie_base::*};
-/// let file = seal_index_in_blocks(Global, b"an index")?;
+/// let file = seal_index(Global, b"an index")?;
 /// let Some((header, behind)) = file.split_first_chunk() else { return Ok(()) };
 /// let (table, index) = behind.split_at(table_len(header)?);
 /// let table = open_table(header, table)?;

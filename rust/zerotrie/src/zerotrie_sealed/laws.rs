@@ -28,6 +28,6 @@ pub fn no_index_longer() {}
 /// A sealed index in which one byte is replaced by another is no sealed index.
 pub fn one_byte_of_index_shows() {}
 
-/// If a sealed index begins with the front of one in blocks, the index is what is behind it. So what is
-/// read there at places is what `open_index` returns.
+/// If a sealed index begins with the front of one in blocks, the index is what is behind it, and the
+/// table in the front is that of the index. So what is read there at places is what `open_index` returns.
 pub fn index_is_behind() {}

@@ -18,6 +18,4 @@ pub use blocks::BLOCK_LEN;
 pub use checksum::crc32c;
 pub use indexes::{IndexTable, is_index_number, open_index, open_table, table_len};
 pub use reading::{SealError, Sealed, begins_sealed, open};
-pub use writing::{
-    BLOCKS_NUMBER, HEADER_LEN, INDEX_NUMBER, header_of, seal, seal_index, seal_index_in_blocks,
-};
+pub use writing::{BLOCKS_NUMBER, HEADER_LEN, INDEX_NUMBER, header_of, seal, seal_index};

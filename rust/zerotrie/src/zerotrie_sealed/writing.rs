@@ -19,7 +19,8 @@ pub(in crate::zerotrie_sealed) const FRONT_LEN: usize = 20;
 /// The number of bytes in front of the trie or of the table of an index in a sealed file.
 pub const HEADER_LEN: usize = 24;
 
-/// The number in the header of an index that is sealed as a whole. No kind of trie has it.
+/// The number in the header of an index that is sealed as a whole, as earlier versions did. No kind of
+/// trie has it.
 pub const INDEX_NUMBER: u16 = 24;
 
 /// The number in the header of an index that is sealed in blocks. No kind of trie has it.
@@ -94,20 +95,6 @@ fn table_of(alloc: Global, index: &[u8]) -> Result<Vec<u8>, AllocError> {
 /// ```
 /// # use zerotrie::{rstd::examples::*, zerotrie_sealed::*, zerotrie_base::*};
 /// let file = seal_index(Global, b"an index")?;
-/// assert_eq!(file[8..12], b"\x01\x00\x18\x00"[..]);
-/// # Ok::<(), Fail>(())
-/// ```
-///
-/// The bytes need not be an index. An error means that an allocation failed.
-pub fn seal_index(alloc: Global, index: &[u8]) -> Result<Vec<u8>, AllocError> {
-    seal_as(alloc, INDEX_NUMBER, index)
-}
-
-/// Returns the sealed file of this index in blocks, which `open_index` reads, and `open` does not.
-///
-/// ```
-/// # use zerotrie::{rstd::examples::*, zerotrie_sealed::*, zerotrie_base::*};
-/// let file = seal_index_in_blocks(Global, b"an index")?;
 /// assert_eq!(file[8..12], b"\x01\x00\x19\x00"[..]);
 /// assert_eq!(file[24..32], 8u64.to_le_bytes()[..]);
 /// assert_eq!(file[32..36], crc32c(b"an index").to_le_bytes()[..]);
@@ -118,7 +105,7 @@ pub fn seal_index(alloc: Global, index: &[u8]) -> Result<Vec<u8>, AllocError> {
 /// In front of the index is a table, itself sealed: the length of the index, and the checksum of
 /// each block of `BLOCK_LEN` bytes. So a block can be read and tested without the others. The bytes
 /// need not be an index. An error means that an allocation failed.
-pub fn seal_index_in_blocks(alloc: Global, index: &[u8]) -> Result<Vec<u8>, AllocError> {
+pub fn seal_index(alloc: Global, index: &[u8]) -> Result<Vec<u8>, AllocError> {
     let table = table_of(alloc, index)?;
     let mut file = seal_as(alloc, BLOCKS_NUMBER, table.as_slice())?;
     file.extend_from_slice(index)?;

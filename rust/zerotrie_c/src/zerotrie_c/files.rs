@@ -9,7 +9,7 @@ use crate::zerotrie_c::numbers::{
 use crate::zerotrie_c::tags::{put_both, zerotrie_tagged_kind};
 use crate::rstd::alloc::Global;
 use crate::zerotrie_sealed::{
-    HEADER_LEN, SealError, begins_sealed, header_of, open, open_index, seal_index_in_blocks,
+    HEADER_LEN, SealError, begins_sealed, header_of, open, open_index, seal_index,
 };
 
 /// Finds the trie in a file that begins as no sealed one.
@@ -110,7 +110,7 @@ pub fn zerotrie_seal_index(
     out: &mut [u8],
     sealed_len: &mut usize,
 ) -> u32 {
-    match seal_index_in_blocks(alloc, index) {
+    match seal_index(alloc, index) {
         Ok(file) => hand_out(file.as_slice(), out, sealed_len),
         Err(_) => OUT_OF_MEMORY,
     }

@@ -15,7 +15,7 @@ returns-clause-part g c =
     let few : count ≤ c.args.most = search rules in
     let long : length more ≡ count = long_part block offset count within in (
       more,
-      block_part (g.S.ReadAt.MayHold c.args.source.now) block more front.start front.index_len front.sums.items c.args.place offset count
+      block_part (g.S.ReadAt.MayHold c.args.source.now) block more front c.args.place offset count
           c.in_ok-block.ensures.part c.in_ok-block.ensures.length c.in_ok-block.ensures.right refl some within refl long,
       subst (λ n. 0 < n) (sym long) some,
       subst (λ n. n ≤ c.args.most) (sym long) few,

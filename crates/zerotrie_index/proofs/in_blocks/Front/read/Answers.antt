@@ -6,8 +6,7 @@ use Rattle.zerotrie_index.proofs.in_blocks.Front.read.Goals as goal
 
 pub loop-alloc-preserved : goal.loop-alloc-preserved
 loop-alloc-preserved g c =
-    let front = c.args.self.now in
-    let own = MayBeIndex (g.S.ReadAt.MayHold c.args.source.now) front.start front.index_len front.sums.items in
+    let own = MayBeIndex (g.S.ReadAt.MayHold c.args.source.now) c.args.self.now in
     let part = c.loop-alloc.part.items in
     let i = c.loop-alloc.invariant in
     let added = c.in_ok-add_part.ensures.part in

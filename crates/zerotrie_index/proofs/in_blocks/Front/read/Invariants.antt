@@ -5,7 +5,7 @@ use Rattle.zerotrie_index.proofs.in_blocks.Front.read.Given as goal
 
 abbrev pub invariant-loop-alloc : goal.invariant-loop-alloc
 invariant-loop-alloc g l =
-    (length l.part.items ≤ l.len) × IsPart (MayBeIndex (g.S.ReadAt.MayHold l.initial.source) l.self.start l.self.index_len l.self.sums.items) l.place l.part.items
+    (length l.part.items ≤ l.len) × IsPart (MayBeIndex (g.S.ReadAt.MayHold l.initial.source) l.self) l.place l.part.items
     × MayStill (g.S.ReadAt.MayHold l.initial.source) (g.S.ReadAt.MayHold l.source)
 
 abbrev pub decreases-loop-alloc : goal.decreases-loop-alloc
