@@ -6,7 +6,7 @@ use Rattle.zerotrie_core.specs.declared.ZeroTrieBuildError.TheVariants as build
 use Rattle.zerotrie_sets.specs.Changes.{changes}
 use Rattle.zerotrie_sets.specs.Merges.{Entries}
 use Rattle.zerotrie_sets.specs.declared.diff.Change.{Change}
-use Rattle.zerotrie_c.specs.Changed.{told_change, told_from, IsDiffListed}
+use Rattle.zerotrie_c.specs.Changed.{told_change, told_from}
 use Rattle.zerotrie_c.specs.Listed.{joined, IsPut}
 use Rattle.zerotrie_c.specs.Sets.{set_status_of, malformed_trie}
 use Rattle.zerotrie_c.specs.Statuses.{status_of}
@@ -34,10 +34,6 @@ pub record Telling (rows left : Entries Change) (old_keys keys : List ℕ) (old_
   pub used_is : used ≡ length (joined written)
   pub keys_are : IsPut (joined written) true old_keys keys
   pub places_are : IsPut (told_from 0 written) true old_places places
-
--- nothing is written yet
-pub telling_start : (rows : Entries Change) (keys : List ℕ) (places : List Changed) → Telling rows rows keys keys places places 0 0
-telling_start rows keys places = record { written = []; parts = refl; count_is = refl; used_is = refl; keys_are = (omega arith, refl); places_are = (omega arith, refl) }
 
 -- one change more
 pub telling_more : {rows left : Entries Change} {old_keys keys : List ℕ} {old_places places : List Changed} {count used : ℕ}
@@ -71,17 +67,6 @@ no_place keys places used count len full = elim (cases_lt keys (used + len)) [
     | inl some ↦ absurd (full fits some)
   ]
 ]
-
--- the next change has no place in some room
-pub telling_full : (rows : Entries Change) (key : List ℕ) (v : Change) (after : Entries Change) {old_keys keys : List ℕ} {old_places places : List Changed} {count used : ℕ} (old_next : ℕ)
-    → Telling rows ((key, v) ∷ after) old_keys keys old_places places count used
-    → (used + length key ≤ length old_keys → count < length old_places → ⊥)
-    → IsDiffListed rows 8 old_keys keys old_places places count old_next (length key)
-telling_full rows key v after {old_keys} {keys} {old_places} {places} {count} {used} old_next g full =
-    let over = no_place (length old_keys) (length old_places) used count (length key) full in
-    let over = subst (λ n. (length old_keys < n + length key) ⊎ (length old_places ≤ count)) g.used_is over in
-    let over = subst (λ n. (length old_keys < length (joined g.written) + length key) ⊎ (length old_places ≤ n)) g.count_is over in
-    (g.written, (key, v) ∷ after, g.parts, g.count_is, g.keys_are, g.places_are, inr (inl (refl, (refl, over))))
 
 -- the changes of equal pairs
 pub changes_same : {a b p q : Pairs} → a ≡ p → b ≡ q → changes a b ≡ changes p q

@@ -1,5 +1,5 @@
 -- An index that is read at places.
-use Rattle.std.specs.Prelude.{◌≡◌, ℕ, ◌+◌, ◌-◌, ◌*◌, ◌/◌, ◌^◌, ◌<◌, ◌≤◌, [], ◌++◌, List, length, get_or, take, drop, Option, None, suc}
+use Rattle.std.specs.Prelude.{◌≡◌, ℕ, ◌+◌, ◌-◌, ◌*◌, ◌/◌, ◌^◌, ◌<◌, [], ◌++◌, List, length, get_or, take, drop, Option, None, suc}
 use Rattle.std.specs.List.{flat_map}
 use Rattle.std.specs.Int.{from_le_bytes, w64}
 use Rattle.std.proofs.Common.{refl, ap, sym, ◌∙◌, arith, subst, length-append}
@@ -84,11 +84,6 @@ IsFront pairs bytes is seed count = (seed ≡ is.seed) × (count ≡ length is.b
 front : (pairs : Pairs) (bytes : List ℕ) (is : IsIndex pairs bytes) (seed count : ℕ) → AreWords bytes 0 seed count → IsFront pairs bytes is seed count
 front pairs bytes is seed count read =
     read is.seed (length is.buckets) (flat_map word is.entries ++ is.pool) is.seed_below (let few = is.few_buckets in omega arith) is.bytes_are
-
--- more buckets than there can be
-pub many_buckets : (bytes key : List ℕ) (seed count : ℕ) → AreWords bytes 0 seed count → 2 ^ 32 ≤ count → IsValue bytes key None
-many_buckets bytes key seed count read many = λ pairs is.
-    absurd (let same = (front pairs bytes is seed count read).1 in let few = is.few_buckets in omega arith)
 
 -- What was read of an index: the hash of the key, and the entries of its bucket and of the next one.
 pub record IsRead (bytes key : List ℕ) (seed count hash number entry next : ℕ) : Type 0 where

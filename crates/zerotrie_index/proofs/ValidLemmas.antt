@@ -19,9 +19,6 @@ use Rattle.zerotrie_index.proofs.RepeatLemmas.{has_value, distinct_all, distinct
 abbrev pub Fits : ℕ → ℕ → ℕ → ℕ → ℕ → List ℕ → Type 0
 Fits seed count number entry left bytes = (bucket : Pairs) × (length bucket ≤ left) × IsBucket seed count number entry bucket bytes
 
-pub fits_none : (seed count number entry left : ℕ) (bytes : List ℕ) → bytes ≡ [] → Fits seed count number entry left bytes
-fits_none seed count number entry left bytes none = ([], omega arith, (none, λ k d inside. absurd (omega arith), λ twice. twice))
-
 pub is_none : (o : Option ℕ) → is_some o ≡ false → o ≡ None
 is_none None h = refl
 is_none (Some v) h = absurd (cc)

@@ -356,9 +356,6 @@ long_cause Crowd pairs size e less err = elim err [
   | inr long ↦ let l = long.1 in subst (CauseWith Crowd pairs) (sym long.0) (let g : 2 ^ 32 ≤ records_size pairs = omega arith in g)
 ]
 
-pub memory_cause : (Crowd : Type 0) (pairs : Pairs) (e : ZeroIndexBuildError) → e ≡ OutOfMemory → CauseWith Crowd pairs e
-memory_cause Crowd pairs e memory = subst (CauseWith Crowd pairs) (sym memory) tt
-
 -- a cause holds in each order
 pub cause_permuted : (seed count : ℕ) (given pairs : Pairs) (e : ZeroIndexBuildError) → IsPermutation given pairs
     → CauseWith (IsCrowded seed count pairs) pairs e → CauseWith (IsCrowded seed count given) given e

@@ -162,26 +162,12 @@ and_false : (a b : Bool) → a ≡ false → (a && b) ≡ false
 and_false true b h = absurd (cc)
 and_false false b h = refl
 
-pub all_passed : {A : Type 0} (test : A → Bool) (xs : List A) (i : ℕ) (d : A) (all : Bool) → i < length xs → test (get_or xs i d) ≡ true → list_all test (drop i xs) ≡ all → list_all test (drop (i + 1) xs) ≡ all
-all_passed test xs i d all inside passes is = sym (all_next test xs i d inside ∙ and_true (test (get_or xs i d)) (list_all test (drop (i + 1) xs)) passes) ∙ is
-
 pub all_failed : {A : Type 0} (test : A → Bool) (xs : List A) (i : ℕ) (d : A) (all : Bool) → i < length xs → test (get_or xs i d) ≡ false → list_all test (drop i xs) ≡ all → false ≡ all
 all_failed test xs i d all inside fails is = sym (all_next test xs i d inside ∙ and_false (test (get_or xs i d)) (list_all test (drop (i + 1) xs)) fails) ∙ is
 
 -- it is passed, if nothing is left
 pub all_at_end : {A : Type 0} (test : A → Bool) (xs : List A) (i : ℕ) (all : Bool) → length xs ≤ i → list_all test (drop i xs) ≡ all → true ≡ all
 all_at_end test xs i all end is = sym (ap (list_all test) (drop_end xs i end)) ∙ is
-
--- what is made of one element more, before what is made of the others
-pub mapped_next : {A B : Type 0} (f : A → B) (xs : List A) (i : ℕ) (d : A) (ys : List B) (y : B) (all : List B) → i < length xs → y ≡ f (get_or xs i d) → ys ++ map f (drop i xs) ≡ all
-    → (ys ++ y ∷ []) ++ map f (drop (i + 1) xs) ≡ all
-mapped_next f xs i d ys y all inside here is =
-    let e : i + 1 ≡ suc i = omega arith in
-    append_assoc ys (y ∷ []) (map f (drop (i + 1) xs))
-    ∙ ap (λ z. ys ++ z ∷ map f (drop (i + 1) xs)) here
-    ∙ ap (λ n. ys ++ f (get_or xs i d) ∷ map f (drop n xs)) e
-    ∙ ap (λ zs. ys ++ map f zs) (sym (drop-cons xs i d inside))
-    ∙ is
 
 -- ---- lists of pairs
 
@@ -293,9 +279,6 @@ in_case_next tries before after at d e pairs more inside next upto is so maps me
 -- the pairs of the tries up to a place are in the case of the first trie that has them
 abbrev pub AreInCase : List TrieRef → ℕ → List Pairs → Type 0
 AreInCase tries at tables = OfMeant tries (λ maps. tables ++ in_first_case (take at maps) (drop at maps) ≡ in_first_case [] maps)
-
-pub cases_first : (tries : List TrieRef) → AreInCase tries 0 []
-cases_first tries maps meant = refl
 
 pub cases_next : (tries : List TrieRef) (at : ℕ) (tables : List Pairs) (table : Pairs) → at < length tries → IsInCase tries 0 at table → AreInCase tries at tables → AreInCase tries (at + 1) (tables ++ table ∷ [])
 cases_next [] at tables table inside is so maps meant = absurd (omega arith)

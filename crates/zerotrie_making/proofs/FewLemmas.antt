@@ -16,11 +16,9 @@ use Rattle.zerotrie_core.specs.Texts.{Means}
 use Rattle.zerotrie_sets.specs.Merges.{if_some, value_of}
 use Rattle.zerotrie_sets.specs.Operations.{choose, IsCombined}
 use Rattle.zerotrie_sets.specs.Selections.{selected, IsRuleError, IsSmall}
-use Rattle.zerotrie_sets.specs.declared.combined.Keep.TheVariants as keep
 use Rattle.zerotrie_sets.specs.declared.combined.Operation.{Operation}
 use Rattle.zerotrie_sets.specs.declared.combined.Operation.TheVariants as operations
 use Rattle.zerotrie_sets.specs.declared.selection.Rule.{Rule}
-use Rattle.zerotrie_sets.specs.declared.selection.Rule.TheVariants as rules
 use Rattle.zerotrie_sets.specs.declared.selection.RuleError.{RuleError}
 use Rattle.zerotrie_sets.specs.declared.selection.RuleError.TheVariants.{SeveralValues, DifferentValues, SumTooLarge}
 use Rattle.zerotrie_sets.specs.declared.selection.Selection.TheVariants as selections
@@ -95,33 +93,11 @@ turned_combined operation other first second pairs same is = record {
 
 -- ---- what a selection and a rule take of two maps
 
-pub first_of_both : (one other : Option ℕ) → selected selections.Intersection rules.First (one ∷ other ∷ []) ≡ choose (operations.Intersection keep.First) one other
-first_of_both None None = refl
-first_of_both None (Some w) = refl
-first_of_both (Some v) None = refl
-first_of_both (Some v) (Some w) = refl
-
-pub last_of_both : (one other : Option ℕ) → selected selections.Intersection rules.Last (one ∷ other ∷ []) ≡ choose (operations.Intersection keep.Last) one other
-last_of_both None None = refl
-last_of_both None (Some w) = refl
-last_of_both (Some v) None = refl
-last_of_both (Some v) (Some w) = refl
-
 pub first_alone : (rule : Rule) (one other : Option ℕ) → selected selections.Difference rule (one ∷ other ∷ []) ≡ choose operations.Difference one other
 first_alone rule None None = refl
 first_alone rule None (Some w) = refl
 first_alone rule (Some v) None = refl
 first_alone rule (Some v) (Some w) = refl
-
-pub first_valued : (one other : Option ℕ) (why : RuleError) → IsRuleError selections.Intersection rules.First (one ∷ other ∷ []) why → ⊥
-first_valued one other SeveralValues h = let e : rules.First ≡ rules.Refuse = h.1.0 in cc
-first_valued one other DifferentValues h = let e : rules.First ≡ rules.Equal = h.1.0 in cc
-first_valued one other SumTooLarge h = let e : rules.First ≡ rules.Sum = h.1.0 in cc
-
-pub last_valued : (one other : Option ℕ) (why : RuleError) → IsRuleError selections.Intersection rules.Last (one ∷ other ∷ []) why → ⊥
-last_valued one other SeveralValues h = let e : rules.Last ≡ rules.Refuse = h.1.0 in cc
-last_valued one other DifferentValues h = let e : rules.Last ≡ rules.Equal = h.1.0 in cc
-last_valued one other SumTooLarge h = let e : rules.Last ≡ rules.Sum = h.1.0 in cc
 
 same_value : (v n : ℕ) → Some v ≡ Some n → v ≡ n
 same_value v n e = cc

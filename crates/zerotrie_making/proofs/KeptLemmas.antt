@@ -4,7 +4,6 @@ use Rattle.std.specs.Prelude.{◌||◌, if◌then◌else◌, cond, reverse}
 use Rattle.std.specs.Option.{is_some}
 use Rattle.std.specs.Borrow.{Bor}
 use Rattle.std.proofs.lemmas.List.{append-nil, reverse-append}
-use Rattle.std.proofs.Math.ListN.{drop_of_length-le}
 use Rattle.zerotrie_lines.specs.Tables.{Pair, pairs_of}
 use Rattle.zerotrie_making.specs.Kept.{Numbered, numbered, has_key, firsts, lasts}
 
@@ -65,7 +64,3 @@ pub pairs_reverse : (items : List (Bor (List ℕ) × ℕ)) → pairs_of (reverse
 pairs_reverse [] = refl
 pairs_reverse (x ∷ items) =
     ap pairs_of (reverse-append (x ∷ []) items) ∙ pairs_push (reverse items) x ∙ ap (λ t. t ++ (x.0.now, x.1) ∷ []) (pairs_reverse items) ∙ sym (reverse-append ((x.0.now, x.1) ∷ []) (pairs_of items))
-
--- none from the end on
-pub none_numbered : (n : ℕ) (items : List (Bor (List ℕ) × ℕ)) → numbered n (pairs_of (drop (length items) items)) ≡ []
-none_numbered n items = ap (λ t. numbered n (pairs_of t)) (drop_of_length-le items (omega arith))

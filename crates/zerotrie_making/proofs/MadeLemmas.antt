@@ -13,17 +13,14 @@ use Rattle.zerotrie_lines.specs.declared.reading.Header.{Header}
 use Rattle.zerotrie_lines.specs.declared.reading.LineEnd.{LineEnd}
 use Rattle.zerotrie_making.specs.Others.{IsOther}
 use Rattle.zerotrie_making.specs.Sources.{IsPairs, NoPairs, number_in_source}
-use Rattle.zerotrie_making.specs.Made.{OfInput, Explains, ExplainsKept, ExplainsOf, IsNotMerged}
+use Rattle.zerotrie_making.specs.Made.{OfInput, Explains, ExplainsKept, ExplainsOf}
 use Rattle.zerotrie_core.specs.declared.ZeroTrieBuildError.{ZeroTrieBuildError}
 use Rattle.zerotrie_index.specs.declared.error.ZeroIndexBuildError.{ZeroIndexBuildError}
 use Rattle.zerotrie_making.specs.declared.others.OtherFile.{OtherFile}
 use Rattle.zerotrie_making.specs.declared.plan.Plan.{Plan}
 use Rattle.zerotrie_making.specs.declared.plan.Source.{Source}
 use Rattle.zerotrie_making.specs.declared.plan.Source.TheVariants.{Text, Json, JsonLines}
-use Rattle.zerotrie_sets.specs.declared.selection.Rule.{Rule}
-use Rattle.zerotrie_sets.specs.declared.selection.Rule.TheVariants as rules
 use Rattle.zerotrie_making.specs.Kept.{kept, number_at}
-use Rattle.zerotrie_making.specs.declared.duplicates.Duplicates.TheVariants.{Sum}
 use Rattle.zerotrie_making.specs.declared.error.NumberedKey.{NumberedKey}
 use Rattle.zerotrie_making.specs.declared.error.Shown.{Shown}
 use Rattle.zerotrie_making.specs.declared.error.MakeError.{MakeError}
@@ -58,19 +55,6 @@ kept_refusal plan pairs (SumTooLarge k) h = absurd h
 kept_refusal plan pairs (Refused e) h = h
 kept_refusal plan pairs (IndexRefused e) h = h
 kept_refusal plan pairs OutOfMemory h = h
-
--- and so is why they are not merged
-pub merge_refusal : (plan : Plan) (rule : Rule) (pairs : Pairs) (e : MakeError) → (rule ≡ rules.Sum → plan.read.duplicates ≡ Sum) → IsNotMerged rule pairs e → ExplainsKept plan (λ n. n) pairs e
-merge_refusal plan rule pairs (NotText other) sum h = absurd h
-merge_refusal plan rule pairs (Line number bad) sum h = absurd h
-merge_refusal plan rule pairs (NotJson line column) sum h = absurd h
-merge_refusal plan rule pairs NotPairs sum h = absurd h
-merge_refusal plan rule pairs (NotPair bad) sum h = absurd h
-merge_refusal plan rule pairs (Keys s) sum h = absurd h
-merge_refusal plan rule pairs (SumTooLarge k) sum h = (sum h.0, h.1)
-merge_refusal plan rule pairs (Refused e) sum h = absurd h
-merge_refusal plan rule pairs (IndexRefused e) sum h = absurd h
-merge_refusal plan rule pairs OutOfMemory sum h = h
 
 -- an input that is no pairs shows no keys
 no_keys : (source : Source) (input : List ℕ) (s : Shown) → NoPairs source input (Keys s) → ⊥

@@ -1,7 +1,7 @@
 -- The keys that show a refusal are keys of the list, and those of an index show what an index refuses.
-use Rattle.std.proofs.Common.{◌≡◌, ℕ, ◌<◌, ◌≤◌, List, Bool, true, false, length, refl, subst, arith}
+use Rattle.std.proofs.Common.{◌≡◌, ℕ, ◌<◌, ◌≤◌, List, Bool, true, false, refl, subst, arith}
 use Rattle.std.specs.Prelude.{All, Any, Some}
-use Rattle.zerotrie_core.specs.Kind.{Kind, perfect_hash}
+use Rattle.zerotrie_core.specs.Kind.{perfect_hash}
 use Rattle.zerotrie_core.specs.Maps.{Pairs}
 use Rattle.zerotrie_core.specs.Routes.{HasCause}
 use Rattle.zerotrie_core.specs.declared.ZeroTrieBuildError.{ZeroTrieBuildError}
@@ -10,19 +10,6 @@ use Rattle.zerotrie_build.specs.Refused.{key_at, AreShown, IsWhyRefused}
 use Rattle.zerotrie_build.specs.declared.refusal.Refusal.{Refusal}
 use Rattle.zerotrie_making.specs.Plans.{an_index, route_of}
 use Rattle.zerotrie_making.specs.Made.{fault_of, AreAtFault}
-
-pub shown_within : (kind : Kind) (pairs : Pairs) (e : ZeroTrieBuildError) (first second : ℕ) → AreShown kind pairs e first second → (first < length pairs) × (second < length pairs)
-shown_within kind pairs Unsorted first second h = (omega (arith, h.0, h.1), h.1)
-shown_within kind pairs DuplicateKey first second h = (omega (arith, h.0, h.1), h.1)
-shown_within kind pairs NonAsciiError first second h = (h.1, omega (arith, h.0, h.1))
-shown_within kind pairs MixedCase first second h = (omega (arith, h.0, h.1), h.1)
-shown_within kind pairs CapacityExceeded first second h = absurd h
-shown_within kind pairs CouldNotSolvePerfectHash first second h = absurd h
-shown_within kind pairs IllegalDelimiter first second h = absurd h
-shown_within kind pairs BufferTooSmall first second h = absurd h
-shown_within kind pairs (BufferTooLarge needed) first second h = absurd h
-shown_within kind pairs StackExceeded first second h = absurd h
-shown_within kind pairs OutOfMemory first second h = absurd h
 
 -- a byte is below 256
 low_key : (key : List ℕ) → All (λ b. b < 256) key → Any (λ b. 256 ≤ b) key → ⊥

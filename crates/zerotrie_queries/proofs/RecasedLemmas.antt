@@ -74,13 +74,6 @@ either_first : (b : Bool) (xs ys : Pairs) → b ≡ true → xs ≡ (if b then x
 either_first true xs ys h = refl
 either_first false xs ys h = absurd (cc)
 
-either_second : (b : Bool) (xs ys : Pairs) → b ≡ false → ys ≡ (if b then xs else ys)
-either_second true xs ys h = absurd (cc)
-either_second false xs ys h = refl
-
 -- if both kinds ignore case, it is the second map as the first one has its keys; if not, all of it
 pub second_recased : (k j : Kind) (m n : Map) → ignore_both k j ≡ true → recased k j m n (entries n) ≡ second_pairs k j m n
 second_recased k j m n h = either_first (ignore_both k j) (recased k j m n (entries n)) (entries n) h
-
-pub second_as_is : (k j : Kind) (m n : Map) → ignore_both k j ≡ false → entries n ≡ second_pairs k j m n
-second_as_is k j m n h = either_second (ignore_both k j) (recased k j m n (entries n)) (entries n) h

@@ -1,9 +1,9 @@
 -- A file that is made of others: what was read of them, how the command ends, and why.
-use Rattle.std.proofs.Common.{◌≡◌, ◌<◌, ◌+◌, ◌++◌, ◌∙◌, ◌∷◌, [], ℕ, zero, suc, List, Option, Some, None, Bool, false, Vec, Global, All, map, length, take, get_or, refl, sym, ap, subst, arith, inl, inr}
-use Rattle.std.specs.Prelude.{Any, is_none, option_map}
+use Rattle.std.proofs.Common.{◌≡◌, ◌<◌, ◌+◌, ◌++◌, ◌∙◌, ◌∷◌, [], ℕ, zero, suc, List, Option, Some, None, Bool, Vec, Global, All, map, length, take, get_or, refl, sym, ap, subst, arith, inl, inr}
+use Rattle.std.specs.Prelude.{Any, option_map}
 use Rattle.std.specs.List.{AllZip, slice_get}
 use Rattle.std.proofs.Math.Seq.{take-suc}
-use Rattle.std.proofs.lemmas.List.{map-append, take_all}
+use Rattle.std.proofs.lemmas.List.{map-append}
 use Rattle.std.proofs.lemmas.Option.{get_or_from_slice_get, slice_get-get_or, slice_get_within, slice_get-map}
 use Rattle.zerotrie_core.specs.Kinds.{kind_of}
 use Rattle.zerotrie_core.specs.WellFormed.{IsWellFormed}
@@ -16,9 +16,8 @@ use Rattle.zerotrie_making.specs.declared.error.CombinationError.TheVariants as 
 use Rattle.zerotrie_making.specs.declared.error.MakeError.{MakeError}
 use Rattle.zerotrie_making.specs.declared.error.MakeError.TheVariants as made
 use Rattle.zerotrie_making.specs.declared.plan.Made.{Made}
-use Rattle.zerotrie_run.specs.Runs.{world, HasNoTrie, IsNotBegun, IsRead, OpensBy}
-use Rattle.zerotrie_run.specs.Combined.{AreRead, AreUnopened, EndsCombine, HasCombineCause, HasMap, HasNoTrieAt, IsMadeSo, IsNumbered, IsUncombined, IsUnopenedAt, IsUnread, NamesFile, OfHeld, are_several, combine_refusal, file_of}
-use Rattle.zerotrie_run.specs.declared.build.BuildError.{BuildError}
+use Rattle.zerotrie_run.specs.Runs.{world, HasNoTrie, IsRead, OpensBy}
+use Rattle.zerotrie_run.specs.Combined.{AreRead, AreUnopened, EndsCombine, HasCombineCause, HasMap, HasNoTrieAt, IsMadeSo, IsNumbered, IsUncombined, IsUnopenedAt, OfHeld, are_several, combine_refusal, file_of}
 use Rattle.zerotrie_run.specs.declared.build.BuildError.TheVariants as build
 use Rattle.zerotrie_run.specs.declared.combine.CombineError.{CombineError}
 use Rattle.zerotrie_run.specs.declared.combine.CombineError.TheVariants.{Unopened, NoTrie, NoValue, NotBuilt}
@@ -41,10 +40,6 @@ zip_next R xs i d ys y inside a r =
     let e : i + 1 ≡ suc i = omega arith in
     subst (λ zs. AllZip R zs (ys ++ y ∷ [])) (sym (ap (λ n. take n xs) e ∙ take-suc xs i d inside)) (zip_more R (take i xs) ys (get_or xs i d) y a r)
 
--- all of them
-pub zip_all : {A B : Type 0} (R : A → B → Type 0) (xs : List A) (i : ℕ) (ys : List B) → length xs ≡ i → AllZip R (take i xs) ys → AllZip R xs ys
-zip_all R xs i ys all a = subst (λ zs. AllZip R zs ys) (take_all i xs (omega (arith, all))) a
-
 -- the element that is at the place of another
 zip_at : {A B : Type 0} (R : A → B → Type 0) (xs : List A) (ys : List B) (k : ℕ) (y : B) → AllZip R xs ys → slice_get ys k ≡ Some y → (x : A) × (slice_get xs k ≡ Some x) × R x y
 zip_at R [] [] k y a is = absurd (cc)
@@ -62,10 +57,6 @@ pub numbered_at : (places : List Place) (i : ℕ) → i < length places → (pla
 numbered_at [] i inside = absurd (omega (arith, inside))
 numbered_at (p ∷ places) zero inside = (p, refl)
 numbered_at (p ∷ places) (suc i) inside = numbered_at places i (omega (arith, inside))
-
--- one file has a number
-pub same_file : (places : List Place) (number : ℕ) (place other : Place) → IsNumbered places number place → IsNumbered places number other → place ≡ other
-same_file places number place other is also = cc
 
 -- it is one of the files
 pub file_there : (P : Place → Type 0) (places : List Place) (number : ℕ) (place : Place) → IsNumbered places number place → P place → Any P places
@@ -143,43 +134,7 @@ none_at held number d (NoTrie other why t) inside h =
 none_at held number d (NoValue why key) inside h = absurd h
 none_at held number d (NotBuilt e) inside h = absurd h
 
--- then nothing is made of them
-pub unopened_uncombined : (c : Combine) (held : List (List ℕ)) (e : CombineError) → AreUnopened held e → IsUncombined c held e
-unopened_uncombined c held (Unopened number e) h = absurd h
-unopened_uncombined c held (NoTrie number why t) h = h
-unopened_uncombined c held (NoValue why key) h = absurd h
-unopened_uncombined c held (NotBuilt (build.Unread e)) h = absurd (cc)
-unopened_uncombined c held (NotBuilt (build.NotMade e)) h = inl (cc)
-unopened_uncombined c held (NotBuilt (build.Unwritten e)) h = absurd (cc)
-unopened_uncombined c held (NotBuilt build.Taken) h = absurd (cc)
-unopened_uncombined c held (NotBuilt (build.Unfound e)) h = absurd (cc)
-
 -- ---- how the command ends
-
--- one of the files can't be read
-pub unread_ends : (c : Combine) (i : Option (List ℕ)) (files left : Option Story) (printed : Option (List ℕ)) (e : CombineError) → IsUnread c.from.now e → left ≡ files
-    → EndsCombine c i (world files printed) (world left printed) (combine_refusal e)
-unread_ends c i files left printed (Unopened number e) h same = inl (refl, same)
-unread_ends c i files left printed (NoTrie number why t) h same = absurd h
-unread_ends c i files left printed (NoValue why key) h same = absurd h
-unread_ends c i files left printed (NotBuilt e) h same = rw h (inl (refl, same))
-
-pub unread_cause : (c : Combine) (i : Option (List ℕ)) (files : Option Story) (e : CombineError) → IsUnread c.from.now e → HasCombineCause c i files e
-unread_cause c i files (Unopened number e) h = h
-unread_cause c i files (NoTrie number why t) h = absurd h
-unread_cause c i files (NoValue why key) h = absurd h
-unread_cause c i files (NotBuilt e) h = rw h (inl refl)
-
-pub unread_fails : {P : Type 0} (places : List Place) (e : CombineError) → IsUnread places e → is_none (combine_refusal e) ≡ false → P
-unread_fails places (Unopened number e) h is = absurd (cc)
-unread_fails places (NoTrie number why t) h is = absurd h
-unread_fails places (NoValue why key) h is = absurd h
-unread_fails places (NotBuilt e) h is = absurd (let none = rw h at is in cc)
-
--- an allocation failed
-pub memory_ends : (c : Combine) (i : Option (List ℕ)) (files left : Option Story) (printed : Option (List ℕ)) → left ≡ files
-    → EndsCombine c i (world files printed) (world left printed) (combine_refusal (NotBuilt (build.NotMade made.OutOfMemory)))
-memory_ends c i files left printed same = inl (refl, same)
 
 -- no file is made of maps because what was read is another file, or no pairs
 none_text : (c : Combine) (other : _) (maps : List Meant) → ExplainsMaps c.combination maps (combination.NotMade (made.NotText other)) → ⊥
@@ -268,26 +223,3 @@ uncombined_cause c i files held (NotBuilt (build.NotMade e)) read (inr h) = inr 
 uncombined_cause c i files held (NotBuilt (build.Unwritten e)) read h = tt
 uncombined_cause c i files held (NotBuilt build.Taken) read h = absurd h
 uncombined_cause c i files held (NotBuilt (build.Unfound e)) read h = tt
-
--- it is not begun
-pub unbegun_ends : (c : Combine) (i : Option (List ℕ)) (files left : Option Story) (printed : Option (List ℕ)) (e : BuildError) → IsNotBegun c.to c.no_clobber files e → left ≡ files
-    → EndsCombine c i (world files printed) (world left printed) (combine_refusal (NotBuilt e))
-unbegun_ends c i files left printed (build.Unread e) h same = absurd h
-unbegun_ends c i files left printed (build.NotMade e) h same = absurd h
-unbegun_ends c i files left printed (build.Unwritten e) h same = absurd h
-unbegun_ends c i files left printed build.Taken h same = (h.0, h.1, (refl, same))
-unbegun_ends c i files left printed (build.Unfound e) h same = inl (refl, same)
-
-pub unbegun_cause : (c : Combine) (i : Option (List ℕ)) (files : Option Story) (e : BuildError) → IsNotBegun c.to c.no_clobber files e → HasCombineCause c i files (NotBuilt e)
-unbegun_cause c i files (build.Unread e) h = absurd h
-unbegun_cause c i files (build.NotMade e) h = absurd h
-unbegun_cause c i files (build.Unwritten e) h = absurd h
-unbegun_cause c i files build.Taken h = h.1
-unbegun_cause c i files (build.Unfound e) h = tt
-
--- the file that an error names is there
-pub cause_names : (c : Combine) (i : Option (List ℕ)) (files : Option Story) (e : CombineError) → HasCombineCause c i files e → NamesFile c e
-cause_names c i files (Unopened number e) h = slice_get_within c.from.now number h.0 h.1
-cause_names c i files (NoTrie number why t) h = slice_get_within c.from.now number h.0 h.1
-cause_names c i files (NoValue why key) h = tt
-cause_names c i files (NotBuilt e) h = tt

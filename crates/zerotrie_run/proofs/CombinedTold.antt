@@ -17,7 +17,7 @@ use Rattle.zerotrie_run.specs.Commands.{may_tell}
 use Rattle.zerotrie_run.specs.Statuses.{failure}
 use Rattle.zerotrie_run.specs.Messages.{IsLineOn, Says, TellsBuild, TellsCombine, TellsNoTrie, TellsUnmade, source_name, target_name, told_key, value_words}
 use Rattle.zerotrie_run.specs.Combined.{HasCombineCause, IsNumbered, OfFiles, combine_refusal, file_of, unmade_refusal}
-use Rattle.zerotrie_run.specs.Told.{TellsMore, TellsUnopened, IsPlaceOf, IsTold, combined_lines, ended, has_kind, is_told, last_text, told_kind, told_made}
+use Rattle.zerotrie_run.specs.Told.{TellsMore, TellsUnopened, IsPlaceOf, IsTold, ended, has_kind, is_told, last_text, told_kind, told_made}
 use Rattle.zerotrie_run.specs.declared.status.Status.{Status}
 use Rattle.zerotrie_run.specs.declared.status.Status.TheVariants.{Refused, Closed}
 use Rattle.zerotrie_run.specs.declared.build.BuildError.TheVariants as build
@@ -110,7 +110,3 @@ no_lines o Never true file is = refl
 no_lines o Never false file is = refl
 no_lines o IfEmpty several file is = absurd (cc)
 no_lines o Always several file is = absurd (cc)
-
--- nothing, if nothing is to be told
-pub quiet_lines : (o : Combine) (several : Bool) (file : Made) → may_tell o.summary ≡ false → combined_lines o several file ≡ []
-quiet_lines o several file is = no_lines o o.summary several file is

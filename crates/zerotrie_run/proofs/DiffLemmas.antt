@@ -15,7 +15,7 @@ use Rattle.zerotrie_run.specs.Runs.{HasNumberToo, IsDoubtful, IsRead, ask_refusa
 use Rattle.zerotrie_run.specs.Statuses.{failure}
 use Rattle.zerotrie_run.specs.Messages.{source_name}
 use Rattle.zerotrie_run.specs.Told.{HasReason, HasDiffReason, IsPlaceOf, IsTold, TellsMore, ended}
-use Rattle.zerotrie_run.specs.Diffs.{old_file, new_file, IsFileOf, IsDiffed, IsDiffedInPart, FailsDiff, RunsDiff, EndsDiff, HasNoTrieIn, IsEitherDoubtful, IsUnread, IsUnanswered, NotesNumbers, TellsIfDoubtful, AreHeldCompared, AreHeldComparedInPart, AreUncompared}
+use Rattle.zerotrie_run.specs.Diffs.{old_file, new_file, IsFileOf, IsDiffed, IsDiffedInPart, FailsDiff, RunsDiff, EndsDiff, HasNoTrieIn, IsEitherDoubtful, IsUnanswered, NotesNumbers, TellsIfDoubtful, AreHeldCompared, AreHeldComparedInPart, AreUncompared}
 use Rattle.zerotrie_run.specs.declared.ask.AskError.{AskError}
 use Rattle.zerotrie_run.specs.declared.ask.AskError.TheVariants as ask
 use Rattle.zerotrie_run.specs.declared.diff.DiffError.{DiffError}
@@ -189,24 +189,6 @@ told_of diff file i files a b Closed of h = h
 -- what is false is not so
 pub never : (b : Bool) → b ≡ false → IsTrue b → ⊥
 never b is so = absurd (cc)
-
--- a file can't be read, and so it ends, and that is why
-pub ends_unread : (diff : Diff) (input : Option (List ℕ)) (files : Option Story) (a : Option (List ℕ)) (e : AskError) → IsUnread e → EndsDiff diff input files a a (ask_refusal e)
-ends_unread diff input files a ask.TwoInputs is = absurd is
-ends_unread diff input files a (ask.Unread e) is = inl refl
-ends_unread diff input files a (ask.NoTrie why t) is = absurd is
-ends_unread diff input files a (ask.NotText key) is = absurd is
-ends_unread diff input files a (ask.Unanswered e) is = absurd is
-
-reason_of_unread : (file : TrieFile) (input : Option (List ℕ)) (files : Option Story) (e : AskError) → IsUnread e → HasReason (IsUnopened file) file Verify input files e
-reason_of_unread file input files ask.TwoInputs is = absurd is
-reason_of_unread file input files (ask.Unread e) is = tt
-reason_of_unread file input files (ask.NoTrie why t) is = absurd is
-reason_of_unread file input files (ask.NotText key) is = absurd is
-reason_of_unread file input files (ask.Unanswered e) is = absurd is
-
-pub reason_unread : (diff : Diff) (input : Option (List ℕ)) (files : Option Story) (e : DiffError) → IsFileOf diff e.file → IsUnread e.error → HasDiffReason diff input files e
-reason_unread diff input files e of is = (of, reason_of_unread e.file input files e.error is)
 
 as_at_first : {R S : Type 0} (diff : Diff) (first second : TrieFile) (remaining : R → Option (List ℕ)) (old new : Watched R) (story : S → Option Story) (d e : S) (other : List ℕ)
     → ((diff.old ≡ Stream) × (diff.new ≡ Stream) → ⊥) → first ≡ old_file diff → second ≡ new_file diff → e ≡ d → (first.place ≡ Stream) ⊎ (new ≡ old)

@@ -1,5 +1,5 @@
 -- How many places of a list are standard input, and what is read of each.
-use Rattle.std.proofs.Common.{◌≡◌, ◌≢◌, ◌⊎◌, ◌<◌, ◌≤◌, ◌+◌, ◌∙◌, ℕ, zero, suc, Bool, true, false, List, [], ◌∷◌, Option, drop, get_or, length, refl, sym, ap, subst, arith, inl, inr}
+use Rattle.std.proofs.Common.{◌≡◌, ◌≢◌, ◌⊎◌, ◌<◌, ◌≤◌, ◌+◌, ◌∙◌, ℕ, zero, suc, Bool, true, false, List, [], ◌∷◌, Option, drop, get_or, length, refl, subst, arith, inl, inr}
 use Rattle.zerotrie_files.specs.Disks.{Story}
 use Rattle.zerotrie_files.specs.Faults.{Watched}
 use Rattle.zerotrie_run.specs.Runs.{AreAllFiles, HaveTwoStreams, IsRead, streams}
@@ -76,31 +76,3 @@ still_same places i d old now next inside same touched left = elim (next_place p
 -- no place behind is standard input if none is
 pub none_left : (places : List Place) (i : ℕ) → AreAllFiles places → streams (drop i places) ≡ streams places
 none_left places i none = let fewer = fewer_left places i in omega (arith, fewer, none)
-
--- a stream that is found behind one that was seen is the second
-pub second_seen : (places : List Place) (i : ℕ) (d : Place) → i < length places → get_or places i d ≡ Stream → seen true (streams (drop i places)) ≡ streams places → HaveTwoStreams places
-second_seen places i d inside is counted = elim (next_place places i d inside) [
-  | inl file ↦ absurd (file.0 is)
-  | inr stream ↦ let more = stream.1 in omega (arith, more, counted)
-]
-
--- one that is found first is seen then
-pub first_seen : (places : List Place) (i : ℕ) (d : Place) → i < length places → get_or places i d ≡ Stream → seen false (streams (drop i places)) ≡ streams places
-    → seen true (streams (drop (i + 1) places)) ≡ streams places
-first_seen places i d inside is counted = elim (next_place places i d inside) [
-  | inl file ↦ absurd (file.0 is)
-  | inr stream ↦ sym stream.1 ∙ counted
-]
-
--- a file changes nothing
-pub file_seen : (places : List Place) (i : ℕ) (d : Place) (found : Bool) → i < length places → get_or places i d ≢ Stream → seen found (streams (drop i places)) ≡ streams places
-    → seen found (streams (drop (i + 1) places)) ≡ streams places
-file_seen places i d found inside is counted = elim (next_place places i d inside) [
-  | inl file ↦ ap (seen found) (sym file.1) ∙ counted
-  | inr stream ↦ absurd (is stream.0)
-]
-
--- if all were looked at, no two are streams
-pub none_twice : (n : ℕ) (found : Bool) → seen found 0 ≡ n → 1 < n → ⊥
-none_twice n true counted more = omega (arith, counted, more)
-none_twice n false counted more = omega (arith, counted, more)

@@ -1,5 +1,5 @@
 -- What is told last of a run.
-use Rattle.std.proofs.Common.{◌≡◌, ◌⊎◌, ℕ, List, ◌++◌, Option, Some, None, Bool, true, false, Result, Ok, Err, IfOk, Vec, Global, codes, refl, sym, subst, append_assoc, inl, inr}
+use Rattle.std.proofs.Common.{◌≡◌, ◌⊎◌, ℕ, List, Option, Some, None, Bool, true, false, Result, Ok, Err, IfOk, Vec, Global, codes, refl, subst, inl, inr}
 use Rattle.std.specs.Prelude.{◌||◌}
 use Rattle.std.specs.Prelude.{unwrap_or}
 use Rattle.std.specs.Io.KnownBytes.{Appends}
@@ -29,11 +29,6 @@ use Rattle.zerotrie_run.proofs.MessageLemmas.{line_of}
 -- a text that is told after some words is told last
 pub told_last : (a b c : Option (List ℕ)) (text : List ℕ) → TellsMore a b → Appends b c text → ToldLast a c text
 told_last a b c text more h = (more.0, Appends-trans a b c more.0 text more.1 h)
-
-pub line_last : (a b c : Option (List ℕ)) → TellsMore a b → LineTold b c → LineTold a c
-line_last a b c more line =
-    let told = line.2 in
-    (line.0, line.1, (more.0 ++ told.0, subst (Appends a c) (sym (append_assoc more.0 told.0 line.0)) (Appends-trans a b c more.0 (told.0 ++ line.0) more.1 told.1)))
 
 pub no_memory : (a b c : Option (List ℕ)) → TellsMore a b → Appends b c (codes "zerotrie: out of memory\n") → LineTold a c
 no_memory a b c more h = (codes "zerotrie: out of memory\n", (codes "zerotrie: out of memory", refl), told_last a b c (codes "zerotrie: out of memory\n") more h)

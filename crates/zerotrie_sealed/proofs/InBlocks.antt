@@ -135,14 +135,6 @@ parts-are index table sums n low fits parts is =
     let same : to_le_bytes w64 n ++ sums ≡ table_of index = sym parts ∙ is in
     (sym (from_le_bytes-to_le_bytes_8 n low) ∙ ap (λ l. from_le_bytes w64 (take 8 l)) same ∙ from_le_bytes-to_le_bytes_8 (length index) fits, ap (drop 8) same)
 
--- how long the index is, and how long its table says
-pub index-long : (file index sums : List ℕ) (n : ℕ) → n < 2 ^ 64 → HasTable file → index ≡ index_in file → table_in file ≡ to_le_bytes w64 n ++ sums
-    → (index_length_in file ≡ n) × (24 + length_in file + length index ≡ length file)
-index-long file index sums n low has is parts =
-    let all : 24 + length_in file ≤ length file = has.0 in
-    let long : length index ≡ length file - (24 + length_in file) = ap length is ∙ length-drop (24 + length_in file) file in
-    (ap (from_le_bytes w64) parts ∙ from_le_bytes-to_le_bytes_8 n low, omega arith)
-
 -- ---- a file of which all parts agree
 
 pub blocks-agreed : (index file : List ℕ) → 24 ≤ length file → length file < 2 ^ 64 → ((i : ℕ) → get_or file i 0 < 256) → take 8 file ≡ magic
@@ -199,11 +191,6 @@ header-fault number table Checksum is fault = fault
 pub no-header : (header : List ℕ) (e : SealError) → IsHeaderFault header e → (index file : List ℕ) → take 24 file ≡ header → IsSealedInBlocks index file → ⊥
 no-header header e fault index file begins is =
     header-fault blocks_number (table_of index) e refl (let P : List ℕ → Type 0 = λ h. IsHeaderFault h e in subst P (header-is index file header begins is) fault)
-
-pub header_none : {T : Type 0} (header : List ℕ) (result : Result T SealError) → IfErr result (IsHeaderFault header)
-    → IfErr result (λ _. (index file : List ℕ) → take 24 file ≡ header → IsSealedInBlocks index file → ⊥)
-header_none header (Ok x) fault = tt
-header_none header (Err e) fault = no-header header e fault
 
 table-fault : (index header table : List ℕ) (e : SealError) → length index < 2 ^ 64 → ((i : ℕ) → get_or header i 0 < 256) → ((i : ℕ) → get_or table i 0 < 256)
     → header ≡ header_as blocks_number (table_of index) → table ≡ table_of index → IsTableFault header table e → ⊥

@@ -1,5 +1,5 @@
 -- The blocks of an index, and their checksums.
-use Rattle.std.proofs.Common.{◌≡◌, ℕ, zero, suc, ◌+◌, ◌-◌, ◌*◌, ◌<◌, List, [], ◌∷◌, ◌++◌, length, take, drop, refl, sym, ap, ◌∙◌, arith}
+use Rattle.std.proofs.Common.{◌≡◌, ℕ, zero, suc, ◌+◌, ◌-◌, ◌*◌, ◌<◌, List, ◌++◌, length, take, drop, refl, sym, ap, ◌∙◌, arith}
 use Rattle.std.proofs.lemmas.List.{length-drop, drop-drop}
 use Rattle.std.proofs.Math.Seq.{drop-append-add}
 use Rattle.std.specs.Int.{w32, to_le_bytes}
@@ -26,10 +26,6 @@ sums-first bytes some =
     let long : length (drop block_len bytes) ≡ length bytes - block_len = length-drop block_len bytes in
     let e : block_count (length bytes) ≡ suc (block_count (length (drop block_len bytes))) = rw long (omega arith) in
     one_more (block_count (length bytes)) (block_count (length (drop block_len bytes))) bytes e
-
-pub sums-none : (bytes : List ℕ) → length bytes ≡ 0 → sums_of bytes ≡ []
-sums-none [] none = refl
-sums-none (b ∷ bytes) none = absurd (omega arith)
 
 -- the checksum at a place is that of the block of this number
 pub sums-at : (i n : ℕ) (bytes : List ℕ) → i < n → take 4 (drop (4 * i) (sums n bytes)) ≡ to_le_bytes w32 (crc32c (take block_len (drop (block_len * i) bytes)))

@@ -1,7 +1,6 @@
 -- What is said of words, and of what clap finds in them.
-use Rattle.std.proofs.Common.{◌≡◌, ◌∙◌, ℕ, List, [], Option, Some, None, codes, true, inl, inr, refl, subst, sym}
-use Rattle.std.specs.Borrow.{Bor}
-use Rattle.std.specs.Prelude.{◌⊎◌, Result, Ok, Err, IfErr, IfNone, IfOk, IfSome, IsErrAnd}
+use Rattle.std.proofs.Common.{◌≡◌, ◌∙◌, ℕ, List, [], Option, Some, None, true, inl, inr, refl, subst, sym}
+use Rattle.std.specs.Prelude.{◌⊎◌, Result, Ok, Err, IfErr, IfNone, IsErrAnd}
 use Rattle.clap.specs.Faults.{fault_of, is_simple_and_free}
 use Rattle.clap.specs.Kinds.{IsAmong}
 use Rattle.clap.specs.Matches.{subcommand_name_of}
@@ -11,14 +10,9 @@ use Rattle.clap.specs.Values.{kind_of}
 use Rattle.clap.specs.declared.error.Error.{Error}
 use Rattle.clap.specs.declared.error.kind.ErrorKind.TheVariants.{OutOfMemory}
 use Rattle.clap.specs.declared.parser.matches.ArgMatches.{ArgMatches}
-use Rattle.zerotrie_run.specs.declared.command.Place.{Place}
-use Rattle.zerotrie_run.specs.declared.command.Place.TheVariants.{File}
 use Rattle.zerotrie_words.specs.Reads.{IsFaultOf, IsFaultSaid, IsFoundIn, IsNoRequest, IsRequest, IsSaidOfFound}
-use Rattle.zerotrie_words.specs.Refusals.{IsSaid}
 use Rattle.zerotrie_words.specs.Replies.{IsReply}
-use Rattle.zerotrie_words.specs.Requests.{IsRefusal, NamesOneFile}
 use Rattle.zerotrie_words.specs.Tasks.{IsTaskOf, NamesNoTask, task_word}
-use Rattle.zerotrie_words.specs.Words.{IsSource, IsTarget, word_of}
 use Rattle.zerotrie_words.specs.declared.reply.Reply.{Reply}
 use Rattle.zerotrie_words.specs.declared.reply.Reply.TheVariants as reply
 use Rattle.zerotrie_words.specs.declared.task.Task.{Task}
@@ -55,16 +49,6 @@ pub request_of : (app : App) (words : List (List ℕ)) (t : Task) (own matches :
 unfolding IsRequest
 request_of app words t own matches found is = (matches, found, is)
 
-pub message_refusal : (matches : ArgMatches) (why : Bor (List ℕ)) (said : Reply) → said ≡ reply.Refusal why → IsSaid why → IsRefusal matches said
-message_refusal matches why said is text = subst (λ (r : Reply). IsRefusal matches r) (sym is) text
-
-pub one_file_refusal : (matches : ArgMatches) (from to : Place) (said : Reply) → IsSource (word_of matches (codes "IN")) from
-    → IsTarget (word_of matches (codes "output")) to → NamesOneFile from to said → IsRefusal matches said
-one_file_refusal matches from to said source target named =
-    let read : IsSource (word_of matches (codes "IN")) (File named.0) = subst (λ (p : Place). IsSource (word_of matches (codes "IN")) p) named.2 source in
-    let made : IsTarget (word_of matches (codes "output")) (File named.1) = subst (λ (p : Place). IsTarget (word_of matches (codes "output")) p) named.3 target in
-    subst (λ (r : Reply). IsRefusal matches r) (sym named.5) (read.0.0, made.0.0, named.4)
-
 -- what a `?` returns
 pub if_none : {X : Type 0} (r : Option X) (P : Type 0) → P → IfNone r P
 if_none None P p = p
@@ -85,26 +69,9 @@ pub fault_refused : {X : Type 0} (app : App) (words : List (List ℕ)) (fault : 
 fault_refused app words fault (Ok x) h is = absurd h
 fault_refused app words fault (Err said) h is = fault_no_request app words said (subst (λ (f : Reply). IsFaultSaid app words f) (sym h) is)
 
-pub message_refused : {X : Type 0} (matches : ArgMatches) (why : Bor (List ℕ)) (r : Result X Reply) → IsErrAnd r (λ said. said ≡ reply.Refusal why)
-    → IsSaid why → IfErr r (IsRefusal matches)
-message_refused matches why (Ok x) h text = absurd h
-message_refused matches why (Err said) h text = message_refusal matches why said h text
-
-pub one_file_refused : {X : Type 0} (matches : ArgMatches) (from to : Place) (file : Reply) (r : Result X Reply) → IsErrAnd r (λ said. said ≡ file)
-    → IsSource (word_of matches (codes "IN")) from → IsTarget (word_of matches (codes "output")) to → NamesOneFile from to file → IfErr r (IsRefusal matches)
-one_file_refused matches from to file (Ok x) h source target named = absurd h
-one_file_refused matches from to file (Err said) h source target named =
-    subst (λ (f : Reply). IsRefusal matches f) (sym h) (one_file_refusal matches from to file source target named)
-
 pub no_command_found : (matches : ArgMatches) → subcommand_name_of matches ≡ None → NamesNoTask matches
 no_command_found matches none = λ name is t word. absurd (cc)
 
 pub no_task_found : (matches : ArgMatches) (text : List ℕ) → Some text ≡ subcommand_name_of matches → ((t : Task) → Some text ≡ task_word t → ⊥)
     → NamesNoTask matches
 no_task_found matches text of none = λ name is t word. none t (of ∙ (is ∙ word))
-
--- a page is only found if the words ask for one
-pub page_of : {E : Type 0} {T : Type 0} (r : Result (Option T) E) (Asked : Type 0) → Asked → IfOk r (λ page. IfSome page (λ _. Asked))
-page_of (Ok (Some page)) Asked asked = asked
-page_of (Ok None) Asked asked = tt
-page_of (Err e) Asked asked = tt
