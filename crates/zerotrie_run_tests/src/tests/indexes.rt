@@ -1,3 +1,5 @@
+//! Questions to indexes.
+
 use crate::tests::{ABSENT, FILE, LONGEST, PAIRS, TYPED, VALUES, disk_with};
 use std::alloc::{AllocError, Global};
 use std::io::{BufWriter, Read};
