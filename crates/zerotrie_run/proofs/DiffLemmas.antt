@@ -8,10 +8,12 @@ use Rattle.std.proofs.KnownBytes.{Appends-kept, Appends-trans}
 use Rattle.zerotrie_files.specs.Disks.{Story}
 use Rattle.zerotrie_files.specs.Faults.{Watched}
 use Rattle.zerotrie_queries.specs.Diffs.{change_lines}
+use Rattle.zerotrie_queries.specs.declared.file.OpenError.{OpenError}
 use Rattle.zerotrie_queries.specs.declared.file.OpenError.TheVariants.{BadTag, Damaged, NotWellFormed}
 use Rattle.zerotrie_queries.specs.declared.file.OpenError.TheVariants as unopened
+use Rattle.zerotrie_queries.specs.declared.reports.ReportForm.TheVariants.{Lines}
 use Rattle.zerotrie_queries.proofs.PartLemmas.{part_all}
-use Rattle.zerotrie_run.specs.Runs.{HasNumberToo, IsDoubtful, IsRead, ask_refusal, IsUnopened}
+use Rattle.zerotrie_run.specs.Runs.{HasNumberToo, IsDoubtful, IsRead, ask_refusal, IsUnasked, IsUnopened}
 use Rattle.zerotrie_run.specs.Statuses.{failure}
 use Rattle.zerotrie_run.specs.Messages.{source_name}
 use Rattle.zerotrie_run.specs.Told.{HasReason, HasDiffReason, IsPlaceOf, IsTold, TellsMore, ended}
@@ -23,7 +25,8 @@ use Rattle.zerotrie_run.specs.declared.command.Command.TheVariants as commands
 use Rattle.zerotrie_run.specs.declared.command.Diff.{Diff}
 use Rattle.zerotrie_run.specs.declared.command.Place.{Place}
 use Rattle.zerotrie_run.specs.declared.command.Place.TheVariants.{File, Stream}
-use Rattle.zerotrie_run.specs.declared.command.Question.TheVariants.{Verify}
+use Rattle.zerotrie_run.specs.declared.command.Question.{Question}
+use Rattle.zerotrie_run.specs.declared.command.Question.TheVariants.{Report, Verify}
 use Rattle.zerotrie_run.specs.declared.command.TrieFile.{TrieFile}
 use Rattle.zerotrie_run.specs.declared.status.Status.{Status}
 use Rattle.zerotrie_run.specs.declared.status.Status.TheVariants.{Done, Absent, Refused, Taken, BadUsage, BadInput, Unread, Unwritten, OutOfMemory, Closed}
@@ -166,21 +169,37 @@ pub diff_ends : (diff : Diff) (i : Option (List ℕ)) (files : Option Story) (a 
     → EndsDiff diff i files a b (ask_refusal e) → status ≡ unwrap_or (ask_refusal e) (failure read write closed) → result ≡ ended status r → RunsDiff diff i files a b result
 diff_ends diff i files a b read write closed e status result r h is ends = rw (ends, is) (ends_by diff i files a b read write closed e r h)
 
+-- a question that an index does not answer
+abbrev pub a_report : Question
+a_report = Report Lines
+
+no_index_asked : (file : TrieFile) (held : List ℕ) (why : OpenError) → IsUnasked file a_report held why → IsUnopened file held why
+no_index_asked file held why (inl none) = none
+no_index_asked file held why (inr bad) = absurd (let no = bad.0 in cc)
+
+-- why a file is not compared is why it is not asked such a question
+pub as_asked : (file : TrieFile) (i : Option (List ℕ)) (files : Option Story) (e : AskError) → HasReason (IsUnopened file) file Verify i files e → HasReason (IsUnasked file a_report) file a_report i files e
+as_asked file i files ask.TwoInputs h = tt
+as_asked file i files (ask.Unread e) h = tt
+as_asked file i files (ask.NoTrie why t) h = (h.0, h.1, inl h.2, h.3)
+as_asked file i files (ask.Unanswered e) h = tt
+as_asked file i files (ask.NotText key) h = absurd h.shows
+
 -- a place of a question to one of the files is a place of the comparison
-place_in : (diff : Diff) (file : TrieFile) (name : List ℕ) → IsFileOf diff file → IsPlaceOf (commands.Ask file Verify) name → IsPlaceOf (commands.Diff diff) name
+place_in : (diff : Diff) (file : TrieFile) (name : List ℕ) → IsFileOf diff file → IsPlaceOf (commands.Ask file a_report) name → IsPlaceOf (commands.Diff diff) name
 place_in diff file name (inl is) (inl at) = inl (at ∙ ap (λ f. source_name f.place) is)
 place_in diff file name (inr is) (inl at) = inr (inl (at ∙ ap (λ f. source_name f.place) is))
 place_in diff file name of (inr stream) = inr (inr stream)
 
 -- what is told of a file is told of the comparison
-pub told_of : (diff : Diff) (file : TrieFile) (i : Option (List ℕ)) (files : Option Story) (a b : Option (List ℕ)) (s : Status) → IsFileOf diff file → IsTold (commands.Ask file Verify) i files a b s
+pub told_of : (diff : Diff) (file : TrieFile) (i : Option (List ℕ)) (files : Option Story) (a b : Option (List ℕ)) (s : Status) → IsFileOf diff file → IsTold (commands.Ask file a_report) i files a b s
     → IsTold (commands.Diff diff) i files a b s
 told_of diff file i files a b Done of h = h
 told_of diff file i files a b Absent of h = h
 told_of diff file i files a b Refused of h = absurd h.1.shows
 told_of diff file i files a b Taken of h = h
 told_of diff file i files a b BadUsage of h = h
-told_of diff file i files a b BadInput of h = (file, of, h)
+told_of diff file i files a b BadInput of h = (file, of, (h.0, h.1, h.2, no_index_asked file h.0 h.2 h.3, h.4, h.5, h.6, h.7))
 told_of diff file i files a b Unread of h = (h.0, place_in diff file h.0 of h.1, h.2)
 told_of diff file i files a b Unwritten of h = (h.0, place_in diff file h.0 of h.1, h.2)
 told_of diff file i files a b OutOfMemory of h = h

@@ -1,4 +1,4 @@
-use Rattle.std.proofs.Common.{◌∙◌, ap, inr, map, subst, sym, ℕ, List}
+use Rattle.std.proofs.Common.{◌∙◌, ap, inr, map, subst, sym}
 use Rattle.std.proofs.lemmas.Result.{err_from_is_err_and}
 use Rattle.std.specs.Io.Buffered.{writer_contents}
 use Rattle.std.specs.Io.KnownBytes.{Appends}

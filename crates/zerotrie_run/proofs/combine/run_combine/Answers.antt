@@ -6,7 +6,6 @@ use Rattle.zerotrie_run.specs.Runs.{world}
 use Rattle.zerotrie_run.specs.Told.{TellsMore}
 use Rattle.zerotrie_run.specs.declared.command.Command.TheVariants as commands
 use Rattle.zerotrie_run.proofs.CombinedEnds.{combine_end, combine_ends}
-use Rattle.zerotrie_run.proofs.CombinedLemmas.{cause_names}
 use Rattle.zerotrie_run.proofs.CombinedTold.{combine_told}
 use Rattle.zerotrie_run.proofs.NoteLemmas.{was_refused}
 use Rattle.zerotrie_run.proofs.ToldLemmas.{end_not_closed, not_open}

@@ -1,4 +1,4 @@
-use Rattle.std.proofs.Common.{◌≡◌, ℕ, Bool, true, false, suc, drop}
+use Rattle.std.proofs.Common.{◌≡◌, drop}
 use Rattle.zerotrie_run.specs.Runs.{streams}
 use Rattle.zerotrie_run.proofs.StreamLemmas.{seen}
 use Rattle.zerotrie_run.proofs.command.have_two_streams.Given as goal

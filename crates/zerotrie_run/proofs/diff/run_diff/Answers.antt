@@ -3,8 +3,7 @@ use Rattle.std.specs.Io.Buffered.{writer_contents}
 use Rattle.zerotrie_run.specs.Diffs.{EndsDiff}
 use Rattle.zerotrie_run.specs.Runs.{ask_refusal}
 use Rattle.zerotrie_run.specs.declared.command.Command.TheVariants as commands
-use Rattle.zerotrie_run.specs.declared.command.Question.TheVariants.{Verify}
-use Rattle.zerotrie_run.proofs.DiffLemmas.{diff_ends, told_of, never}
+use Rattle.zerotrie_run.proofs.DiffLemmas.{a_report, as_asked, diff_ends, told_of, never}
 use Rattle.zerotrie_run.proofs.ToldLemmas.{ask_told, ask_end, not_open, end_unread, end_unwritten, end_closed, end_not_closed, end_pipe_closed}
 use Rattle.zerotrie_run.proofs.NoteLemmas.{was_refused}
 use Rattle.zerotrie_run.proofs.diff.run_diff.Goals as goal
@@ -47,8 +46,8 @@ returns-in-Err g c =
       told = λ ok.
           let told = c.end.ensures.told ok in
           told_of diff file input files (contents c.args.messages.now.inner) (contents c.end.new.messages.inner) result why.0
-          (ask_told (commands.Ask file Verify) file Verify input files (contents c.args.messages.now.inner) (contents c.compare.new.messages.inner) (contents c.end.new.messages.inner) (read || unread) (write || unwritten) (closed || gone) e status
-          result c.ask_text.result refl why.1 is c.ask_text.ensures (c.in-Err.ensures.tells told.0).1 c.end.ensures.status told.1);
+          (ask_told (commands.Ask file a_report) file a_report input files (contents c.args.messages.now.inner) (contents c.compare.new.messages.inner) (contents c.end.new.messages.inner) (read || unread) (write || unwritten) (closed || gone) e status
+          result c.ask_text.result refl (as_asked file input files e why.1) is c.ask_text.ensures (c.in-Err.ensures.tells told.0).1 c.end.ensures.status told.1);
       notes = not_open (read || unread) (write || unwritten) (closed || gone) (ask_refusal e) result end;
       quiet = λ steps none. not_open (read || unread) (write || unwritten) (closed || gone) (ask_refusal e) result end;
       usage = λ twice. absurd (never c.are_one_stream.result c.if-are_one_stream.false (c.are_one_stream.ensures.1 twice));

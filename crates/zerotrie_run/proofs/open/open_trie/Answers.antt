@@ -1,3 +1,4 @@
+use Rattle.std.proofs.Common.{rules}
 use Rattle.zerotrie_run.proofs.FileLemmas.{index_unasked}
 use Rattle.zerotrie_run.proofs.open.open_trie.Goals as goal
 
