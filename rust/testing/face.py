@@ -26,6 +26,7 @@ INSTEAD = {
     "the calls of cursors": "CursorOp CursorAnswer SearchBelow walk",
     "constants, which the compiler evaluates": "from_sorted_u8_tuples_with_stack from_sorted_str_tuples_with_stack "
     "try_from_sorted_slice_with_const_builder try_from_sorted_slice_sized",
+    "`SealedIndex`, which reads the table": "is_index_number open_table table_len",
     "`as_bytes`, for programs over the bytes themselves": "ZeroTrieBuilderOptions nodes crc32c begins_sealed header_of bytes hash_of build build_all build_sorted",
 }
 

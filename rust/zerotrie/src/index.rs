@@ -413,7 +413,7 @@ impl<S: ReadAt> ReadAt for File<S> {
 /// # Ok::<(), zerotrie::index::ZeroIndexBuildError>(())
 /// ```
 ///
-/// Damage elsewhere in the file isn't looked for: [`ZeroIndex::open`] finds it.
+/// Damage elsewhere in the file changes no answer; [`ZeroIndex::open`] finds it.
 pub struct SealedIndex<S>(zerotrie_index::SealedIndex<File<S>>);
 
 impl<S: ReadAt> SealedIndex<S> {
@@ -425,5 +425,10 @@ impl<S: ReadAt> SealedIndex<S> {
     /// Returns the value of a key.
     pub fn get<K: AsRef<[u8]>>(&mut self, key: K) -> Result<Option<usize>, FileError<S::Error>> {
         read(zerotrie_index::get_at(Global, &mut self.0, key.as_ref()))
+    }
+
+    /// Returns the number of bytes of the index.
+    pub fn index_len(&self) -> usize {
+        self.0.index_len()
     }
 }
