@@ -2,8 +2,11 @@
 import functools
 import re
 
+import sources
 from sources import LINES, ROOT
 
+HANDED = re.compile(r"^pub use Rattle\.(\w+)\.specs\.([\w.]+)(?: as (\w+))?$", re.M)
+HIDDEN = ("invariant", "view")  # parts of a type that speak of its private fields
 USE = re.compile(r"^\s*(?:ghost )?(?:pub )?use (Rattle\.[\w.«»]+?)(?:\.\{([^}]*)\})?(?: as (\w+))?;?$", re.M)
 HEAD = re.compile(r"\s*((?:(?:abbrev|unfoldable|opaque|pub|data|record|syntax|rec) )*)([^\s:({]+)(?: [({].*?)? :( |$)")
 WORD = re.compile(r"[A-Za-z_][\w-]*")
@@ -17,9 +20,8 @@ def spec_file(crate, modules):
     if file.exists():
         return file
     lib = specs / "Lib.antt"
-    names = re.findall(r"^pub use Rattle\.(\w+)\.specs\.([\w.]+)$", lib.read_text(), re.M) if lib.exists() else []
-    for other, path in names:
-        if path.split(".")[-1] == modules[0] and other in LINES:
+    for other, path, alias in HANDED.findall(lib.read_text()) if lib.exists() else []:
+        if (alias or path.split(".")[-1]) == modules[0] and other in LINES:
             return spec_file(other, (*path.split("."), *modules[1:]))
     return None
 
@@ -95,3 +97,24 @@ def cited(files):
                 found.add(where[0])
                 left.append(where[0])
     return sorted(found)
+
+
+def handed_on():
+    """Returns the files of definitions that `Rattle.zerotrie.specs` has or hands on, with those of their folders."""
+    specs = ROOT / "crates" / "zerotrie" / "specs"
+    files = [*specs.glob("*.antt"), *(spec_file(crate, tuple(path.split("."))) for crate, path, _ in HANDED.findall((specs / "Lib.antt").read_text()))]
+    return {below for file in files for below in (file, *file.with_suffix("").rglob("*.antt"))}
+
+
+def not_handed_on():
+    """Yields the definitions that clauses of the public calls of zerotrie cite and that `Rattle.zerotrie.specs` does not hand on."""
+    handed, said = handed_on(), set()
+    impls = sources.all_impls()
+    for _, name, item in sources.of_zerotrie():
+        methods = [(it.file, method) for it in impls if it.type == name for method in it.methods if method.is_public or it.trait and method.name not in HIDDEN]
+        for file, call in [(item.file, item), *((item.file, part) for part in item.parts if item.kind == "trait"), *methods]:
+            texts = [text for _, _, text in call.clauses] + [call.text] * (call.kind == "ghost")
+            found = [meaning(file, word) for text in texts for word in WORD.findall(text)]
+            new = {it[0] for it in found if isinstance(it, tuple) and it[0] != "item"} - handed - said
+            yield from (f"{call.name} of {name} cites {it.relative_to(ROOT)}, which Rattle.zerotrie.specs does not hand on" for it in sorted(new))
+            said |= new

@@ -3,20 +3,27 @@ pub use Rattle.zerotrie_base.specs.Refusals
 pub use Rattle.zerotrie_base.specs.Caches
 pub use Rattle.zerotrie_base.specs.CacheCalls
 pub use Rattle.zerotrie_core.specs.Kind
+pub use Rattle.zerotrie_core.specs.Kinds
 pub use Rattle.zerotrie_core.specs.Options
 pub use Rattle.zerotrie_core.specs.Numbers
 pub use Rattle.zerotrie_core.specs.Maps
 pub use Rattle.zerotrie_core.specs.Branches
+pub use Rattle.zerotrie_core.specs.ByteSets
 pub use Rattle.zerotrie_core.specs.Texts
+pub use Rattle.zerotrie_base.specs.reader.Reading
+pub use Rattle.zerotrie_core.specs.reader.Going
 pub use Rattle.zerotrie_core.specs.Cursors
 pub use Rattle.zerotrie_core.specs.Machine
 pub use Rattle.zerotrie_core.specs.Places
+pub use Rattle.zerotrie_core.specs.CursorPlaces
 pub use Rattle.zerotrie_core.specs.Listings
+pub use Rattle.zerotrie_core.specs.listing
 pub use Rattle.zerotrie_core.specs.Skips
 pub use Rattle.zerotrie_core.specs.Parts
 pub use Rattle.zerotrie_core.specs.Values
 pub use Rattle.zerotrie_core.specs.Prefixes
 pub use Rattle.zerotrie_core.specs.Borders
+pub use Rattle.zerotrie_core.specs.Nodewise
 pub use Rattle.zerotrie_core.specs.Canonical
 pub use Rattle.zerotrie_core.specs.Bounds
 pub use Rattle.zerotrie_core.specs.Fits
@@ -32,6 +39,9 @@ pub use Rattle.zerotrie_core.specs.Shapes
 pub use Rattle.zerotrie_core.specs.Nodes
 pub use Rattle.zerotrie_core.specs.Faults
 pub use Rattle.zerotrie_core.specs.walk
+pub use Rattle.zerotrie_build.specs.Items as ItemSlices
+pub use Rattle.zerotrie_build.specs.Ranges
+pub use Rattle.zerotrie_build.specs.Zeros
 pub use Rattle.zerotrie_build.specs.Refused
 pub use Rattle.zerotrie_build.specs.Clean
 pub use Rattle.zerotrie_any.specs.Order

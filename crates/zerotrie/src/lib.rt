@@ -78,8 +78,9 @@ pub mod cursor {
 }
 
 /// The same over plain bytes, for any kind: builds into bytes, into a borrowed buffer and by a
-/// builder, and their length beforehand; look-ups, one or many at once; validation, and the first
-/// fault; counts, iterators and nodes; cursors and walks; tagged bytes and JSON.
+/// builder, their length beforehand, and the kind for pairs; look-ups, one or many at once;
+/// validation, and the first fault; counts, iterators and nodes; cursors and walks; tagged bytes and
+/// JSON.
 ///
 /// ```
 /// let items = [("ad", 22), ("adef", 33)];
@@ -93,15 +94,16 @@ pub mod cursor {
 pub mod bytes {
     pub use zerotrie_any::{
         bytes_from_iter, bytes_from_json, bytes_from_map, bytes_from_slice,
-        bytes_from_unsorted_slice, json_of, map_of, tagged, untagged, walk,
+        bytes_from_unsorted_slice, json_of, kind_for_pairs, map_of, tagged, untagged, walk,
     };
+    pub use zerotrie_base::{TriePair, are_ascii, least_width};
     pub use zerotrie_build::{
         ByteSliceWithIndices, TrieBuilderStore, ZeroTrieBuilder, ZeroTrieBuilderConst,
         bytes_within, bytes_within_as, encoded_len, fill_from_end, fill_from_end_as,
     };
     pub use zerotrie_core::{
         Branch, ByteSet, CursorPlace, Fault, FaultCause, LookUps, Node, Nodes, Part, Reached,
-        SpanCursor, Visit, count_pairs, first_fault, first_key_of, get, get_counted,
+        SpanCursor, Visit, count_pairs, first_fault, first_key_of, first_node, get, get_counted,
         is_well_formed, is_well_formed_counted, longest_prefix, longest_prefix_at, plain_encode,
         probe, read_varint_meta2, read_varint_meta3, step, take_value, write_varint_meta2,
         write_varint_meta3,
