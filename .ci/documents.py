@@ -23,10 +23,10 @@ import sources
 
 QUOTING = ["README.md", "docs/CALLING.md"]
 SIGNATURES = "docs/SIGNATURES.md"
-TOGETHER = 27960  # words of all pages
+TOGETHER = 28060  # words of all pages
 # How many words a page may have: words have a letter or a digit, so the bars of a table are none. CHANGELOG.md grows.
 LIMITS = {
-    "README.md": 810,
+    "README.md": 820,
     "CONTRIBUTING.md": 1640,
     "bindings/README.md": 330,
     "bindings/python/README.md": 120,
@@ -41,11 +41,11 @@ LIMITS = {
     "docs/C.md": 790,
     "docs/CALLING.md": 2150,
     "docs/CPP.md": 800,
-    "docs/DECISIONS.md": 1672,
-    "docs/DIFFERENCES.md": 1300,
+    "docs/DECISIONS.md": 1740,
+    "docs/DIFFERENCES.md": 1310,
     "docs/FORMAT.md": 4290,
     "docs/JAVASCRIPT.md": 550,
-    "docs/MODEL.md": 1580,
+    "docs/MODEL.md": 1630,
     "docs/PYTHON.md": 845,
     "docs/README.md": 190,
     "docs/RUST.md": 820,
@@ -79,11 +79,10 @@ RETIRED = {
 }
 # Those that definitions give a meaning of their own, such as `Refused`, `Told` and `Route`.
 DEFINED = ["routes?", "means? no map", "tells?|told", "(is|are|was|were) refused", "answers? (the|a|an|what|no|nothing|as|its|all|by|it)"]
-# The definitions that a reader has to judge, and what comes before their number of lines.
-JUDGED = ["Kind", "Numbers", "Branches", "Texts", "Maps", "Fits", "Causes", "Routes"]
-JUDGING = {"README.md": "[eight files]", "docs/MODEL.md": "To judge the definitions"}
+# What comes before the number of lines of the definitions that a reader has to judge.
+JUDGING = {"README.md": "[twelve files]", "docs/MODEL.md": "To judge the definitions"}
 # Names of others that pages speak of.
-ELSEWHERE = {"BinaryHeap", "O_TMPFILE", "ZeroFrom", "get_or_panic", "heapq", "nlargest", "partial_sort_copy"}
+ELSEWHERE = {"BinaryHeap", "O_TMPFILE", "ZeroFrom", "atbs_swap_ranges", "get_or_panic", "heapq", "nlargest", "partial_sort_copy"}
 
 
 def prose(text):
@@ -245,10 +244,16 @@ def planted():
 
 
 def judged():
-    """Returns how many lines the definitions to judge have, without comments, imports and empty lines."""
-    files = [ROOT / f"crates/zerotrie_base/specs/{name}.antt" for name in JUDGED]
-    lines = [line.strip() for file in files for line in file.read_text().splitlines()]
-    return sum(bool(it) and not it.startswith(("--", "use ", "pub use ")) for it in lines)
+    """Returns the definitions that a reader has to judge, which are what a build's promise cites, each with its number of lines, without comments, imports
+    and empty lines."""
+    found, left = {}, ["Routes"]
+    while left:
+        name = left.pop()
+        text = (ROOT / f"crates/zerotrie_base/specs/{name}.antt").read_text()
+        lines = [line.strip() for line in text.splitlines()]
+        found[name] = sum(bool(it) and not it.startswith(("--", "use ", "pub use ")) for it in lines)
+        left += set(re.findall(r"^use Rattle\.zerotrie_base\.specs\.([A-Z]\w*)\.", text, re.M)) - {*found, *left}
+    return found
 
 
 def wrong_figures():
@@ -257,10 +262,12 @@ def wrong_figures():
     said = re.search(r"over (\d+) are planted", text)
     if not said or not 0 < planted() - int(said[1]) <= 150:
         yield f"README.md: {planted()} mistakes are planted"
-    for page in ("README.md", "docs/MODEL.md"):
-        said = re.search(r"(\d+)\s+lines", (ROOT / page).read_text().split(JUDGING[page])[1])
-        if not said or int(said[1]) != round(judged(), -1):
-            yield f"{page}: the definitions to judge have {judged()} lines"
+    lines = sum(judged().values())
+    said = {page: (ROOT / page).read_text().partition(before)[2].partition(" lines")[0] for page, before in JUDGING.items()}
+    for page, text in said.items():
+        if not re.search(rf"\b{round(lines, -1)}$", text):
+            yield f"{page}: the {len(judged())} definitions to judge have {lines} lines"
+    yield from (f"docs/MODEL.md: {name} is to be judged, too" for name in judged() if f"`{name}`" not in said["docs/MODEL.md"])
 
 
 def words_in(page):
@@ -287,7 +294,7 @@ def main():
     listed = subprocess.run(["git", "ls-files", "*.md"], cwd=ROOT, capture_output=True, text=True, check=True).stdout.split()
     pages = [it for it in listed if (ROOT / it).exists()]
     if sys.argv[1:] == ["--figures"]:
-        sys.exit(print(f"{planted()} planted mistakes, {judged()} lines in {len(JUDGED)} files of definitions to judge"))
+        sys.exit(print(f"{planted()} planted mistakes, {sum(judged().values())} lines in {len(judged())} files of definitions to judge"))
     wrong = [*misquoted(), *not_planted(), *wrong_figures(), *dead_links(pages), *misplaced(), *retired(pages), *unknown_names(it for it in pages if it != "CHANGELOG.md"), *too_long(pages)]
     print("\n".join([*wrong, f"{len(pages)} pages: {len(wrong)} faults in quotes, links, words and lengths"]))
     sys.exit(1 if wrong else 0)
