@@ -1,5 +1,6 @@
 """What proofs alone read is left out."""
 import errors
+from tokens import FUNCTION
 
 KEPT_ATTRIBUTES = {"inline", "repr", "macro_export", "unsafe", "test", "cfg"}
 LEFT_OUT_ATTRIBUTES = {"tactic", "cycle", "rattlefmt"}
@@ -22,6 +23,17 @@ def ghosts_and_clauses(source):
             source.cut_item(at, at + 1)
         if token.kind == "clause" and source.word(body) == "{" and head(source, at) != "where":
             source.put(at, body, " ", "space")
+
+
+def same_functions(source):
+    """Stops if the text has a line with a function that is not left, as where a ghost ends too late, or the other way round."""
+    written = [(it.start(1), it[1]) for it in FUNCTION.finditer(source.text)]
+    left = {source.tokens[source.after(at)].place: name for at, name in source.functions()}
+    for place, name in written:
+        if left.pop(place, None) != name:
+            source.fail(place, "a function in a ghost or a clause")
+    for place in left:
+        source.fail(place, "a function that begins no line")
 
 
 def head(source, at):
@@ -96,7 +108,7 @@ def imports(source):
 
 
 def erase(source):
-    for step in (ghosts_and_clauses, models, attributes, imports, bounds):
+    for step in (ghosts_and_clauses, same_functions, models, attributes, imports, bounds):
         step(source)
     for at in source.each("Model"):
         source.refuse(at, "Model of another form")

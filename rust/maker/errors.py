@@ -54,7 +54,7 @@ def head(source, item):
 def one_text(source, at, item, body, end):
     """Returns what writes the text of a type that has one. A struct has its fields in it."""
     text, _ = note(source, at)
-    names = re.findall(r"^    (?:pub )?(\w+):", source.part(body, end), re.M) if source.word(item) == "struct" else []
+    names = re.findall(r"^    (?:pub(?:\([^)]*\))? )?(\w+):", source.part(body, end), re.M) if source.word(item) == "struct" else []
     return f"        let Self {{ {', '.join(names)} }} = self;\n" * bool(names) + f"        write!(f, {text})"
 
 
@@ -62,7 +62,7 @@ def note(source, at):
     """Returns what `#[error(..)]` at `at` says, and the number of the token behind it."""
     bracket = source.match(at, "#[error")
     text = source.part(bracket + 1, source.close(bracket)).strip() if bracket else ""
-    if not re.fullmatch(r'transparent|"([^"\\]|\\.)*"(, self\.\w+\(\))?', text):
+    if not re.fullmatch(r'transparent|"([^"\\]|\\.)*"(, self\.\w+\(\))?', text) or "{{" in text or "}}" in text:
         source.refuse(at, "an error's text of another form")
     return text, source.after(source.after(source.close(bracket)))
 

@@ -1,4 +1,5 @@
 """What has another name in plain Rust, or another form."""
+import re
 
 # a path that begins with one of these: what it begins with instead
 LIBRARIES = {
@@ -28,6 +29,7 @@ OPERATORS = {"if", "while", "return", "match", "in", "else", "let"}
 
 def rename(source, crate, crates, root="crate"):
     clones(source)
+    own_methods(source)
     formats(source)
     strings(source, root)
     methods(source)
@@ -61,6 +63,14 @@ def strings(source, root):
     for at in source.each("String"):
         if any(source.match(at, it) for it in STRING_FUNCTIONS) and not follows_path(source, at):
             source.put(at, at + 1, f"{root}::rstd::string")
+
+
+def own_methods(source):
+    """Stops at a method of these names: calls of it would change as those of Rust's own types do, and lose its error."""
+    for at, name in source.functions():
+        heads = [it for it in range(at, source.find(at, "{", ";")) if source.word(it) == "("]
+        if name in METHODS and any(re.match(r"(&('\w+ )?)?(mut )?self\b", source.inside(it)) for it in heads):
+            source.refuse(at, f"an own method {name}")
 
 
 def methods(source):

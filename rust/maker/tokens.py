@@ -12,7 +12,11 @@ TOKEN = re.compile(r"""
 GHOST = re.compile(r"(?:pub\s+)?ghost\s+(?:use\s[^;]*;|\w+\s*[:=]\s*(?=\{))")
 DEFAULT = re.compile(r"\s*=\s*(?=\{)")  # what a ghost of a trait is if an impl says nothing
 CLAUSE = re.compile(r"(?:requires|ensures)\*?(?:\s+\w+)?\s*(?=\{)")
-ANTT = re.compile(r'--[^\n]*|"(?:\\.|[^"\\])*"|[{}]', re.S)
+# a name of antt may end in `'`, which begins no character
+ANTT = re.compile(r"""--[^\n]*|"(?:\\.|[^"\\])*"|(?<![\w'])'(?:\\(?:u\{[^}]*\}|x..|.)|[^'\\])'|[{}]""", re.S)
+# a function as a line begins it
+HEAD = r'(?:#\[[^\n]*\] )?(?:pub(?:\([^)]*\))? )?(?:const |unsafe |extern "C" )*'
+FUNCTION = re.compile(rf"^ *{HEAD}fn (\$?\w+)", re.M)
 BLANK = ("space", "doc", "comment", "gone")
 CLOSING = {"(": ")", "[": "]", "{": "}"}
 
@@ -60,7 +64,7 @@ class Source:
         return Token(kind, self.text[place:end], place)
 
     def end_of_block(self, start):
-        """Returns where a block of antt ends: braces balance outside of strings and comments."""
+        """Returns where a block of antt ends: braces balance outside of strings, characters and comments."""
         depth = 0
         for part in ANTT.finditer(self.text, start):
             depth += {"{": 1, "}": -1}.get(part[0], 0)
@@ -70,7 +74,7 @@ class Source:
 
     def fail(self, place, why):
         line = self.text.count("\n", 0, place) + 1
-        raise Refused(f"{self.name}:{line}: {why}: {self.text[place:].splitlines()[0][:60]}")
+        raise Refused(f"{self.name}:{line}: {why}: {self.text[place:].split(chr(10))[0][:60]}")
 
     def refuse(self, at, why):
         self.fail(self.tokens[min(at, len(self.tokens) - 1)].place, why)
@@ -95,6 +99,13 @@ class Source:
         for at in range(len(self.tokens)):
             if self.word(at) in words:
                 yield at
+
+    def functions(self):
+        """Yields each function that is left: the number of `fn`, and its name."""
+        for at in self.each("fn"):
+            name = self.after(at)
+            if self.word(name) != "(":
+                yield at, self.word(name) + (self.word(self.after(name)) if self.word(name) == "$" else "")
 
     def find(self, at, *words):
         """Returns the number of the first token from `at` on that is one of these words."""

@@ -1,11 +1,11 @@
 #!/usr/bin/env python3
-"""Tries that the maker stops at what it does not know, and names the line."""
+"""Tries that the maker stops at what it does not know, and names the line, and that it keeps what looks like a proof and is none."""
 import pathlib
 import sys
 
 sys.dont_write_bytecode = True
 sys.path.insert(0, str(pathlib.Path(__file__).resolve().parent.parent / "maker"))
-from erase import erase
+from erase import erase, layout
 from exports import exports
 from rename import rename, runtimes
 from tokens import Refused, Source
@@ -34,11 +34,36 @@ UNKNOWN = {
     "use crate as c;": 1,
     '#[unsafe(no_mangle)]\npub extern "C" fn f(x: f64) -> u32 {\n    0\n}': 2,
     "#[unsafe(no_mangle)]\npub fn f(x: u64) {}": 1,
+    # a block that ends elsewhere would take a function with it
+    "fn f()\n    requires { c = '{ }\n{}\n\nfn g() {}\n": 2,
+    "fn f()\n    ensures { c = x'{' }\n{\n    a();\n}\nfn g()\n    ensures { c = x'}' }\n{}": 6,
+    'ghost x = { " };\n\nfn f() {}\n\nghost y = { " };\n\nfn g() {}\n': 3,
+    "struct A; fn f() {}": 1,
+    # calls of these would lose the error
+    "impl A {\n    fn sort(&mut self) -> Result<(), E> {}\n}": 2,
+    "impl A {\n    fn sort_by_key<K: Ord, F: Fn(&u8) -> K>(&mut self, f: F) -> Result<(), E> {}\n}": 2,
+    "impl A {\n    pub fn to_ascii_lowercase(self, x: u8) -> Result<u8, E> {}\n}": 2,
+    "impl A {\n    fn clone(&self) -> Result<Self, E> {}\n}": 2,
+    "trait A {\n    fn collect<'a>(&'a self, x: u8) -> Result<u8, E>;\n}": 2,
+    "impl A {\n    fn push_str(mut self, x: &str) -> Result<Self, E> {}\n}": 2,
+    # they would be printed as they are
+    '#[derive(Error)]\npub enum A {\n    #[error("write {{0}} for {0}")]\n    B(u8),\n}\n': 3,
+    '#[derive(Error)]\n#[error("a }} b")]\npub struct A;\n': 2,
+}
+BODIES = "fn f() {\n    a();\n}\n\nfn g() {\n    b();\n}\n"
+# a source whose clauses have characters, and what is made of it
+KEPT = {
+    "fn f()\n    requires { c = '%s' }\n{\n    a();\n}\n\nfn g()\n    ensures { c = '%s' }\n{\n    b();\n}\n" % them: BODIES
+    for them in [("{", "}"), ('"', '"'), ("}", "{"), ("\\u{7b}", "\\x7d"), ("\\'", "{"), ("-", "\\\\")]
+}
+KEPT |= {
+    "fn f()\n    requires { x' = '{' → y'' '}' = f' x }\n{\n    a();\n}\n": "fn f() {\n    a();\n}\n",
+    '#[derive(Error)]\n#[error("a", self.n())]\npub struct A {\n    pub(crate) x: u8,\n    pub y: u8,\n}\n': "let Self { x, y } = self;",
 }
 
 
-def line_of_stop(text):
-    """Returns the line that the maker stops at, or nothing if it takes the source."""
+def made(text):
+    """Returns what the maker makes of a source, or the line that it stops at."""
     try:
         source = Source(text, "a.rt")
         erase(source)
@@ -47,10 +72,11 @@ def line_of_stop(text):
         rename(source, "a", ["a", "b"])
     except Refused as why:
         return int(str(why).split(":")[1])
-    return None
+    return layout(source)
 
 
-wrong = {text: line_of_stop(text) for text, line in UNKNOWN.items() if line_of_stop(text) != line}
+wrong = {text: made(text) for text, line in UNKNOWN.items() if made(text) != line}
+wrong |= {text: made(text) for text, kept in KEPT.items() if kept not in str(made(text))}
 if wrong:
-    sys.exit("\n".join(f"stops at {line}:\n{text}" for text, line in wrong.items()))
-print(f"the maker stops at each of {len(UNKNOWN)} unknown forms")
+    sys.exit("\n".join(f"the maker makes {it}\nof {text}" for text, it in wrong.items()))
+print(f"the maker stops at each of {len(UNKNOWN)} unknown forms, and keeps {len(KEPT)} that look like others")

@@ -68,7 +68,7 @@ pub mod zerotrie_sets;
 
 pub use any::{Trie, ZeroTrie};
 pub use listing::{
-    Matches, Nearest, NearestPairs, Pairs, Reversed, Sorted, SortedMatches, SortedSearch, Values, ZeroTrieIterator, ZeroTrieKeys, ZeroTrieStringIterator, ZeroTrieStringKeys,
+    Matches, Nearest, NearestPairs, Pairs, Reversed, Sorted, SortedMatches, SortedPairs, SortedSearch, Values, ZeroTrieIterator, ZeroTrieKeys, ZeroTrieStringIterator, ZeroTrieStringKeys,
     ZeroTrieValues,
 };
 pub use look_ups::LookUps;

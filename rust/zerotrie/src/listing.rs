@@ -7,7 +7,7 @@ use crate::zerotrie_core::{self, PairStream, TrieKind, ZeroTrieWithOptions};
 use crate::zerotrie_search::{
     Automaton, Fuzzy, KeyRange, ZeroTrieNearest, ZeroTrieSearch, ZeroTrieSorted, ZeroTrieSortedSearch,
 };
-use crate::zerotrie_sets::{Change, Combined, Diff, Keep, Operation, SortedTrie};
+use crate::zerotrie_sets::{Change, Combined, Diff, Keep, Operation};
 use alloc::alloc::{Layout, handle_alloc_error};
 use alloc::string::String;
 use alloc::vec::Vec;
@@ -289,16 +289,46 @@ impl<'a, T: Automaton> Matches<'a, T> {
     }
 }
 
+/// A listing in the order of bytes, as that of `Sorted`.
+pub struct SortedPairs<'a, 'p>(ZeroTrieSorted<'a, 'p>);
+
+impl PairStream for SortedPairs<'_, '_> {
+    fn advance(&mut self) -> Result<bool, AllocError> {
+        self.0.advance()
+    }
+
+    fn key(&self) -> &[u8] {
+        self.0.key()
+    }
+
+    fn value(&self) -> usize {
+        self.0.value()
+    }
+}
+
 /// The pairs of a trie between two bounds, in ascending order of bytes.
-pub type Sorted<'a, 'p> = Pairs<SortedTrie<'a, 'p>>;
+pub type Sorted<'a, 'p> = Pairs<SortedPairs<'a, 'p>>;
 
 impl<'a, 'p> Sorted<'a, 'p> {
     /// Lists the pairs of a trie between two bounds.
     pub(crate) fn of(kind: TrieKind, bytes: &'a [u8], bounds: KeyRange<'p>) -> Self {
-        Pairs::new(SortedTrie::new(allocated(by_kind!(
-            kind,
-            sorted_of::<_>(bytes, bounds)
-        ))))
+        Pairs::new(SortedPairs(allocated(by_kind!(kind, sorted_of::<_>(bytes, bounds)))))
+    }
+
+    /// Passes over the pairs to come whose keys begin with the first `depth` bytes of the current key.
+    ///
+    /// ```
+    /// use zerotrie::ZeroTriePerfectHash;
+    ///
+    /// let trie = ZeroTriePerfectHash::try_from_iter([("in", 1), ("into", 2), ("on", 3)])?;
+    /// let mut pairs = trie.stream_sorted(..);
+    /// pairs.advance();
+    /// pairs.skip_below(2);
+    /// assert_eq!(pairs.next(), Some((b"on".to_vec(), 3)));
+    /// # Ok::<(), zerotrie::ZeroTrieBuildError>(())
+    /// ```
+    pub fn skip_below(&mut self, depth: usize) {
+        allocated(self.pairs.0.skip(depth));
     }
 }
 
@@ -469,10 +499,10 @@ fn nearest_of<K: ZeroTrieWithOptions, T: Fuzzy>(
 }
 
 /// What is made of two tries, in the order of bytes.
-pub type Combination<'a> = Pairs<Combined<SortedTrie<'a, 'static>, SortedTrie<'a, 'static>>>;
+pub type Combination<'a> = Pairs<Combined<SortedPairs<'a, 'static>, SortedPairs<'a, 'static>>>;
 
 /// What changed from one trie to another one.
-pub type Difference<'a> = Changes<SortedTrie<'a, 'static>, SortedTrie<'a, 'static>>;
+pub type Difference<'a> = Changes<SortedPairs<'a, 'static>, SortedPairs<'a, 'static>>;
 
 /// What changed from one listing to another, in the order of bytes.
 ///

@@ -26,9 +26,7 @@
 
 pub use crate::listing::{Changes, Combination, Difference};
 pub use crate::zerotrie_core::PairStream;
-pub use crate::zerotrie_sets::{
-    Change, Combined, Keep, Operation, Rule, RuleError, Selection, SortedSlice, SortedTrie,
-};
+pub use crate::zerotrie_sets::{Change, Combined, Keep, Operation, Rule, RuleError, Selection, SortedSlice};
 
 use crate::Pairs;
 use crate::listing::allocated;

@@ -1,5 +1,5 @@
 //! Comparisons of sixteen bytes, whose results are bits: by SSE2 on x86-64; elsewhere, and with the feature `portable`, in safe code,
-//! by which look-ups take a fifth longer there. This is the only file with unsafe code.
+//! by which look-ups take a fifth longer there. This file and a cast of `trie.rs` alone have unsafe code.
 pub use machine::{eq, ge};
 
 #[cfg(all(target_arch = "x86_64", not(feature = "portable")))]

@@ -46,6 +46,7 @@
 //! `Tables` on the records of dense tables. The crate `zerotrie_uses` has callers to copy. `laws`
 //! has the laws of encodings and maps, and `json_keeps_the_pairs` that of JSON.
 #![forbid(unsafe_code)]
+#![deny(unused_must_use)]
 #![allow(dead_code, unused_imports, unused_variables)]
 
 use crate::rstd::prelude::*;

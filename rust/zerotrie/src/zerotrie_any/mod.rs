@@ -3,6 +3,7 @@
 //! ordered map of a trie, walks of a cursor, tagged bytes and JSON values. And `ZeroTrie`, a trie
 //! whose kind is a value at run time.
 #![forbid(unsafe_code)]
+#![deny(unused_must_use)]
 #![allow(dead_code, unused_imports, unused_variables)]
 
 use crate::rstd::prelude::*;

@@ -1,6 +1,7 @@
 // Made from crates/zerotrie_ascii/src/lib.rt by rust/make: edit that.
 //! Tries over ASCII keys, whose look-ups keep or ignore case.
 #![forbid(unsafe_code)]
+#![deny(unused_must_use)]
 #![allow(dead_code, unused_imports, unused_variables)]
 
 use crate::rstd::prelude::*;

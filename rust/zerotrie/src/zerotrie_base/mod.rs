@@ -2,6 +2,7 @@
 //! What readers and builders share: the kinds, the grammar of the bytes with its laws, numbers,
 //! errors, stores, keys, and the perfect hash of bytes.
 #![forbid(unsafe_code)]
+#![deny(unused_must_use)]
 #![allow(dead_code, unused_imports, unused_variables)]
 
 use crate::rstd::prelude::*;

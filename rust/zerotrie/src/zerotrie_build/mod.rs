@@ -4,6 +4,7 @@
 //! `VecDeque` takes over. `ZeroTrieBuilderConst` and `fill_from_end` do not allocate: they write
 //! them from the last to the first into an array or a buffer.
 #![forbid(unsafe_code)]
+#![deny(unused_must_use)]
 #![allow(dead_code, unused_imports, unused_variables)]
 
 use crate::rstd::prelude::*;

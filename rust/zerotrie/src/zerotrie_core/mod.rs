@@ -2,6 +2,7 @@
 //! What reads tries in place: look-ups, listings, cursors and validation, over plain bytes, and for
 //! every type of trie by the trait `Trie`. Also the plain encoder.
 #![forbid(unsafe_code)]
+#![deny(unused_must_use)]
 #![allow(dead_code, unused_imports, unused_variables)]
 
 use crate::rstd::prelude::*;

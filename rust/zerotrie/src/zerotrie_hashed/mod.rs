@@ -1,6 +1,7 @@
 // Made from crates/zerotrie_hashed/src/lib.rt by rust/make: edit that.
 //! Tries over keys of any bytes, whose wide branches have perfect hashes.
 #![forbid(unsafe_code)]
+#![deny(unused_must_use)]
 #![allow(dead_code, unused_imports, unused_variables)]
 
 use crate::rstd::prelude::*;

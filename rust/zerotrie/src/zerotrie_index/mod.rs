@@ -1,6 +1,7 @@
 // Made from crates/zerotrie_index/src/lib.rt by rust/make: edit that.
 //! An index: flat bytes that answer exact look-ups in a map from byte strings to numbers.
 #![forbid(unsafe_code)]
+#![deny(unused_must_use)]
 #![allow(dead_code, unused_imports, unused_variables)]
 
 use crate::rstd::prelude::*;

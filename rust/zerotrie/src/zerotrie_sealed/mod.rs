@@ -2,6 +2,7 @@
 //! Sealed files: a trie or an index behind a header with its number, its length and a checksum, so
 //! that damage is found.
 #![forbid(unsafe_code)]
+#![deny(unused_must_use)]
 #![allow(dead_code, unused_imports, unused_variables)]
 
 use crate::rstd::prelude::*;

@@ -1,6 +1,7 @@
 // Made from crates/zerotrie_search/src/lib.rt by rust/make: edit that.
 //! Searches: the pairs of a trie whose keys an automaton accepts.
 #![forbid(unsafe_code)]
+#![deny(unused_must_use)]
 #![allow(dead_code, unused_imports, unused_variables)]
 
 use crate::rstd::prelude::*;

@@ -1,6 +1,7 @@
 // Made from crates/zerotrie_sets/src/lib.rt by rust/make: edit that.
 //! Streams of pairs in the order of bytes, merged: unions, intersections, differences and changes.
 #![forbid(unsafe_code)]
+#![deny(unused_must_use)]
 #![allow(dead_code, unused_imports, unused_variables)]
 
 use crate::rstd::prelude::*;
