@@ -6,8 +6,8 @@ a block that begins with `fn`, which is shortened as docs/CALLING.md says: `kind
 and `..` is anything. A line `FILE:NUMBER: OLD  ->  NEW` must be a planted mistake of zerotrie_base. Each link of a page must lead to a
 file that is there, and to a heading of it. The pages, the doc comments of the library's public items and the comments of definitions must be free of
 RETIRED, words for which every Rust programmer has another one. A name in code marks must be one of the sources, of the page's examples,
-or of ELSEWHERE. The words of docs/MODEL.md's tables must be in the files that their rows name. No page may have more words than LIMITS say, and all together no more than TOGETHER: when a page gets shorter,
-so does its limit. docs/SIGNATURES.md, which docs/make writes, does not count. The figures of README.md on planted mistakes and on the definitions to judge
+or of ELSEWHERE. The words of docs/MODEL.md's tables must be in the files that their rows name. No page may have more words than LIMITS say, and all of these no more than TOGETHER: when a page gets shorter,
+so does its limit. Those of UNLIMITED have none. docs/SIGNATURES.md, which docs/make writes, does not count. The figures of README.md on planted mistakes and on the definitions to judge
 must be those of the sources; `python3 .ci/documents.py --figures` prints them.
 """
 import pathlib
@@ -23,7 +23,7 @@ import sources
 
 QUOTING = ["README.md", "docs/CALLING.md"]
 SIGNATURES = "docs/SIGNATURES.md"
-TOGETHER = 28060  # words of all pages
+TOGETHER = 22660  # words of all pages that have a limit
 # How many words a page may have: words have a letter or a digit, so the bars of a table are none. CHANGELOG.md grows.
 LIMITS = {
     "README.md": 820,
@@ -38,17 +38,12 @@ LIMITS = {
     "crates/zerotrie_sets/README.md": 260,
     "crates/zerotrie_tool/README.md": 390,
     "docs/ARCHITECTURE.md": 1290,
-    "docs/C.md": 790,
     "docs/CALLING.md": 2150,
-    "docs/CPP.md": 800,
     "docs/DECISIONS.md": 1740,
     "docs/DIFFERENCES.md": 1310,
     "docs/FORMAT.md": 4290,
-    "docs/JAVASCRIPT.md": 550,
     "docs/MODEL.md": 1630,
-    "docs/PYTHON.md": 845,
     "docs/README.md": 190,
-    "docs/RUST.md": 820,
     "docs/SPEED.md": 1090,
     "docs/speed/fast.md": 540,
     "docs/speed/tables.md": 1340,
@@ -57,6 +52,8 @@ LIMITS = {
     "rust/README.md": 220,
     "rust/zerotrie/README.md": 180,
 }
+# Pages for users of a language are as long as they have to be.
+UNLIMITED = {"CHANGELOG.md", "docs/C.md", "docs/CPP.md", "docs/JAVASCRIPT.md", "docs/PYTHON.md", "docs/RUST.md"}
 # Words that are gone, each with what to write.
 RETIRED = {
     r"takes? (no|the|up|all|more) memory": "allocates, does not allocate",
@@ -278,13 +275,13 @@ def words_in(page):
 
 def too_long(pages):
     """Yields the pages that have too many words, and those that have no limit."""
-    pages = [it for it in pages if it != SIGNATURES]
+    pages = [it for it in pages if it != SIGNATURES and it not in UNLIMITED]
     together = sum(map(words_in, pages))
     if together > TOGETHER:
-        yield f"all pages have {together} words, and their limit is {TOGETHER}"
+        yield f"all pages with a limit have {together} words, and theirs together is {TOGETHER}"
     for page in pages:
         words = words_in(page)
-        if page not in LIMITS and page != "CHANGELOG.md":
+        if page not in LIMITS:
             yield f"{page} has no limit of words in .ci/documents.py"
         elif words > LIMITS.get(page, words):
             yield f"{page} has {words} words, and its limit is {LIMITS[page]}"
