@@ -2,8 +2,9 @@
 along: a libzerotrie.so that lies in the package, or else where bindings/make leaves it or in the
 folder ZEROTRIE_LIB, is installed in the package, which finds it there. If none is for this
 platform, cargo builds one from the sources in plain Rust, which an sdist has in the folder rust,
-and a line says so. The version is that of the file VERSION, and goes into the module
-zerotrie._version. The
+and a line says so. The summary of a package says whether its library is proved, by the file ORIGIN
+that bindings/make or rust/zerotrie_c/make left beside it, which has its checksum. The version is
+that of the file VERSION, and goes into the module zerotrie._version. The
 extension zerotrie/_fast.c, by which single look-ups are fast, is compiled and goes along if a C
 compiler and Python.h are there; else the package does without. `pip install -e .` installs the way
 to this folder alone: the library and the extension are those that bindings/make made, before or
@@ -31,6 +32,12 @@ import zipfile
 HERE = pathlib.Path(__file__).resolve().parent
 EXTENSION = "_fast.abi3.so"
 LIBRARY = "zerotrie/libzerotrie.so"
+#: The file beside a library: what the library is, and the checksums of the files that it is.
+ORIGIN = "ORIGIN"
+PROVED, PLAIN = "proved", "plain Rust"
+#: What the summary says of a library.
+SAID = {PROVED: "that is proved", PLAIN: "of plain Rust, made from proved sources and itself not proved"}
+NOT_KNOWN = "of which it is not known whether it is proved"
 #: The processors of a file in the format ELF, by their numbers.
 PROCESSORS = {62: "linux-x86_64", 183: "linux-aarch64"}
 #: What a wheel serves: with the extension each CPython from 3.9 on, and without it each Python.
@@ -96,8 +103,9 @@ def page():
     return re.sub(r"^#", "##", re.sub(r"\[([^]]*)\]\((?!https:)[^)]*\)", r"\1", text), flags=re.M)
 
 
-def metadata(of="that is proved"):
+def metadata(origin):
     description = (HERE / "README.md").read_text() + "\n" + page()
+    of = SAID.get(origin, NOT_KNOWN)
     return METADATA.format(version=version(), of=of, description=description).encode()
 
 
@@ -164,14 +172,33 @@ def platforms(*binaries):
     )
 
 
+def digest(library):
+    return hashlib.sha256(library).hexdigest()
+
+
+def origin(library, folder):
+    """What the file ORIGIN of a folder says the library is. None if there is no such file, or if it
+    has the checksums of other files.
+    """
+    text = first_of(folder / ORIGIN) or b""
+    what, *rows = text.decode(errors="replace").splitlines() or [""]
+    named = {row.partition(" ")[0] for row in rows}
+    return what if digest(library) in named else None
+
+
 def ready():
-    """The library that is there for this platform, if one is."""
+    """The library that is there for this platform, if one is, and what it is."""
     made = pathlib.Path(os.environ.get("ZEROTRIE_LIB") or HERE.parent / "build")
-    return first_of(HERE / LIBRARY, made / "libzerotrie.so", fits=serves)
+    for place in (HERE / LIBRARY, made / "libzerotrie.so"):
+        library = first_of(place, fits=serves)
+        if library is not None:
+            return library, origin(library, place.parent)
+    return None, PLAIN
 
 
-def package(library):
+def package(library, what):
     """The package with the library, by the names of the files."""
+    said = f"{what}\n{digest(library)}  libzerotrie.so\n".encode() if library and what else None
     modules = [
         str(path.relative_to(HERE))
         for path in sorted((HERE / "zerotrie").glob("*.py"))
@@ -181,6 +208,7 @@ def package(library):
         **read(*modules, "zerotrie/py.typed"),
         "zerotrie/_version.py": version_module(),
         **({LIBRARY: library} if library else {}),
+        **({f"zerotrie/{ORIGIN}": said} if said else {}),
     }
 
 
@@ -226,20 +254,20 @@ def licence():
     return beside("LICENSE", HERE.parent.parent / "LICENSE")
 
 
-def wheel(directory, files, tag, platforms, about=metadata):
-    """Writes the wheel of these files, and what it says of itself. Answers its name. The same files
+def wheel(directory, files, tag, platforms, what):
+    """Writes the wheel of these files, and what its library is. Answers its name. The same files
     make the same bytes.
     """
     folder = f"{name()}.dist-info"
-    files = {**files, f"{folder}/LICENSE": licence(), f"{folder}/METADATA": about()}
+    files = {**files, f"{folder}/LICENSE": licence(), f"{folder}/METADATA": metadata(what)}
     tags = "".join(f"Tag: {tag}-{platform}\n" for platform in platforms)
     files[
         f"{folder}/WHEEL"
     ] = f"Wheel-Version: 1.0\nGenerator: packed\nRoot-Is-Purelib: false\n{tags}".encode()
     rows = []
     for path, data in files.items():
-        digest = base64.urlsafe_b64encode(hashlib.sha256(data).digest()).rstrip(b"=").decode()
-        rows.append(f"{path},sha256={digest},{len(data)}\n")
+        sum_of = base64.urlsafe_b64encode(hashlib.sha256(data).digest()).rstrip(b"=").decode()
+        rows.append(f"{path},sha256={sum_of},{len(data)}\n")
     files[f"{folder}/RECORD"] = "".join([*rows, f"{folder}/RECORD,,\n"]).encode()
     made = f"{name()}-{tag}-{'.'.join(platforms)}.whl"
     with zipfile.ZipFile(pathlib.Path(directory) / made, "w") as packed:
@@ -252,11 +280,12 @@ def wheel(directory, files, tag, platforms, about=metadata):
 
 
 def build_sdist(sdist_directory, config_settings=None):
+    library, what = ready()
     files = {
-        **package(ready()),
+        **package(library, what),
         **{place: file.read_bytes() for place, file in sources().items()},
         **read("packed.py", "pyproject.toml", "README.md", "zerotrie/_fast.c"),
-        "PKG-INFO": metadata(),
+        "PKG-INFO": metadata(what),
         "LICENSE": licence(),
         "PYTHON.md": beside("PYTHON.md", HERE.parent.parent / "docs/PYTHON.md"),
         "VERSION": f"{version()}\n".encode(),
@@ -273,20 +302,21 @@ def build_sdist(sdist_directory, config_settings=None):
 
 
 def build_wheel(wheel_directory, config_settings=None, metadata_directory=None):
-    library, of = ready(), "that is proved"
+    library, what = ready()
     if library is None:
-        library, of = built(), "of plain Rust, made from proved sources and itself not proved"
-    files, tag = package(library), WITHOUT
+        library = built()
+    files, tag = package(library, what), WITHOUT
     with tempfile.TemporaryDirectory() as room:
         fast = extension(room)
     if fast is not None:
         files[f"zerotrie/{EXTENSION}"], tag = fast, WITH_EXTENSION
-    return wheel(wheel_directory, files, tag, platforms(library, fast or b""), lambda: metadata(of))
+    return wheel(wheel_directory, files, tag, platforms(library, fast or b""), what)
 
 
 def build_editable(wheel_directory, config_settings=None, metadata_directory=None):
     (HERE / "zerotrie/_version.py").write_bytes(version_module())
-    return wheel(wheel_directory, {"zerotrie.pth": f"{HERE}\n".encode()}, WITHOUT, ["any"])
+    # another library may come to be there at any time
+    return wheel(wheel_directory, {"zerotrie.pth": f"{HERE}\n".encode()}, WITHOUT, ["any"], None)
 
 
 if __name__ == "__main__":

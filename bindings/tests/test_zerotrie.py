@@ -9,6 +9,7 @@ import ctypes
 import doctest
 import errno
 import gc
+import hashlib
 import importlib
 import inspect
 import io
@@ -614,6 +615,7 @@ with tempfile.TemporaryDirectory() as room:
             "zerotrie/py.typed",
             "zerotrie/_version.py",
             *(f"zerotrie/{path.name}" for path in packed.HERE.glob("zerotrie/*.py")),
+            *({"zerotrie/ORIGIN"} if packed.ready()[1] else ()),
         }
         assert label == f"zerotrie-{zerotrie_version}" and len(files) >= 9
         with tarfile.open(os.path.join(room, packed.build_sdist(room))) as sdist:
@@ -663,6 +665,61 @@ with tempfile.TemporaryDirectory() as room:
                 assert all(f"\n### {name}\n" in told["METADATA"] for name in ("Install", "`DenseTable`", "Building"))
                 assert "](https:" in told["METADATA"] and told["METADATA"].count("](") == told["METADATA"].count("](https:")
                 assert f"\nTag: {tag}-" in told["WHEEL"]
+
+    def summary(of):
+        return f"\nSummary: Maps from byte strings to numbers, read from flat bytes, by a library {of}\n"
+
+    def about(build_it, **patches):
+        """What a wheel or an sdist says that its library is, and its file ORIGIN."""
+        with unittest.mock.patch.multiple(packed, **{"HERE": here, "sources": dict, **patches}), contextlib.redirect_stderr(io.StringIO()):
+            made = os.path.join(room, build_it(room))
+        if made.endswith(".whl"):
+            with zipfile.ZipFile(made) as opened:
+                files = {name: opened.read(name) for name in opened.namelist()}
+        else:
+            with tarfile.open(made) as opened:
+                files = {one.name.partition("/")[2]: opened.extractfile(one).read() for one in opened}
+        said = files.get("PKG-INFO") or files[f"{label}.dist-info/METADATA"]
+        assert said.count(b"\nSummary: ") == 1
+        return said.decode(), files.get("zerotrie/ORIGIN", b"").decode()
+
+    # the summary says that the library is proved only if that is said of this very library
+    plain, unknown = "of plain Rust, made from proved sources and itself not proved", "of which it is not known whether it is proved"
+    the_sum, another = (hashlib.sha256(data).hexdigest() for data in (b"library", b"another library"))
+    for text, of in (
+        (f"proved\n{another}  libzerotrie.a\n{the_sum}  libzerotrie.so.0\n", "that is proved"),
+        (f"plain Rust\n{the_sum}  libzerotrie.so.0\n", plain),
+        (f"not known\n{the_sum}  libzerotrie.so.0\n", unknown),
+        # another library was put there, and nothing is said, or nothing that makes sense
+        (f"proved\n{another}  libzerotrie.so.0\n", unknown),
+        ("proved\n", unknown),
+        ("\udcff", unknown),
+        ("", unknown),
+        (None, unknown),
+    ):
+        for folder, name in ((here / "zerotrie", "libzerotrie.so"), (pathlib.Path(room, "lib"), "libzerotrie.so")):
+            shutil.rmtree(pathlib.Path(room, "lib"), ignore_errors=True)
+            for path in (here / "zerotrie/ORIGIN", here / "zerotrie/libzerotrie.so"):
+                path.unlink(missing_ok=True)
+            folder.mkdir(exist_ok=True)
+            (folder / name).write_bytes(b"library")
+            if text is not None:
+                (folder / "ORIGIN").write_bytes(text.encode(errors="surrogateescape"))
+            with unittest.mock.patch.dict(os.environ, CC="false", ZEROTRIE_LIB=os.path.join(room, "lib")):
+                for build_it in (packed.build_wheel, packed.build_sdist):
+                    said, goes_along = about(build_it, serves=lambda library: True)
+                    assert summary(of) in said, (text, said)
+                    assert ("proved\n" in goes_along) == (of == "that is proved"), goes_along
+                    assert not goes_along or goes_along.endswith(f"\n{the_sum}  libzerotrie.so\n")
+                # an editable package is the way to a folder, to which any library may come
+                assert summary(unknown) in about(packed.build_editable)[0]
+    # without a library cargo builds one, here and where the sdist is installed
+    (here / "zerotrie/ORIGIN").unlink(missing_ok=True)
+    shutil.rmtree(os.path.join(room, "lib"))
+    with unittest.mock.patch.dict(os.environ, CC="false", ZEROTRIE_LIB=os.path.join(room, "lib")):
+        said, goes_along = about(packed.build_wheel, built=lambda: b"library")
+        assert summary(plain) in said and goes_along == f"plain Rust\n{the_sum}  libzerotrie.so\n"
+        assert summary(plain) in about(packed.build_sdist)[0]
 
 
 def read():

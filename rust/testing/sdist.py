@@ -26,5 +26,5 @@ assert "cargo builds one from plain Rust" in said, said
 environment["PYTHONPATH"] = str(ROOM / "installed")
 printed = run(sys.executable, "-c", PROGRAM, cwd=ROOM, env={**environment, "ZEROTRIE_SO": ""})
 assert printed == "(b'bar', 2)\n", printed
-assert "of plain Rust" in next((ROOM / "installed").glob("*.dist-info/METADATA")).read_text()
+assert "\nSummary: Maps from byte strings to numbers, read from flat bytes, by a library of plain Rust" in next((ROOM / "installed").glob("*.dist-info/METADATA")).read_text()
 print("the sdist of Python built its library by cargo, and says so")

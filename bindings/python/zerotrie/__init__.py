@@ -1,5 +1,4 @@
-"""Maps from byte strings to numbers, read from flat bytes: zerotrie for Python, over a library that
-is proved.
+"""Maps from byte strings to numbers, read from flat bytes: zerotrie for Python.
 
     >>> trie = ZeroTrie.build({"foo": 1, "bar": 2, "bazzoo": 3})
     >>> trie["bar"], trie.get("unknown"), trie.longest_prefix("barn")
