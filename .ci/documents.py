@@ -23,10 +23,10 @@ import sources
 
 QUOTING = ["README.md", "docs/CALLING.md"]
 SIGNATURES = "docs/SIGNATURES.md"
-TOGETHER = 22660  # words of all pages that have a limit
+TOGETHER = 24400  # words of all pages that have a limit
 # How many words a page may have: words have a letter or a digit, so the bars of a table are none. CHANGELOG.md grows.
 LIMITS = {
-    "README.md": 820,
+    "README.md": 845,
     "CONTRIBUTING.md": 1640,
     "bindings/README.md": 330,
     "bindings/python/README.md": 120,

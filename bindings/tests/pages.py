@@ -11,7 +11,7 @@ import re
 #: What the pages call beside the library.
 OTHERS = set(
     "BigInt Uint8Array arrayBuffer bool bytes fetch find_package free hash help len malloc "
-    "memoryview readFileSync realloc reversed target_link_libraries what".split()
+    "memoryview readFileSync realloc reversed target_link_libraries what zerotrie_c".split()
 )
 
 
