@@ -7,7 +7,7 @@ from dataclasses import dataclass, field
 ROOT = pathlib.Path(__file__).resolve().parent.parent.parent
 LINES = dict(re.findall(r"^(\w+)(?: staticlib)?:(.*)", (ROOT / "crates.txt").read_text(), re.M))
 BESIDE = ["zerotrie_search", "zerotrie_sets", "zerotrie_index", "zerotrie_sealed", "zerotrie_reverse"]  # crates that users add
-ITEM = re.compile(r"pub (?:const |unsafe )*(fn|struct|enum|trait|type|const|mod) (\w+)")
+ITEM = re.compile(r"pub (?:const |unsafe |extern \"C\" )*(fn|struct|enum|trait|type|const|mod) (\w+)")
 MEMBER = re.compile(r"    (?:pub )?(?:const |unsafe )*(fn|const|ghost) (\w+)")
 CLAUSE = re.compile(r"(ensures|requires)\b\*? ?(\w*) ?\{")
 
