@@ -23,11 +23,11 @@ import sources
 
 QUOTING = ["README.md", "docs/CALLING.md"]
 SIGNATURES = "docs/SIGNATURES.md"
-TOGETHER = 24400  # words of all pages that have a limit
+TOGETHER = 24900  # words of all pages that have a limit
 # How many words a page may have: words have a letter or a digit, so the bars of a table are none. CHANGELOG.md grows.
 LIMITS = {
     "README.md": 845,
-    "CONTRIBUTING.md": 1640,
+    "CONTRIBUTING.md": 1760,
     "bindings/README.md": 330,
     "bindings/python/README.md": 120,
     "crates/zerotrie_cli/NOTES.md": 688,
@@ -39,7 +39,7 @@ LIMITS = {
     "crates/zerotrie_tool/README.md": 390,
     "docs/ARCHITECTURE.md": 1290,
     "docs/CALLING.md": 2150,
-    "docs/DECISIONS.md": 1740,
+    "docs/DECISIONS.md": 1850,
     "docs/DIFFERENCES.md": 1310,
     "docs/FORMAT.md": 4290,
     "docs/MODEL.md": 1630,
