@@ -3,7 +3,7 @@ use Rattle.std.proofs.Common.{◌≡◌, ◌≢◌, ◌⊎◌, ◌∙◌, ℕ, t
 use Rattle.std.proofs.lemmas.List.Elements.{All-nil}
 use Rattle.std.specs.declared.io.Error.{Error}
 use Rattle.zerotrie_files.specs.Disks.{Files, Story, Known, Passes, Same, Stays, IsWhole, Restores, Replaces}
-use Rattle.zerotrie_files.specs.Stores.{IsBeside, Kept, IsWholeAlone, ReplacesBeside}
+use Rattle.zerotrie_files.specs.Stores.{IsBeside, Kept, MayGo, IsWholeAlone, ReplacesBeside}
 use Rattle.zerotrie_files.proofs.DiskLemmas.{known_then, known_by, passes_then, passes_by, is_path_or_not}
 
 -- where nothing was done, nothing changed
@@ -26,19 +26,24 @@ still_stays path beside bytes x y z = known_then Stays (Replaces {E = Error} pat
 same_alone : (path bytes : List ℕ) (a f : Files) → Same a f → IsWholeAlone path bytes a f
 same_alone path bytes a f same = record { whole = inl (same path); others = λ other off. inl (same other) }
 
+-- where there is no file one may be made
+free_may_go : (held : Option (List ℕ)) → held ≡ None → MayGo held
+free_may_go None free = tt
+free_may_go (Some bytes) free = cc
+
 -- and where the path beside is free, it is whole too
 whole_alone : (path beside bytes : List ℕ) (a b f : Files) → IsBeside path beside → Same a b → b beside ≡ None → IsWhole path beside bytes b f → IsWholeAlone path bytes a f
 whole_alone path beside bytes a b f near same free w = record {
   whole = elim w.whole [ inl e ↦ inl (e ∙ same path) | inr e ↦ inr e ];
   others = λ other off. elim (is_path_or_not beside other) [
-    | inl e ↦ inr (rw e (sym (same beside) ∙ free), rw e near)
+    | inl e ↦ inr (rw e (free_may_go (a beside) (sym (same beside) ∙ free)), rw e near)
     | inr far ↦ inl (w.others other off far ∙ same other)
   ];
 }
 
 -- a file that holds what it held is kept
 kept_alone : (path bytes : List ℕ) (a d : Story) → d.now path ≡ a.now path → Restores a d → IsWholeAlone path bytes a.now d.now → Kept path a d
-kept_alone path bytes a d same restores w = (same, restores, λ other. elim (is_path_or_not path other) [ inl e ↦ inl (rw e same) | inr off ↦ w.others other off ])
+kept_alone path bytes a d same restores w = (same, λ kept other. inl (restores kept other), λ other. elim (is_path_or_not path other) [ inl e ↦ inl (rw e same) | inr off ↦ w.others other off ])
 
 -- no path is tried, or all that are tried are taken
 pub none_free : (path bytes : List ℕ) (e : Error) (x y : Option Story) → Known x y Stays → Known x y (ReplacesBeside {T = Unit {0}} path bytes (Err e))
@@ -60,7 +65,7 @@ pub one_free : (path beside bytes : List ℕ) (x y z : Option Story) → IsBesid
 one_free path beside bytes x y z near = known_then Stays (Replaces {E = Error} path beside bytes (Ok true)) (ReplacesBeside {T = Unit {0}} {E = Error} path bytes (Ok tt)) x y z
     (λ a b d stays done. (
       passes_alone path beside bytes a b d near stays done.1.0 done.0,
-      (done.1.1.0, λ other off. done.1.1.1 other off ∙ stays.ends other),
+      (done.1.1.0, λ other off. inl (done.1.1.1 other off ∙ stays.ends other)),
     ))
 
 none_or_some : (o : Option (List ℕ)) → (o ≡ None) ⊎ (o ≢ None)

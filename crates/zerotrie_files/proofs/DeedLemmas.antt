@@ -70,7 +70,7 @@ pub gets_unknown : (path bytes : List ℕ) (r : Result (Unit {0}) Error) → Get
 gets_unknown path bytes (Ok u) = tt
 gets_unknown path bytes (Err e) = inl tt
 
-pub placed_file : (Leads : Found → Type 0) (IsReal : List ℕ → Type 0) (path real bytes : List ℕ) (mode : Mode) (r : Result (Unit {0}) Error) (x y : Option (List Deed)) → names_open_file path ≡ false
+pub placed_file : {T : Type 0} (Leads : Found → Type 0) (IsReal : List ℕ → Type 0) (path real bytes : List ℕ) (mode : Mode) (r : Result T Error) (x y : Option (List Deed)) → names_open_file path ≡ false
     → Leads (File mode)
     → IsReal real
     → OnOk r (Places real (Some mode) bytes x y)

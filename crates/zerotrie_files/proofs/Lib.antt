@@ -1,5 +1,6 @@
 mod BesideLemmas
 mod DeedLemmas
 mod DiskLemmas
+mod LeftLemmas
 mod NameLemmas
 pub mod WroteLemmas

@@ -74,6 +74,15 @@ abbrev pub Removes : {T E : Type 0} → List ℕ → Result T E → Story → St
 Removes path result old new = Passes (SameBeside path old.now) old new
     × MatchResult result (λ _. new.now path ≡ None) (λ _. new.unremoved ≡ true)
 
+-- there is no file at the path any more, and those of all others are as they were
+abbrev pub Gone : List ℕ → Files → Files → Type 0
+Gone path old new = (new path ≡ None) × SameBeside path old new
+
+-- a file that is held is removed, with no moment between before and after
+abbrev pub RemovesHeld : {T E : Type 0} → List ℕ → Result T E → Story → Story → Type 0
+RemovesHeld path result old new = Passes (λ files. Same old.now files ⊎ Gone path old.now files) old new
+    × MatchResult result (λ _. Gone path old.now new.now) (λ _. Same old.now new.now)
+
 -- all files are as they were, unless a removal failed
 abbrev pub Restores : Story → Story → Type 0
 Restores old new = new.unremoved ≡ false → Same old.now new.now
@@ -109,6 +118,10 @@ IsFound held Nothing = held ≡ None
 IsFound held (File mode) = held ≢ None
 IsFound held Folder = held ≢ None
 IsFound held Stream = held ≢ None
+
+-- these are the first 8 bytes of the file, or all if it has fewer
+abbrev pub IsFront : List ℕ → List ℕ → Story → Type 0
+IsFront path front known = (bytes : List ℕ) × (known.now path ≡ Some bytes) × (front ≡ take 8 bytes)
 
 -- why a file is not read: there is none, or it is out of memory
 abbrev pub IsUnread : List ℕ → Story → Error → Type 0

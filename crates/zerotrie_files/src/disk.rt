@@ -6,7 +6,7 @@ ghost use Rattle.zerotrie_files.specs.Stores.{names_open_file};
 ghost use Rattle.std.specs.declared.io.Error.{Error};
 ghost use Rattle.zerotrie_files.specs.declared.found.Found.{Found};
 ghost use Rattle.zerotrie_files.specs.Deeds.{Deed, Did, DoesOrFails, Gets, filled, moved};
-ghost use Rattle.zerotrie_files.specs.Disks.{Story, Known, IsFound, IsUnread, IsPartOfFile, IsPartUnread, Makes, Fills, Renames, Removes, HasNoStream};
+ghost use Rattle.zerotrie_files.specs.Disks.{Story, Known, Stays, IsFound, IsFront, IsUnread, IsPartOfFile, IsPartUnread, Makes, Fills, Renames, Removes, RemovesHeld, HasNoStream};
 
 use crate::found::{Found, Mode};
 use std::io;
@@ -28,7 +28,7 @@ pub trait Disk {
     /// Whether the second path is the first one without links.
     ghost is_real: { Self → List ℕ → List ℕ → Type 0 };
 
-    /// Whether a path has a file, a link or a folder.
+    /// Whether a path has a file, a link or a folder, or had one that another process removed.
     ghost is_taken: { Self → List ℕ → Type 0 };
 
     /// The errors that its calls return.
@@ -80,8 +80,26 @@ pub trait Disk {
     /// such numbers, one that nobody can foretell.
     fn draw(&self, tried: u32) -> u32;
 
-    /// Makes an empty file, if the path is free. Returns `false` if the path has a file, a link or
-    /// a folder, which stays.
+    /// Returns the names in a folder that begin so. Some may be left out.
+    fn names(&self, folder: &str, begin: &str) -> io::Result<Vec<String>>;
+
+    /// Holds a file until another one is held or made, and returns its first 8 bytes, or all if it
+    /// has fewer. `None` says that it is no regular file, has another name as well, or is no longer
+    /// there. One that another process holds is an error.
+    fn hold(&mut self, path: &str) -> io::Result<Option<Vec<u8>>>
+        ensures story { Known (story self.old) (story self.new) Stays }
+        ensures deeds { Did [] (deeds self.old) (deeds self.new) }
+        ensures front { IfOk result (λ held. IfSome held (λ front.
+            IfSome (story self.new) (IsFront path.now front.items))) };
+
+    /// Removes a file, which is held, atomically.
+    fn remove_held(&mut self, path: &str) -> io::Result<()>
+        ensures story { Known (story self.old) (story self.new) (RemovesHeld path.now result) }
+        ensures deeds { Did [] (deeds self.old) (deeds self.new) };
+
+    /// Makes an empty file, if the path is free, and holds it. Returns `false` if the path has a
+    /// file, a link or a folder, which stays, or if another process removed the new file before it
+    /// was held.
     fn make(&mut self, path: &str) -> io::Result<bool>
         ensures story { Known (story self.old) (story self.new) (Makes path.now result) }
         ensures deeds { Did [] (deeds self.old) (deeds self.new) }

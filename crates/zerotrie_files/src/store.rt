@@ -120,8 +120,9 @@ impl<D: Disk> Store<D> {
         }
     }
 
-    /// Replaces the file of a path by the bytes, or makes it, as `write_output` does.
-    pub fn replace(&mut self, alloc: Global, path: &str, bytes: &[u8]) -> io::Result<()>
+    /// Replaces the file of a path by the bytes, or makes it, as `write_output` does, and returns how
+    /// many files it removed that killed builds left.
+    pub fn replace(&mut self, alloc: Global, path: &str, bytes: &[u8]) -> io::Result<usize>
         ensures replaced { Known (D.story self.old.disk) (D.story self.new.disk)
             (ReplacesBeside path.now bytes.now result) }
         ensures writable { OnOk result (IfSome (D.story self.old.disk) (λ known.

@@ -4,9 +4,9 @@ ghost use Rattle.std.specs.Prelude.{None};
 
 use crate::disk::Disk;
 use crate::found::{Found, Mode};
-use std::fs::{File, Metadata, OpenOptions, Permissions};
+use std::fs::{File, Metadata, OpenOptions, Permissions, TryLockError};
 use std::io::{ErrorKind, Read, Write};
-use std::os::unix::fs::{FileExt, PermissionsExt};
+use std::os::unix::fs::{FileExt, MetadataExt, PermissionsExt};
 use std::process::Process;
 use std::random::RandomSource;
 use std::rt::Files;
@@ -17,8 +17,8 @@ use std::{fs, io, process};
 pub struct SystemDisk<'a, R> {
     system: &'a R,
     process: Process,
-    /// The file that was made last, until it is filled.
-    new_file: Option<File>,
+    /// The file that was made or held last, with its lock.
+    held: Option<File>,
 }
 
 impl<'a, R> SystemDisk<'a, R> {
@@ -27,7 +27,21 @@ impl<'a, R> SystemDisk<'a, R> {
         SystemDisk {
             system,
             process,
-            new_file: None,
+            held: None,
+        }
+    }
+}
+
+impl<'a, R: Files<File = File>> SystemDisk<'a, R> {
+    /// Returns whether a path still leads to an open file, which is regular and has no other name.
+    fn leads_to(&self, path: &str, file: &File) -> bool {
+        match (fs::symlink_metadata(self.system, path), file.metadata()) {
+            (Ok(there), Ok(opened)) => {
+                there.is_file()
+                    && there.nlink() == 1
+                    && (there.dev(), there.ino()) == (opened.dev(), opened.ino())
+            }
+            _ => false,
         }
     }
 }
@@ -52,7 +66,8 @@ fn fill(file: &mut File, mode: Option<Mode>, bytes: &[u8]) -> io::Result<()> {
     file.sync_all()
 }
 
-impl<'a, R: Files<File = File> + AllocGlobal + RandomSource> Disk for SystemDisk<'a, R> {
+impl<'a, R: Files<File = File> + AllocGlobal + RandomSource + Clone + Drop> Disk
+    for SystemDisk<'a, R> {
     ghost story = { λ _. None };
 
     ghost deeds = { λ _. None };
@@ -112,20 +127,60 @@ impl<'a, R: Files<File = File> + AllocGlobal + RandomSource> Disk for SystemDisk
         }
     }
 
-    fn make(&mut self, path: &str) -> io::Result<bool> {
-        match File::create_new(self.system, path) {
-            Ok(file) => {
-                self.new_file = Some(file);
-                Ok(true)
+    fn names(&self, folder: &str, begin: &str) -> io::Result<Vec<String>> {
+        let mut names = Vec::new(self.system.alloc());
+        for entry in fs::read_dir(self.system, folder)? {
+            // a name that is not UTF-8 is an error, and is no name of a new file
+            if let Ok(entry) = entry {
+                if entry.file_name().starts_with(begin) {
+                    names.push(String::from_str(self.system.alloc(), entry.file_name())?)?;
+                }
             }
-            Err(error) if error.kind() == ErrorKind::AlreadyExists => Ok(false),
-            Err(error) => Err(error),
         }
+        Ok(names)
+    }
+
+    fn hold(&mut self, path: &str) -> io::Result<Option<Vec<u8>>> {
+        // to open a FIFO would wait for its writer
+        if !fs::symlink_metadata(self.system, path)?.is_file() {
+            return Ok(None);
+        }
+        let file = File::open(self.system, path)?;
+        file.try_lock()?;
+        if !self.leads_to(path, &file) {
+            return Ok(None);
+        }
+        let mut room = [0; 8];
+        let count = file.read_at(&mut room, 0)?;
+        self.held = Some(file);
+        Ok(Some(Vec::from_slice(self.system.alloc(), &room[..count])?))
+    }
+
+    fn remove_held(&mut self, path: &str) -> io::Result<()> {
+        fs::remove_file(self.system, path)
+    }
+
+    fn make(&mut self, path: &str) -> io::Result<bool> {
+        let file = match File::create_new(self.system, path) {
+            Ok(file) => file,
+            Err(error) if error.kind() == ErrorKind::AlreadyExists => return Ok(false),
+            Err(error) => return Err(error),
+        };
+        // until it has its lock, another build may take it for one that was left, and remove it
+        let is_there = match file.try_lock() {
+            Ok(()) => self.leads_to(path, &file),
+            Err(TryLockError::WouldBlock) => false,
+            // files have no locks here, so no build removes one
+            Err(TryLockError::Error(_)) => true,
+        };
+        self.held = Some(file);
+        Ok(is_there)
     }
 
     fn fill(&mut self, _path: &str, mode: Option<Mode>, bytes: &[u8]) -> io::Result<()> {
-        match self.new_file.take() {
-            Some(mut file) => fill(&mut file, mode, bytes),
+        match &mut self.held {
+            // the lock stays until the file is renamed
+            Some(file) => fill(file, mode, bytes),
             None => Err(io::Error::from(ErrorKind::NotFound)),
         }
     }

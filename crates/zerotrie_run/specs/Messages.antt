@@ -219,3 +219,12 @@ made_line place keys len = ((line_front place ++ (decimal keys ++ (codes " " ++ 
 -- what is told of the kind of a file for which none was named, and that was made of tries of several
 abbrev pub kind_line : List ℕ → TrieKind → List ℕ
 kind_line place kind = ((line_front place ++ codes "the files have tries of several kinds, so it is of kind ") ++ kind_name kind) ++ (10 ∷ [])
+
+-- the word after a number of files
+abbrev pub file_word : ℕ → List ℕ
+file_word count = if count == 1 then codes "file" else codes "files"
+
+-- what is told of files that killed builds left beside that of the place: how many were removed
+abbrev pub removed_line : List ℕ → ℕ → List ℕ
+removed_line place removed =
+    (line_front place ++ (codes "removed " ++ (decimal removed ++ (codes " " ++ (file_word removed ++ codes " that killed builds left"))))) ++ (10 ∷ [])

@@ -1,5 +1,5 @@
 -- What is told of a run on standard error.
-use Rattle.std.specs.Prelude.{◌≡◌, ◌⊎◌, ◌==◌, ℕ, List, [], ◌++◌, length, Any, ◌&&◌, Option, Some, Bool, true, false, Result, Ok, Err, Vec, codes}
+use Rattle.std.specs.Prelude.{◌≡◌, ◌⊎◌, ◌==◌, ℕ, nat_lt, List, [], ◌++◌, length, Any, ◌&&◌, Option, Some, Bool, true, false, Result, Ok, Err, Vec, codes}
 use Rattle.std.specs.Io.KnownBytes.{Appends}
 use Rattle.zerotrie_files.specs.Disks.{Story}
 use Rattle.zerotrie_queries.specs.declared.file.OpenError.{OpenError}
@@ -14,7 +14,7 @@ use Rattle.zerotrie_making.specs.declared.plan.FileForm.TheVariants as form
 use Rattle.zerotrie_making.specs.declared.plan.Made.{Made}
 use Rattle.zerotrie_core.specs.declared.TrieKind.{TrieKind}
 use Rattle.zerotrie_run.specs.Statuses.{made_refusal}
-use Rattle.zerotrie_run.specs.Messages.{IsLine, IsLineOn, Says, TellsMade, TellsNoTrie, TellsUnmade, kind_line, made_line, source_name, target_name, told_key, unit_of}
+use Rattle.zerotrie_run.specs.Messages.{IsLine, IsLineOn, Says, TellsMade, TellsNoTrie, TellsUnmade, kind_line, made_line, removed_line, source_name, target_name, told_key, unit_of}
 use Rattle.zerotrie_run.specs.Runs.{IsRead, IsThere, IsUnasked, IsUnopened, IsUnprinted, HasNumberToo}
 use Rattle.zerotrie_run.specs.Diffs.{IsFileOf, NotesNumbers}
 use Rattle.zerotrie_run.specs.declared.command.Diff.{Diff}
@@ -26,6 +26,7 @@ use Rattle.zerotrie_run.specs.declared.status.Status.TheVariants.{Done, Absent, 
 use Rattle.zerotrie_run.specs.declared.command.Build.{Build}
 use Rattle.zerotrie_run.specs.declared.command.Command.{Command}
 use Rattle.zerotrie_run.specs.declared.command.Command.TheVariants as commands
+use Rattle.zerotrie_run.specs.declared.command.Place.{Place}
 use Rattle.zerotrie_run.specs.declared.command.Summary.{Summary}
 use Rattle.zerotrie_run.specs.declared.command.Summary.TheVariants.{Never, IfEmpty, Always}
 use Rattle.zerotrie_run.specs.declared.command.TrieFile.{TrieFile}
@@ -104,10 +105,24 @@ abbrev pub told_made : Bool → List ℕ → ℕ → ℕ → List ℕ
 told_made true place keys len = made_line place keys len
 told_made false place keys len = []
 
+-- files that killed builds left and that were removed are told or not
+abbrev pub told_removed : Bool → List ℕ → ℕ → List ℕ
+told_removed true place removed = removed_line place removed
+told_removed false place removed = []
+
+-- how many files were removed that killed builds left beside that of the place is told, if there was one and the summary is not to tell
+-- nothing
+abbrev pub told_left : Summary → List ℕ → ℕ → List ℕ
+told_left summary place removed = told_removed (nat_lt 0 removed && may_tell summary) place removed
+
+-- these words were told, and then how many files were removed that killed builds left beside that of the place
+abbrev pub TellsThenLeft : List ℕ → Summary → Place → (old new : Option (List ℕ)) → Type 0
+TellsThenLeft words summary to old new = (removed : ℕ) × Appends old new (words ++ told_left summary (target_name to) removed)
+
 -- what a build made is told, as its summary says: how many keys the file has, and how long it is
 abbrev pub TellsDone : Build → Option (List ℕ) → Option Story → (old new : Option (List ℕ)) → Type 0
 TellsDone build input files old new = (all : List ℕ) × IsRead build.from input files all × (file : Made) × IsMade build.plan all file
-    × Appends old new (told_made (is_told build.summary file.keys) (target_name build.to) file.keys (length file.file.items))
+    × TellsThenLeft (told_made (is_told build.summary file.keys) (target_name build.to) file.keys (length file.file.items)) build.summary build.to old new
 
 -- whether a file has a kind: an index has none
 abbrev pub has_kind : FileForm → Bool
@@ -130,7 +145,7 @@ combined_lines c several made = told_kind (several && (may_tell c.summary && has
 -- what a combination made is told
 abbrev pub TellsCombined : Combine → Option (List ℕ) → Option Story → (old new : Option (List ℕ)) → Type 0
 TellsCombined c input files old new = (made : Made) × (several : Bool) × OfFiles c input files (λ maps. IsMadeSo c maps made several)
-    × Appends old new (combined_lines c several made)
+    × TellsThenLeft (combined_lines c several made) c.summary c.to old new
 
 -- a line tells why a file that was read has no trie, by its first fault
 abbrev pub TellsUnopened : (List ℕ → OpenError → Type 0) → TrieFile → Option (List ℕ) → Option Story → (old new : Option (List ℕ)) → Type 0

@@ -12,7 +12,7 @@ ghost use Rattle.zerotrie_run.specs.declared.build.BuildError.TheVariants.{NotMa
 ghost use Rattle.zerotrie_run.specs.declared.command.Place.TheVariants.{Stream};
 
 use crate::command::{Build, Place, Summary};
-use crate::messages::build::made_text;
+use crate::messages::build::{made_text, tell_removed};
 use crate::messages::line::{target_name, tell};
 use crate::place::{read_place, write_place};
 use crate::status::Status;
@@ -69,7 +69,8 @@ pub fn is_told(summary: Summary, keys: usize) -> bool
     }
 }
 
-/// Makes a file of pairs, and writes it to its place. It reports that at the end, as its summary says.
+/// Makes a file of pairs, and writes it to its place. It reports that at the end, as its summary says,
+/// and then how many files of killed builds were removed.
 #[tactic(auto, using(crate::proofs::MadeLemmas::file_of_made))]
 fn make_file<D: Disk, R: Read, W: Write + Drop, M: Write>(
     alloc: Global,
@@ -113,8 +114,9 @@ fn make_file<D: Disk, R: Read, W: Write + Drop, M: Write>(
     let is_told = is_told(build.summary, made.keys);
     let done = made_text(alloc, is_told, place, made.keys, made.file.len())?;
     match write_place(alloc, build.to, made.file.as_slice(), files, output) {
-        Ok(()) => {
+        Ok(removed) => {
             tell(messages, done.as_slice());
+            tell_removed(alloc, messages, build.summary, build.to, removed);
             Ok(())
         }
         Err(error) => Err(BuildError::Unwritten(error)),

@@ -19,6 +19,7 @@ ghost use Rattle.zerotrie_run.specs.declared.status.Status.TheVariants.{Done, Ab
 
 use crate::build::{BuildError, spare};
 use crate::command::{Combine, Place, have_two_streams};
+use crate::messages::build::tell_removed;
 use crate::messages::combine::{combine_text, combined_text, tell_two_streams};
 use crate::messages::line::tell;
 use crate::open::open_in_full;
@@ -175,7 +176,7 @@ fn combine_held(
 }
 
 /// Makes the new file of the others, and writes it to its place. It reports that at the end, as its
-/// summary says.
+/// summary says, and then how many files of killed builds were removed.
 fn make_file<D: Disk, R: Read, W: Write + Drop, M: Write>(
     alloc: Global,
     combine: Combine<'_>,
@@ -210,8 +211,9 @@ fn make_file<D: Disk, R: Read, W: Write + Drop, M: Write>(
     let (made, several) = combine_held(alloc, combine, held.as_slice())?;
     let done = combined_text(alloc, combine, several, &made)?;
     match write_place(alloc, combine.to, made.file.as_slice(), files, output) {
-        Ok(()) => {
+        Ok(removed) => {
             tell(messages, done.as_slice());
+            tell_removed(alloc, messages, combine.summary, combine.to, removed);
             Ok(())
         }
         Err(error) => Err(CombineError::NotBuilt(BuildError::Unwritten(error))),

@@ -117,7 +117,8 @@ pub struct TrieFile<'a> {
 
 /// When a build or a combination reports how many keys its file has, and how long it is. Before that a
 /// combination of tries of several kinds reports of which kind its file is, if none was named for it and
-/// it is no index, unless it is to report nothing.
+/// it is no index, and after that either reports how many files it removed that killed builds of its
+/// file left, unless it is to report nothing.
 #[derive(Clone, Copy, PartialEq, Eq, Debug)]
 pub enum Summary {
     /// Never.

@@ -35,14 +35,15 @@ pub fn read_place<D: Disk, R: Read>(
 }
 
 /// Writes bytes to a place: replaces its file, or prints them and flushes the buffer. If that
-/// fails, the file is unchanged, or a beginning of them was printed.
+/// fails, the file is unchanged, or a beginning of them was printed. Returns how many files it removed
+/// that killed builds of the file left beside it.
 pub fn write_place<D: Disk, W: Write + Drop>(
     alloc: Global,
     place: Place<'_>,
     bytes: &[u8],
     files: &mut Store<D>,
     output: &mut Noted<BufWriter<W>>,
-) -> io::Result<()>
+) -> io::Result<usize>
     ensures ok { OnOk result (IsWritten place.entry bytes.now
         (world (D.story files.old.disk) (writer_contents W.contents output.old.inner))
         (world (D.story files.new.disk) (writer_contents W.contents output.new.inner))) }
@@ -58,7 +59,8 @@ pub fn write_place<D: Disk, W: Write + Drop>(
         Place::File(path) => files.replace(alloc, path, bytes),
         Place::Stream => {
             output.write_bytes(bytes)?;
-            output.hand_on()
+            output.hand_on()?;
+            Ok(0)
         }
     }
 }

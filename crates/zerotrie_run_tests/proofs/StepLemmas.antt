@@ -1,10 +1,10 @@
 -- What a step changes.
-use Rattle.std.proofs.Common.{◌≡◌, ◌≢◌, ◌∙◌, ℕ, Result, Ok, Err, OnOk, OnErr, is_err, ◌||◌, append-nil, List, [], ◌∷◌, ◌++◌, reverse, cond, Option, Some, None, bytes_eq, string_bytes, String, Vec, Global, Bor, is_some, Bool, true, false, option_map, sym, refl}
+use Rattle.std.proofs.Common.{◌≡◌, ◌≢◌, ◌⊎◌, ◌∙◌, inl, inr, ℕ, Result, Ok, Err, OnOk, OnErr, is_err, ◌||◌, append-nil, List, [], ◌∷◌, ◌++◌, reverse, cond, Option, Some, None, bytes_eq, string_bytes, String, Vec, Global, Bor, is_some, Bool, true, false, option_map, sym, refl}
 use Rattle.std.proofs.lemmas.List.{reverse-append}
 use Rattle.std.proofs.lemmas.List.Elements.{All-nil, All-cons}
 use Rattle.std.specs.declared.io.Error.{Error}
 use Rattle.std.proofs.lemmas.Slice.Eq.{bytes_eq-Decides}
-use Rattle.zerotrie_files.specs.Disks.{Files, Passes, SameBeside, Moved, Holds, Removes}
+use Rattle.zerotrie_files.specs.Disks.{Files, Passes, Same, SameBeside, Gone, Moved, Holds, Removes, RemovesHeld}
 use Rattle.zerotrie_run_tests.specs.declared.memory.Step.{Step}
 use Rattle.zerotrie_run_tests.specs.declared.memory.Step.TheVariants.{Wrote, Renamed, Removed}
 use Rattle.zerotrie_run_tests.specs.Steps.{after, files_after, moments_after, story_of, IsRemoval}
@@ -74,3 +74,17 @@ removes path steps more was is (Ok u) done undone told =
     let gone = removed done.0 path (files_after (reverse steps)) done.1 in
     rw done.2 (one_step (SameBeside path (files_after (reverse steps))) steps (Removed done.0) was is gone.0, now_after steps (Removed done.0) path ∙ gone.1)
 removes path steps more was is (Err e) done undone told = rw undone (no_step (SameBeside path (files_after (reverse steps))) steps was is (λ other off. refl), told)
+
+-- the same of a file that is held, which stays then
+pub removes_held : (path : List ℕ) (steps more : List Step) (was is : Bool) (r : Result (Unit {0}) Error) → OnOk r (IsRemoval path steps more) → OnErr r (more ≡ steps)
+    → RemovesHeld path r (story_of steps was) (story_of more is)
+removes_held path steps more was is (Ok u) done undone =
+    let old = files_after (reverse steps) in
+    let gone = removed done.0 path old done.1 in
+    rw done.2 (
+      one_step (λ files. Same old files ⊎ Gone path old files) steps (Removed done.0) was is (inr (gone.1, gone.0)),
+      (now_after steps (Removed done.0) path ∙ gone.1, λ other off. now_after steps (Removed done.0) other ∙ gone.0 other off),
+    )
+removes_held path steps more was is (Err e) done undone =
+    let old = files_after (reverse steps) in
+    rw undone (no_step (λ files. Same old files ⊎ Gone path old files) steps was is (inl (λ other. refl)), λ other. refl)

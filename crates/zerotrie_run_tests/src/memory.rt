@@ -1,6 +1,6 @@
 //! A disk in memory, whose moments are known.
 
-ghost use Rattle.std.specs.Prelude.{◌≡◌, ◌≢◌, [], Some, None, option_map, reverse, OnOk, OnErr, eqb, codes, false};
+ghost use Rattle.std.specs.Prelude.{◌≡◌, ◌≢◌, [], Some, None, option_map, reverse, take, OnOk, OnErr, eqb, codes, false};
 ghost use Rattle.std.specs.List.{starts_with};
 ghost use Rattle.zerotrie_files.specs.Disks.{IsFound};
 ghost use Rattle.zerotrie_run_tests.specs.Steps.{files_after, story_of, IsRemoval};
@@ -64,6 +64,16 @@ fn held_after<'s>(steps: &'s [Step], path: &str) -> Option<&'s [u8]>
                 }
             }
         },
+    }
+}
+
+/// Returns the first 8 bytes, or all if there are fewer.
+fn front_of(bytes: &[u8]) -> &[u8]
+    ensures { result.now ≡ take 8 bytes.now }
+{
+    match bytes.split_at_checked(8) {
+        Some((front, _)) => front,
+        None => bytes,
     }
 }
 
@@ -162,6 +172,29 @@ impl Disk for MemoryDisk {
 
     fn draw(&self, tried: u32) -> u32 {
         tried
+    }
+
+    fn names(&self, folder: &str, begin: &str) -> io::Result<Vec<String>> {
+        let mut names = Vec::new(self.alloc);
+        for step in self.steps.as_slice() {
+            if let Step::Wrote(path, _) = step {
+                if folder == "." && path.as_str().starts_with(begin) {
+                    names.push(String::from_str(self.alloc, path.as_str())?)?;
+                }
+            }
+        }
+        Ok(names)
+    }
+
+    fn hold(&mut self, path: &str) -> io::Result<Option<Vec<u8>>> {
+        match self.held(path) {
+            Some(bytes) => Ok(Some(Vec::from_slice(self.alloc, front_of(bytes))?)),
+            None => Ok(None),
+        }
+    }
+
+    fn remove_held(&mut self, path: &str) -> io::Result<()> {
+        self.try_remove(path)
     }
 
     fn make(&mut self, path: &str) -> io::Result<bool> {

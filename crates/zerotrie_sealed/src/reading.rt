@@ -75,6 +75,22 @@ pub fn begins_sealed(file: &[u8]) -> bool
     file.starts_with(&MAGIC)
 }
 
+/// Returns whether bytes are a beginning of the magic, as of a sealed file that is not yet written.
+///
+/// ```
+/// let file = seal(rt.alloc(), TrieKind::Simple, b"a\x85")?;
+/// let (magic, _) = file.as_slice().split_at(8);
+/// assert!(rt; begins_magic(magic));
+/// assert!(rt; begins_magic(b"zt"));
+/// assert!(rt; begins_magic(b""));
+/// assert!(rt; !begins_magic(file.as_slice()));
+/// ```
+pub fn begins_magic(bytes: &[u8]) -> bool
+    ensures { IsTrue result ↔ (take (length bytes.now) magic ≡ bytes.now) }
+{
+    MAGIC.starts_with(bytes)
+}
+
 /// Returns the number in the header of a file, if it begins as a sealed one and its version is
 /// known.
 pub(crate) fn number_in(file: &[u8]) -> Result<u16, SealError>

@@ -1,13 +1,15 @@
 //! Messages on a file that is made.
 
-ghost use Rattle.std.specs.Prelude.{◌≡◌, ◌++◌, IfOk, OnOk};
-ghost use Rattle.zerotrie_run.specs.Messages.{Extends, IsLineOn, TellsBuild, TellsMade, key_word, other_words, size_text, source_name, target_name, tenths_text, unit_of};
-ghost use Rattle.zerotrie_run.specs.Told.{told_made};
+ghost use Rattle.std.specs.Prelude.{◌≡◌, ◌++◌, [], false, IfOk, OnOk};
+ghost use Rattle.zerotrie_run.specs.Commands.{may_tell};
+ghost use Rattle.zerotrie_run.specs.Messages.{Extends, IsLineOn, TellsBuild, TellsMade, file_word, key_word, other_words, size_text, source_name, target_name, tenths_text, unit_of};
+ghost use Rattle.zerotrie_run.specs.Told.{TellsThenLeft, told_made, told_removed};
 
 use crate::build::BuildError;
-use crate::command::Build;
+use crate::command::{Build, Place, Summary};
 use crate::messages::line::{
-    add, add_words, begin_line, end_line, fault_on, line_on, source_name, target_name, unwritten,
+    add, add_words, begin_line, end_line, fault_on, line_on, source_name, target_name, tell,
+    unwritten,
 };
 use crate::messages::pairs::{
     PairUnit, add_bad_line, add_large_sum, add_no_pair, add_not_json, add_shown,
@@ -15,6 +17,7 @@ use crate::messages::pairs::{
 use std::alloc::{AllocError, Global};
 use std::io::Write;
 use zerotrie_core::ZeroTrieBuildError;
+use zerotrie_files::Noted;
 use zerotrie_index::ZeroIndexBuildError;
 use zerotrie_making::{MakeError, OtherFile};
 
@@ -144,6 +147,53 @@ pub fn made_text(
     add_size(&mut text, len)?;
     end_line(&mut text)?;
     Ok(text)
+}
+
+/// Returns the word after a number of files.
+fn file_word(count: usize) -> &'static str
+    ensures { result.now ≡ file_word count }
+{
+    if count == 1 { "file" } else { "files" }
+}
+
+/// Returns a line that says how many files were removed that killed builds left. It is empty if that
+/// is not told.
+fn removed_text(
+    alloc: Global,
+    is_told: bool,
+    place: &str,
+    removed: usize,
+) -> Result<Vec<u8>, AllocError>
+    ensures { IfOk result (λ text. text.items ≡ told_removed is_told place.now removed) }
+{
+    if !is_told {
+        return Ok(Vec::new(alloc));
+    }
+    let mut text = begin_line(alloc, place)?;
+    let word = file_word(removed);
+    write!(text, "removed {removed} {word} that killed builds left").map_err(|_| AllocError)?;
+    end_line(&mut text)?;
+    Ok(text)
+}
+
+/// Says how many files were removed that killed builds left beside that of a place, if there was one
+/// and the summary is not to say nothing. Without memory for it, says nothing.
+pub fn tell_removed<M: Write>(
+    alloc: Global,
+    messages: &mut Noted<M>,
+    summary: Summary,
+    to: Place<'_>,
+    removed: usize,
+)
+    ensures told { messages.new.failed ≡ false → (messages.old.failed ≡ false)
+        × TellsThenLeft [] summary to.entry (M.contents messages.old.inner)
+        (M.contents messages.new.inner) }
+    ensures quiet { may_tell summary ≡ false → messages.new ≡ messages.old }
+{
+    let is_told = removed > 0 && summary != Summary::Never;
+    if let Ok(text) = removed_text(alloc, is_told, target_name(to), removed) {
+        tell(messages, text.as_slice());
+    }
 }
 
 /// Returns a line that says why no file is made of pairs, or why it can't be written. The places are

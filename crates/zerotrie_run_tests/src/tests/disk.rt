@@ -98,6 +98,76 @@ fn files_of_a_user_stay(rt: HostRuntime) -> Result<(), Fail> {
     Ok(())
 }
 
+/// Replaces a file, and returns how many files it removed that killed builds left.
+fn removes(rt: &HostRuntime, path: &str) -> Result<usize, Fail> {
+    Ok(Store::new(disk_of(rt)).replace(rt.alloc(), path, b"new")?)
+}
+
+#[test]
+fn files_of_killed_builds_are_removed(rt: HostRuntime) -> Result<(), Fail> {
+    fs::write(&rt, ".killed.zerotrie-9892-1387828229", b"ztri\x89\x8a\r\n and more")?;
+    fs::write(&rt, ".killed.zerotrie-1-2", b"ztri\x89")?;
+    fs::write(&rt, ".killed.zerotrie-0-4294967295", b"")?;
+    fs::write(&rt, "killed", b"old")?;
+    symlink(&rt, "killed", "killed-link")?;
+    assert!(rt; removes(&rt, "killed-link")? == 3);
+    assert!(rt; count_of(&rt, ".", ".killed")? == 0);
+    assert!(rt; holds(&rt, "killed", b"new"));
+    assert!(rt; removes(&rt, "./killed")? == 0);
+    fs::create_dir(&rt, "of-killed")?;
+    fs::write(&rt, "of-killed/.one.zerotrie-1-1", b"")?;
+    fs::write(&rt, ".one.zerotrie-1-1", b"")?;
+    assert!(rt; removes(&rt, "of-killed/one")? == 1);
+    assert!(rt; count_of(&rt, "of-killed", ".one")? == 0);
+    assert!(rt; holds(&rt, ".one.zerotrie-1-1", b""));
+    Ok(())
+}
+
+/// Files beside one called `spared` that no killed build of it left, and what they hold.
+const SPARED: [(&str, &[u8]); 11] = [
+    (".spared.zerotrie-1-3", b"precious"),
+    (".spared.zerotrie-1-4", b"ztri\x89\x8a\rx"),
+    (".spared.zerotrie-1-5", b"\x08a\x81"),
+    (".spared.zerotrie-x-1", b""),
+    (".spared.zerotrie-1", b""),
+    (".spared.zerotrie-1-1~", b""),
+    (".spared.zerotrie-1-4294967296", b""),
+    (".spared.zerotrie-", b""),
+    ("spared.zerotrie-1-1", b""),
+    ("..spared.zerotrie-1-1", b""),
+    (".spared2.zerotrie-1-1", b""),
+];
+
+#[test]
+fn files_of_others_are_spared(rt: HostRuntime) -> Result<(), Fail> {
+    for (path, bytes) in SPARED {
+        fs::write(&rt, path, bytes)?;
+    }
+    symlink(&rt, ".spared.zerotrie-", ".spared.zerotrie-1-6")?;
+    fs::create_dir(&rt, ".spared.zerotrie-1-7")?;
+    fs::write(&rt, ".spared.zerotrie-1-8", b"")?;
+    fs::hard_link(&rt, ".spared.zerotrie-1-8", "spared-twice")?;
+    assert!(rt; removes(&rt, "spared")? == 0);
+    for (path, bytes) in SPARED {
+        assert!(rt; holds(&rt, path, bytes));
+    }
+    assert!(rt; count_of(&rt, ".", ".spared.zerotrie-")? == 11);
+    Ok(())
+}
+
+#[test]
+fn a_file_that_is_written_is_spared(rt: HostRuntime) -> Result<(), Fail> {
+    fs::write(&rt, ".busy.zerotrie-1-1", b"")?;
+    let other = OpenOptions::new().write(true).open(&rt, ".busy.zerotrie-1-1")?;
+    other.lock()?;
+    assert!(rt; removes(&rt, "busy")? == 0);
+    assert!(rt; holds(&rt, ".busy.zerotrie-1-1", b""));
+    other.unlock()?;
+    assert!(rt; removes(&rt, "busy")? == 1);
+    assert!(rt; count_of(&rt, ".", ".busy")? == 0);
+    Ok(())
+}
+
 #[test]
 fn a_file_that_cannot_be_written_is_not_replaced(rt: HostRuntime) -> Result<(), Fail> {
     fs::write(&rt, "fixed", b"old")?;

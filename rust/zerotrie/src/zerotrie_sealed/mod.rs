@@ -18,5 +18,5 @@ mod writing;
 pub use blocks::BLOCK_LEN;
 pub use checksum::crc32c;
 pub use indexes::{IndexTable, is_index_number, open_index, open_table, table_len};
-pub use reading::{SealError, Sealed, begins_sealed, open};
+pub use reading::{SealError, Sealed, begins_magic, begins_sealed, open};
 pub use writing::{BLOCKS_NUMBER, HEADER_LEN, INDEX_NUMBER, header_of, seal, seal_index};

@@ -74,6 +74,22 @@ pub fn begins_sealed(file: &[u8]) -> bool {
     file.starts_with(&MAGIC)
 }
 
+/// Returns whether bytes are a beginning of the magic, as of a sealed file that is not yet written.
+///
+/// ```
+/// # use zerotrie::{rstd::examples::*, zerotrie_sealed::*, zerotrie_base::*};
+/// let file = seal(Global, TrieKind::Simple, b"a\x85")?;
+/// let (magic, _) = file.as_slice().split_at(8);
+/// assert!(begins_magic(magic));
+/// assert!(begins_magic(b"zt"));
+/// assert!(begins_magic(b""));
+/// assert!(!begins_magic(file.as_slice()));
+/// # Ok::<(), Fail>(())
+/// ```
+pub fn begins_magic(bytes: &[u8]) -> bool {
+    MAGIC.starts_with(bytes)
+}
+
 /// Returns the number in the header of a file, if it begins as a sealed one and its version is
 /// known.
 pub(in crate::zerotrie_sealed) fn number_in(file: &[u8]) -> Result<u16, SealError> {

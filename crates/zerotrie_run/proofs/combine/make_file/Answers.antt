@@ -1,9 +1,12 @@
 use Rattle.std.proofs.Common.{◌∙◌, ap, inr, map, subst, sym}
 use Rattle.std.proofs.lemmas.Result.{err_from_is_err_and}
 use Rattle.std.specs.Io.Buffered.{writer_contents}
+use Rattle.std.proofs.KnownBytes.{Appends-trans}
 use Rattle.std.specs.Io.KnownBytes.{Appends}
 use Rattle.zerotrie_run.specs.Combined.{AreRead}
+use Rattle.zerotrie_run.specs.Messages.{target_name}
 use Rattle.zerotrie_run.specs.Runs.{IsKept, IsWritten, world}
+use Rattle.zerotrie_run.specs.Told.{told_left}
 use Rattle.zerotrie_run.proofs.CombinedLemmas.{uncombined_cause, uncombined_ends}
 use Rattle.zerotrie_run.proofs.combine.make_file.Goals as goal
 
@@ -47,11 +50,16 @@ returns-in-Ok-clause-done g c = λ ok.
     let contents = g.M.Write.contents in
     let input = g.R.Read.remaining c.args.input.now.inner in
     let read = subst (λ held. AreRead c.args.combine.from.now input (g.D.Disk.story c.args.files.now.disk) (map (λ bytes. bytes.items) held)) (sym c.as_slice.ensures.value) c.in_ok-held.ensures.read in
-    let told = c.tell.ensures.told ok in (
+    let old = contents c.args.messages.now.inner in
+    let mid = contents c.tell.new.messages.inner in
+    let left = c.tell_removed.ensures.told ok in
+    let told = c.tell.ensures.told left.0 in (
       c.in_ok-made.made,
       c.in_ok-made.several,
       (map (λ bytes. bytes.items) c.as_slice.result.now, read, c.in_ok-made.ensures.ok),
-      subst (λ text. Appends (contents c.args.messages.now.inner) (contents c.tell.new.messages.inner) text) (c.as_slice-in-Ok.ensures.value ∙ c.in_ok-done.ensures) told.1,
+      left.1.0,
+      Appends-trans old mid (contents c.tell_removed.new.messages.inner) _ (told_left c.args.combine.summary (target_name c.args.combine.to) left.1.0)
+          (subst (λ text. Appends old mid text) (c.as_slice-in-Ok.ensures.value ∙ c.in_ok-done.ensures) told.1) left.1.1,
     )
 
 pub returns-clause-err : goal.returns-clause-err

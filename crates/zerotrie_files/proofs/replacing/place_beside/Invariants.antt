@@ -2,7 +2,7 @@ use Rattle.std.proofs.Common.{◌≡◌, ◌⊎◌, ℕ, List, []}
 use Rattle.zerotrie_files.specs.Deeds.{Did}
 use Rattle.zerotrie_files.specs.Disks.{Known, Stays}
 use Rattle.zerotrie_files.specs.Stores.{IsBeside}
-use Rattle.zerotrie_files.proofs.replacing.replace_beside.Given as goal
+use Rattle.zerotrie_files.proofs.replacing.place_beside.Given as goal
 
 -- no file changed and nothing was done: each path that was tried is taken, the last one among them
 abbrev pub invariant-loop-tried : goal.invariant-loop-tried

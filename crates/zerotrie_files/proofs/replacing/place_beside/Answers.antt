@@ -3,7 +3,7 @@ use Rattle.std.proofs.lemmas.Result.{err_from_is_err_and}
 use Rattle.zerotrie_files.specs.Stores.{IsBeside}
 use Rattle.zerotrie_files.proofs.BesideLemmas.{still_stays, none_free, one_free, one_fails, stays_here}
 use Rattle.zerotrie_files.proofs.DeedLemmas.{did_nothing, did_then, places_then, none_then}
-use Rattle.zerotrie_files.proofs.replacing.replace_beside.Goals as goal
+use Rattle.zerotrie_files.proofs.replacing.place_beside.Goals as goal
 
 pub loop-tried-init : goal.loop-tried-init
 loop-tried-init g c = record { story = stays_here _; deeds = did_nothing _; taken = inl refl }
