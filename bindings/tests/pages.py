@@ -10,7 +10,7 @@ import re
 
 #: What the pages call beside the library.
 OTHERS = set(
-    "BigInt Uint8Array arrayBuffer bool bytes fetch find_package free hash help len malloc "
+    "BigInt Uint8Array arrayBuffer bool bytes fetch find_package free hash help len malloc map "
     "memoryview readFileSync realloc reversed target_link_libraries what zerotrie_c".split()
 )
 
@@ -77,7 +77,8 @@ def in_python(here):
     members of enums.
     """
     trees = [ast.parse(path.read_text()) for path in (here / "python/zerotrie").glob("*.py")]
-    top = [it for tree in trees for it in tree.body]
+    # with what a module has at run time and not for types
+    top = [it for tree in trees for one in tree.body for it in (one.orelse if isinstance(one, ast.If) else [one])]
     classes = {it.name: it for it in top if isinstance(it, ast.ClassDef)}
     assigned = [it for it in top if isinstance(it, ast.Assign)]
     (names,) = [it.value for it in assigned if ast.unparse(it.targets[0]) == "__all__"]

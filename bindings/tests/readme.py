@@ -9,8 +9,9 @@ import re
 import shutil
 import subprocess
 import sys
+import tempfile
 
-here, room = pathlib.Path(sys.argv[1]), pathlib.Path(sys.argv[2])
+here, room = pathlib.Path(sys.argv[1]).resolve(), pathlib.Path(sys.argv[2]).resolve()
 build = pathlib.Path(os.environ["ZEROTRIE_LIB"])
 names = ("C.md", "CPP.md", "PYTHON.md", "JAVASCRIPT.md")
 docs = [here.parent / "docs" / name for name in names]
@@ -49,7 +50,8 @@ def program(language, body):
         # programs without exceptions and run-time types take the header too
         compiled([*compiler, "-fno-exceptions", "-fno-rtti"], "shown.cpp", text)
         return compiled(compiler, "shown.cpp", text)
-    return [sys.executable, "-c", body]
+    (room / "shown.py").write_text(body)
+    return [sys.executable, str(room / "shown.py")]
 
 
 def shown(page):
@@ -64,8 +66,11 @@ def run(page, language, body):
     want = re.findall(r"(?:print|cout|console).*?(?://|#) (.*)", body)
     environment = {**os.environ, "PYTHONPATH": str(here / "python")}
     command = program(language, body)
-    done = subprocess.run(command, check=True, capture_output=True, text=True, env=environment)
+    # in a folder of its own, where it may write files
+    with tempfile.TemporaryDirectory(dir=room) as folder:
+        done = subprocess.run(command, check=True, capture_output=True, text=True, env=environment, cwd=folder)
     assert want and done.stdout.splitlines() == want, (page, language, done.stdout, want)
+    assert page.parent.name != "docs" or body.count("\n") <= 12, (page, language, body)
 
 
 examples = [(page, *example) for page in pages for example in shown(page)]

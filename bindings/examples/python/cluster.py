@@ -8,7 +8,7 @@ import sys
 
 from dask.distributed import Client, LocalCluster
 
-from zerotrie import StrTrie
+from zerotrie import StrTrie, union
 
 
 def shard(codes: StrTrie, rows: "list[tuple[str, str]]") -> StrTrie:
@@ -16,8 +16,9 @@ def shard(codes: StrTrie, rows: "list[tuple[str, str]]") -> StrTrie:
     return StrTrie.build({name: codes[code] for name, code in rows})
 
 
-def merged(one: StrTrie, other: StrTrie) -> StrTrie:
-    return one | other
+def united(*shards: StrTrie) -> StrTrie:
+    """The trie of all shards, which one call merges: `|` in a row would build one for each."""
+    return union(shards)
 
 
 def build(client: Client) -> StrTrie:
@@ -25,9 +26,7 @@ def build(client: Client) -> StrTrie:
     rows = [(f"name{number:05}", f"code{number % 1000}") for number in range(20000)]
     everywhere = client.scatter(codes, broadcast=True)
     shards = client.map(shard, [everywhere] * 8, [rows[start::8] for start in range(8)])
-    while len(shards) > 1:
-        shards = client.map(merged, shards[::2], shards[1::2])
-    return shards[0].result()
+    return client.submit(united, *shards).result()
 
 
 if __name__ == "__main__":

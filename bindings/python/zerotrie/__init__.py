@@ -60,7 +60,7 @@ import reprlib
 from array import array
 from collections.abc import Iterable, Iterator, Mapping, Sequence, Set
 from copy import deepcopy
-from ctypes import c_size_t
+from ctypes import c_char_p, c_size_t
 from itertools import islice
 from pickle import PickleBuffer
 from typing import Any, NoReturn, Optional, TypeVar, Union, cast, overload
@@ -74,10 +74,10 @@ from ._library import EXCLUDED, INCLUDED, UNBOUNDED, lib
 from ._memory import (
     found_key, in_place, index_in, mapped, replace, sealed, sealed_index, trie_in, validate, view_of,
 )
-from ._near import nearest as near_pairs
+from ._near import Near as Near, nearest as near_pairs
 from ._pairs import (
-    FlatPairs, Key, Pairs, Path, auto_kind, build, build_dense, build_sorted, encoded_len,
-    key_bytes, known_kind, tagged, whole_number,
+    FlatPairs, Key, Pairs, Path, auto_kind, build, build_dense, build_sorted, column, encoded_len,
+    key_bytes, known_kind, numbers_in, tagged, whole_column, whole_number,
 )
 from ._readers import (
     COUNT, INDEX, PAIRS, AnyPlace, Place, Reader, Record, Table, Word, accelerated as accelerated,
@@ -94,7 +94,7 @@ from ._views import Found, Items, Keys, Range, Values
 
 __all__ = [
     "SIMPLE_ASCII", "PERFECT_HASH", "EXTENDED_CAPACITY", "IGNORE_CASE",
-    "Change", "Cursor", "DenseTable", "Index", "Kind", "Reverse", "StrTrie", "ZeroTrie",
+    "Change", "Cursor", "DenseTable", "Index", "Kind", "Near", "Reverse", "StrTrie", "ZeroTrie",
     "ZeroTrieError", "accelerated", "auto_kind", "build", "build_dense", "build_sorted", "diff",
     "difference", "encoded_len", "intersection", "reverse", "symmetric_difference", "tagged",
     "union",
@@ -185,24 +185,43 @@ class _InBytes:
         return remade, (type(self), *self._remakes(PickleBuffer(self._lent()[0]))), state
 
 
-def _many(find: Any, keys: Iterable[Key], missing: Any) -> array[int]:
+def _many(find: Any, keys: Iterable[Any], missing: Any) -> array[int]:
     """What get_many() returns, of a call that finds the values of keys as the bytes of an array."""
     if isinstance(keys, (str, bytes)):
         raise TypeError("get_many() takes keys, as in a list, and not one key")
+    rows = column(keys)
+
+    def values(missing: Any) -> Any:
+        nonlocal rows
+        try:
+            return find(rows, missing)
+        except (TypeError, UnicodeEncodeError):
+            # this names the row, unless it is a gap that the call does not know
+            rows = whole_column(rows)
+            return find(rows, missing)
+
+    def lost(found: array[int]) -> Any:
+        return find([key for key, value in zip(rows, found) if value == missing], 0)
+
+    return _signed(values, lost, missing)
+
+
+def _signed(find: Any, lost: Any, missing: Any) -> array[int]:
+    """What find(missing) finds, as an array, of signed numbers if `missing` is negative; then lost()
+    of it is what is found for those who have that number, with 0 as `missing`.
+    """
     if not hasattr(missing, "__index__") or operator.index(missing) >= 0:
-        return array("Q", find(keys, missing))
+        return array("Q", find(missing))
     if missing < -(1 << 63):
         raise OverflowError("missing is from -2**63 on")
-    keys = list(keys)
-    values = array("q", find(keys, missing % (1 << 64)))
+    values = array("q", find(missing % (1 << 64)))
     # a value from 2**63 on would be taken for a negative number
-    lost = [key for key, value in zip(keys, values) if value == missing]
-    if any(value < 0 and value != missing for value in values) or any(find(lost, 0)):
+    if any(value < 0 and value != missing for value in values) or any(lost(values)):
         raise OverflowError("a value is 2**63 or more: take a `missing` that is not negative")
     return values
 
 
-class _Trie(Reader[Word], _InBytes, Mapping[Any, int]):
+class _Trie(Reader[Word], _InBytes, Mapping[Word, int]):
     """What ZeroTrie and StrTrie have in common."""
 
     __slots__ = ("_data", "_hash", "_length", "__weakref__")
@@ -322,16 +341,54 @@ class _Trie(Reader[Word], _InBytes, Mapping[Any, int]):
         view, *lent = self._lent()
         return bool(lib.zerotrie_is_well_formed(*lent))
 
-    def get_many(self, keys: Iterable[Key], missing: int = NO_VALUE) -> array[int]:
-        """The value of each key, or `missing`, as an array of numbers: one call for all.
+    def get_many(self, keys: Iterable[Optional[Key]], missing: int = NO_VALUE) -> array[int]:
+        """The value of each key, or `missing`, as an array of numbers: one call for all. `missing` is
+        also for the gaps of a column: None, NaN and what pandas has there.
 
-        >>> list(ZeroTrie.build({"foo": 1, "bar": 2}).get_many(["bar", "x"], missing=-1))
-        [2, -1]
+        >>> list(ZeroTrie.build({"foo": 1, "bar": 2}).get_many(["bar", "x", None], missing=-1))
+        [2, -1, -1]
 
         The numbers are of 64 bits, and signed if `missing` is negative: OverflowError if a value is
-        then 2**63 or more.
+        then 2**63 or more. TypeError, which names the row, if it is neither a key nor a gap.
         """
         return _many(self._values_of, keys, missing)
+
+    def get_many_flat(self, data: Any, ends: Any, missing: int = NO_VALUE) -> array[int]:
+        """The value of each key of a column, or `missing`, as get_many() has them, of keys that are
+        one after another in `data`: each begins where the one before it ends, and `ends` says where
+        it ends. So a column of pyarrow or polars is looked up in place: `data` is the buffer of its
+        text, and `ends` its offsets but the first one, which is 0.
+
+        >>> import array
+        >>> trie = ZeroTrie.build({"foo": 1, "bar": 2})
+        >>> list(trie.get_many_flat(b"barxfoo", array.array("q", [3, 4, 7]), missing=-1))
+        [2, -1, 1]
+
+        Ends of 64 bits are read in place, and others are copied. An end beyond the data is its end,
+        and one below the end before it makes an empty key, as a row without text has it.
+        """
+        try:
+            text, where = in_place(memoryview(data).cast("B"))
+        except TypeError:
+            raise TypeError(f"data is the bytes of keys, not {type(data).__name__}") from None
+        numbers = numbers_in(ends)
+        rows, places = in_place(numbers.cast("B"))
+        count = len(rows) // 8
+
+        def find(missing: Any) -> bytes:
+            other, values = whole_number(missing, 64, "missing"), (c_size_t * count)()
+            # the views keep the bytes in place during the call
+            view, *lent = self._lent()
+            check_status(lib.zerotrie_get_many(
+                *lent, c_char_p(where), len(text), (c_size_t * count).from_address(places), count,
+                other, values, count))
+            return bytes(values)
+
+        def lost(found: array[int]) -> Any:
+            others = array("Q", find(0))
+            return (other for value, other in zip(found, others) if value == missing)
+
+        return _signed(find, lost, missing)
 
     def cursor(self) -> Cursor:
         """A cursor before all keys."""
@@ -481,18 +538,19 @@ class _Trie(Reader[Word], _InBytes, Mapping[Any, int]):
         return Found(self, search=Search.fuzzy(word, edits, beginnings, swaps))
 
     def nearest(
-        self, word: Key, edits: int = 2, most: int = 10, swaps: bool = True
-    ) -> list[tuple[Word, int, int]]:
+        self, word: Key, edits: int = 1, most: int = 10, swaps: bool = False
+    ) -> list[Near[Word]]:
         """The pairs whose keys at most so many edits make of a word, the nearest first, and those that
-        are as near in the order of bytes: at most `most` of them, each as a key, its value and how
-        many edits make it of the word. What an edit is, is as in fuzzy().
+        are as near in the order of bytes: at most `most` of them. A Near has a `key`, its `value`,
+        and how many `edits` make it of the word. What an edit is, is as in fuzzy().
 
         >>> words = StrTrie.build({"exam": 1, "example": 2, "ample": 3})
-        >>> words.nearest("exmaple"), words.nearest("exam", edits=3, most=2)
-        ([('example', 2, 1)], [('exam', 1, 0), ('example', 2, 3)])
+        >>> words.nearest("exmaple", swaps=True)
+        [Near(key='example', value=2, edits=1)]
+        >>> [near.key for near in words.nearest("exam", edits=3, most=2)]
+        ['exam', 'example']
         """
-        found = near_pairs(self, word, edits, most, swaps)
-        return [(self._word(key), value, distance) for key, value, distance in found]
+        return near_pairs(self, word, edits, most, swaps)
 
     def __and__(self: Trie, other: Keyed) -> Trie:
         """A trie of the pairs whose keys the other mapping or set has, too.
@@ -751,7 +809,7 @@ class DenseTable(Record, _InBytes, Mapping[Any, int]):
         return f"<{type(self).__name__} {_first_pairs(self)}, {self.nbytes} bytes>"
 
 
-class Index(Table, _InBytes, Mapping[Any, int]):
+class Index(Table, _InBytes, Mapping[bytes, int]):
     """A map from byte strings to numbers for exact look-ups alone, larger than a trie and faster.
 
     >>> index = Index.build({"foo": 1, "bar": 2})
@@ -813,12 +871,9 @@ class Index(Table, _InBytes, Mapping[Any, int]):
     def _remakes(self, data: Any) -> tuple[Any, ...]:
         return Index, data, False
 
-    def get_many(self, keys: Iterable[Key], missing: int = NO_VALUE) -> array[int]:
+    def get_many(self, keys: Iterable[Optional[Key]], missing: int = NO_VALUE) -> array[int]:
         """The value of each key, or `missing`, as an array of numbers; see get_many() of a trie."""
-        def find(keys: Iterable[Key], missing: int) -> bytes:
-            return array("Q", [self.get(key, missing) for key in keys]).tobytes()
-
-        return _many(find, keys, missing)
+        return _many(self._values_of, keys, missing)
 
     def __iter__(self) -> Iterator[bytes]:
         """The keys."""
@@ -848,6 +903,11 @@ class Index(Table, _InBytes, Mapping[Any, int]):
 
     def __repr__(self) -> str:
         return f"<{type(self).__name__} {_first_pairs(self)}, {self.nbytes} bytes>"
+
+
+def __dir__() -> list[str]:
+    """The names that are meant for users."""
+    return sorted({*__all__, *(name for name in globals() if name.startswith("__"))})
 
 
 def _both(key: Any) -> tuple[Key, Key]:

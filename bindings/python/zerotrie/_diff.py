@@ -5,43 +5,49 @@ from __future__ import annotations
 import ctypes
 from collections.abc import Callable, Iterator
 from ctypes import c_size_t, c_uint8
-from typing import TYPE_CHECKING, Any, NamedTuple, Optional
+from typing import TYPE_CHECKING, Any, Generic, NamedTuple, Optional
 
 from ._errors import MALFORMED_TRIE, TOO_SMALL, Kind, check_status
 from ._library import EXCLUDED, INCLUDED, UNBOUNDED, RawChange, lib
 from ._pairs import Key, key_bytes
+from ._readers import Word
 from ._sets import alike, check_bytes, kind_of, raw_tries
 
 if TYPE_CHECKING:
     from . import _Trie
 
+    class Change(NamedTuple, Generic[Word]):
+        key: Word
+        before: Optional[int]
+        after: Optional[int]
+
+        @property
+        def how(self) -> str: ...
+else:
+    class Change(NamedTuple):
+        """A key that changed from one trie to another. diff() yields it."""
+
+        __module__ = "zerotrie"
+        #: The key, as the first trie returns keys.
+        key: Any
+        #: Its value in the first trie. None: the key was added.
+        before: Optional[int]
+        #: Its value in the second trie. None: the key was removed.
+        after: Optional[int]
+
+        @property
+        def how(self):
+            """How it changed: "added", "removed" or "changed"."""
+            if self.before is None:
+                return "added"
+            return "removed" if self.after is None else "changed"
+
 ADDED, REMOVED, CHANGED = range(3)
 
 
-class Change(NamedTuple):
-    """A key that changed from one trie to another. diff() yields it."""
-
-    #: The key, as the first trie returns keys.
-    key: Any
-    #: Its value in the first trie. None: the key was added.
-    before: Optional[int]
-    #: Its value in the second trie. None: the key was removed.
-    after: Optional[int]
-
-    @property
-    def how(self) -> str:
-        """How it changed: "added", "removed" or "changed"."""
-        if self.before is None:
-            return "added"
-        return "removed" if self.after is None else "changed"
-
-
-Change.__module__ = "zerotrie"
-
-
 def diff(
-    old: _Trie[Any], new: _Trie[Any], start: Optional[Key] = None, stop: Optional[Key] = None
-) -> Iterator[Change]:
+    old: _Trie[Word], new: _Trie[Any], start: Optional[Key] = None, stop: Optional[Key] = None
+) -> Iterator[Change[Word]]:
     """What changed from one trie to another, in the order of bytes, whatever their kinds are: the
     keys that only one of them has, and those with another value. With bounds, as those of range(),
     it is what changed among the keys from `start` on and below `stop`.
@@ -68,9 +74,9 @@ def diff(
 
 
 def changes(
-    tries: list[_Trie[Any]], word: Callable[[bytes], Any], start: Optional[bytes],
+    tries: list[_Trie[Any]], word: Callable[[bytes], Word], start: Optional[bytes],
     stop: Optional[bytes],
-) -> Iterator[Change]:
+) -> Iterator[Change[Word]]:
     bound, last = UNBOUNDED if start is None else INCLUDED, start or b""
     below = UNBOUNDED if stop is None else EXCLUDED
     room, status = 1 << 13, TOO_SMALL

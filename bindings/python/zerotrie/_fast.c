@@ -373,6 +373,18 @@ static bool number_of(PyObject *given, const char *words, const char *what, unsi
     return false;
 }
 
+/* The length of a row of a column that has no key. */
+#define GAP SIZE_MAX
+
+/* Whether a row of a column has no key: it is None, or NaN. _pairs.py has the same. */
+static bool is_gap(PyObject *key) {
+    double number;
+    if (!PyFloat_Check(key))
+        return key == Py_None;
+    number = PyFloat_AsDouble(key);
+    return number != number;
+}
+
 /* Looks the keys up, and replaces each by its value, or by `missing`. It releases the lock if they
  * are many. */
 static void look_up(Held *held, const zerotrie_bytes *keys, size_t count, size_t missing,
@@ -385,16 +397,20 @@ static void look_up(Held *held, const zerotrie_bytes *keys, size_t count, size_t
     Py_INCREF(view);
     state = count < MANY ? NULL : PyEval_SaveThread();
     for (size_t number = 0; number < count; number++) {
+        const zerotrie_bytes key = keys[number];
         values[number] = missing;
-        (void)!library.get(kind, bytes, len, keys[number].ptr, keys[number].len, values + number);
+        if (key.len == GAP)
+            continue;
+        (void)!(kind == INDEX ? library.index_get(bytes, len, key.ptr, key.len, values + number)
+                              : library.get(kind, bytes, len, key.ptr, key.len, values + number));
     }
     if (state)
         PyEval_RestoreThread(state);
     Py_DECREF(view);
 }
 
-/* The values of a list of keys, as the bytes of an array. It makes each key of the list a `bytes`,
- * which keeps its bytes in place. */
+/* The values of a list of keys and gaps, as the bytes of an array. It makes each key of the list a
+ * `bytes`, which keeps its bytes in place. */
 static PyObject *values_of(PyObject *object, PyObject *list, size_t missing) {
     Py_ssize_t count = PyList_Size(list);
     zerotrie_bytes *keys = malloc((size_t)count * sizeof *keys + 1);
@@ -405,7 +421,12 @@ static PyObject *values_of(PyObject *object, PyObject *list, size_t missing) {
     if (!keys)
         PyErr_NoMemory();
     for (; values && number < count; number++) {
-        PyObject *bytes = bytes_of(PyList_GetItem(list, number), keys + number);
+        PyObject *key = PyList_GetItem(list, number), *bytes;
+        if (key && is_gap(key)) {
+            keys[number].len = GAP;
+            continue;
+        }
+        bytes = key ? bytes_of(key, keys + number) : NULL;
         if (!bytes || PyList_SetItem(list, number, bytes) < 0)
             break;
     }
@@ -769,6 +790,7 @@ static PyType_Spec reader = { "zerotrie._fast.Reader", sizeof(Held), 0, FLAGS, r
 static PyMethodDef table_methods[] = {
     { "_hold", hold, METH_VARARGS, NULL },
     { "_lent", reader_lent, METH_NOARGS, NULL },
+    { "_values_of", reader_values_of, METH_VARARGS, NULL },
     { "get", WORDS(reader_get),
       DOC("get($self, /, key, default=None)", "The value of the key, or `default`.") },
     { NULL, NULL, 0, NULL },

@@ -49,6 +49,34 @@ def key_bytes(key: Any) -> bytes:
     return bytes(view)
 
 
+#: The types of what pandas has in place of a missing row.
+GAPS = {"NAType", "NaTType"}
+
+
+def is_gap(key: Any) -> bool:
+    """Whether a row of a column has no key: it is None, or NaN."""
+    if isinstance(key, float):
+        return key != key
+    return key is None or type(key).__name__ in GAPS
+
+
+def column(keys: Iterable[Any]) -> list[Any]:
+    """The rows of a column, as objects: an array makes them faster than it lists them."""
+    made = keys.tolist() if hasattr(keys, "tolist") else list(keys)
+    return made if isinstance(made, list) else [made]
+
+
+def whole_column(keys: list[Any]) -> list[Optional[bytes]]:
+    """Each row as bytes, or None for a gap. TypeError or UnicodeEncodeError, which names the row, if
+    it is neither a key nor a gap.
+    """
+    texts: list[Optional[bytes]] = [None] * len(keys)
+    for place, key in enumerate(keys):
+        if not is_gap(key):
+            texts[place] = row_bytes(place, key)
+    return texts
+
+
 def all_key_bytes(keys: Iterable[Any]) -> list[bytes]:
     """The keys as bytes."""
     return [
@@ -116,14 +144,18 @@ def texts_of(keys: list[Any]) -> list[bytes]:
     try:
         return all_key_bytes(keys)
     except (TypeError, UnicodeEncodeError):
-        texts = []
-    for place, key in enumerate(keys):
-        try:
-            texts.append(key_bytes(key))
-        except (TypeError, UnicodeEncodeError) as error:
-            text = f"key {place} is {reprlib.repr(key)}"
-            raise in_row(error, place, key, text) from None
-    return texts
+        pass
+    return [row_bytes(place, key) for place, key in enumerate(keys)]
+
+
+def row_bytes(place: int, key: Any) -> bytes:
+    """The key in this row as bytes. TypeError or UnicodeEncodeError, which names the row, if it is
+    none.
+    """
+    try:
+        return key_bytes(key)
+    except (TypeError, UnicodeEncodeError) as error:
+        raise in_row(error, place, key, f"key {place} is {reprlib.repr(key)}") from None
 
 
 def halves(pairs: Any) -> tuple[list[Any], list[Any]]:
@@ -158,6 +190,17 @@ def is_pair(row: Any) -> bool:
     except (TypeError, ValueError):
         return False
     return not is_key(row)
+
+
+def numbers_in(given: Any) -> memoryview:
+    """The numbers of an array, of 64 bits each, in place if they have as many."""
+    try:
+        view = memoryview(given)
+    except TypeError:
+        return memoryview(array("Q", given))
+    if view.itemsize != 8 or view.format.lstrip("@=<") not in "QqLlNn" or not view.c_contiguous:
+        view = memoryview(array("Q", view.tolist()))
+    return view
 
 
 def sizes(numbers: array[int]) -> Any:

@@ -15,7 +15,7 @@ from typing import TYPE_CHECKING, Any, Generic, Optional, TypeVar, Union, overlo
 from ._errors import DONE, NO_ENTRY, Other, check_status
 from ._library import _DECLARED, EXCLUDED, MADE, UNBOUNDED, Bytes, CursorPlace, RawSearch, lib
 from ._memory import found_key
-from ._pairs import Key, all_key_bytes, delimiter_bytes, key_bytes, sizes, whole_number
+from ._pairs import Key, all_key_bytes, delimiter_bytes, is_gap, key_bytes, sizes, whole_number
 
 AnyPlace = TypeVar("AnyPlace", bound="Place")
 #: What keys are returned as.
@@ -130,7 +130,9 @@ class Reader(Generic[Word]):
         return list(zip(words, values[:count]))
 
     def _values_of(self, keys: Iterable[Any], missing: Any, /) -> bytes:
-        texts, other = all_key_bytes(keys), whole_number(missing, 64, "missing")
+        rows, other = list(keys), whole_number(missing, 64, "missing")
+        gaps = [place for place, key in enumerate(rows) if is_gap(key)]
+        texts = all_key_bytes(b"" if is_gap(key) else key for key in rows)
         view, kind, at, length, _ = held_by(self)
         ends = array("Q", accumulate(map(len, texts)))
         values = array("Q", bytes(8 * len(texts)))
@@ -138,6 +140,8 @@ class Reader(Generic[Word]):
             check_status(lib.zerotrie_get_many(
                 kind, at, length, b"".join(texts), ends[-1], sizes(ends), len(texts), other,
                 sizes(values), len(texts)))
+        for place in gaps:
+            values[place] = other
         return values.tobytes()
 
     def _part(
@@ -268,6 +272,11 @@ class Table:
         except (TypeError, UnicodeEncodeError):
             return False
         return bool(lib.zerotrie_index_get(at, length, text, len(text), value))
+
+    def _values_of(self, keys: Iterable[Any], missing: Any, /) -> bytes:
+        other = whole_number(missing, 64, "missing")
+        values = [other if is_gap(key) else self.get(key, other) for key in keys]
+        return array("Q", values).tobytes()
 
 
 def text_at(text: Bytes) -> tuple[bytes, int]:
