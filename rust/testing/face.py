@@ -65,7 +65,7 @@ INSTEAD = {
     "AsciiTrie::try_from_sorted_slice_with_const_builder AsciiTrie::try_from_sorted_slice_sized",
     "calls of the types": "why_slice_refused why_iter_refused get is_well_formed",
     "`SealedIndex`, which reads the table": "is_index_number open_table table_len",
-    "`as_bytes`, for programs over the bytes themselves": "ZeroTrieBuilderOptions Trie::nodes crc32c begins_sealed header_of "
+    "`as_bytes`, for programs over the bytes themselves": "ZeroTrieBuilderOptions Trie::nodes crc32c begins_magic begins_sealed header_of "
     "KeysByValue::bytes hash_of build build_all build_sorted",
 }
 # calls that one type of these alone has

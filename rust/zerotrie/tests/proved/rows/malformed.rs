@@ -1,5 +1,6 @@
 // Made from tests/rows/malformed.rt.in by rust/make: edit that.
-//! Walks over bytes that are no trie of some kind. Their results are unspecified, but each walk has one for each call.
+//! Walks and listings over bytes that are no trie of some kind. Their results are unspecified, but each walk has one for each call, and
+//! each listing ends.
 
 use crate::rstd::prelude::*;
 use super::*;
@@ -58,5 +59,39 @@ fn walks_return() -> Result<(), Fail> {
     let mut long = crate::rstd::vec_in![in alloc; b'a'; 100_000]?;
     long.push(0x80)?;
     same(&rt, results_on(alloc, long.as_slice())?, [5; 4]);
+    Ok(())
+}
+
+/// How many pairs are listed, in each kind, and how many keys the map of all has, or none if a key is not text.
+fn listed_of(alloc: Global, bytes: &[u8]) -> Result<[(usize, Option<usize>); 4], Fail> {
+    let (simple, ignore) = (ZeroTrieSimpleAscii::from_bytes(bytes), ZeroAsciiIgnoreCaseTrie::from_bytes(bytes));
+    let (hash, ext) = (ZeroTriePerfectHash::from_bytes(bytes), ZeroTrieExtendedCapacity::from_bytes(bytes));
+    Ok([
+        (simple.iter(alloc).count(), simple.to_btreemap(alloc).ok().map(|map| map.len())),
+        (ignore.iter(alloc).count(), ignore.to_btreemap(alloc).ok().map(|map| map.len())),
+        (hash.iter(alloc).count(), hash.to_btreemap(alloc).ok().map(|map| map.len())),
+        (ext.iter(alloc).count(), ext.to_btreemap(alloc).ok().map(|map| map.len())),
+    ])
+}
+
+/// A listing has at most a pair for each byte, and a map at most a key for each pair.
+fn listings_end<H: Abort>(rt: &H, alloc: Global, bytes: &[u8]) -> Result<(), Fail> {
+    for (pairs, keys) in listed_of(alloc, bytes)? {
+        holds(rt, pairs <= bytes.len() && keys.unwrap_or(0) <= pairs);
+    }
+    Ok(())
+}
+
+#[test]
+fn listings_return() -> Result<(), Fail> {
+    let rt = HostRuntime;
+    for len in 0..=WORDS.len() {
+        listings_end(&rt, rt.alloc(), &WORDS[..len])?;
+    }
+    for bytes in BYTES {
+        listings_end(&rt, rt.alloc(), bytes)?;
+    }
+    let [(pairs, keys), _, _, _] = listed_of(rt.alloc(), WORDS)?;
+    same(&rt, (pairs, keys), (2, Some(2)));
     Ok(())
 }

@@ -39,6 +39,17 @@ fn convert_keeps_the_bytes() -> Result<(), Fail> {
 }
 
 #[test]
+fn a_trie_over_other_stores() -> Result<(), Fail> {
+    let rt = HostRuntime;
+    let owned = ZeroTrieSimpleAscii::from_bytes(b"abc\x85".as_slice()).to_owned(rt.alloc())?;
+    same(&rt, owned.get(b"abc"), Some(5));
+    let shared: ZeroTrieSimpleAscii<CowSlice<'_, u8>> = owned.convert_store();
+    same(&rt, shared.get(b"abc"), Some(5));
+    same(&rt, shared.as_bytes(), b"abc\x85".as_slice());
+    Ok(())
+}
+
+#[test]
 fn key_bytes_of_each_key() -> Result<(), Fail> {
     let rt = HostRuntime;
     same(&rt, "ad".key_bytes(), b"ad".as_slice());
