@@ -2,3 +2,4 @@ mod Rules
 mod SearchLemmas
 mod ReadLemmas
 mod PlaceLemmas
+mod ProgramLemmas

@@ -1,5 +1,5 @@
 -- The arguments of a command line, as clap reads them.
-use Rattle.std.specs.Prelude.{ℕ, List, ◌∷◌, [], Option, Some, None, true, false, codes, map}
+use Rattle.std.specs.Prelude.{ℕ, List, ◌∷◌, [], Option, Some, None, true, codes, map}
 use Rattle.std.specs.Borrow.{Bor}
 use Rattle.clap.specs.Lexer.{usize_max}
 use Rattle.clap.specs.Simple.{App, new_app, new_rule, new_shape, with_rule, with_subcommand}
@@ -30,29 +30,51 @@ as_named name (Some letter) option = record option { long = Some name; short = S
 abbrev pub as_option : Bor (List ℕ) → Option ℕ → Bor (List ℕ) → Arg → Arg
 as_option name letter value option = record (as_named name letter option) { action = Some Set; val_names = One value }
 
--- the rule of an option with a word
-abbrev pub option_rule : Bor (List ℕ) → Option ℕ → Rule
-option_rule name letter = record (new_rule name.now) { long = Some name.now; short = letter; action = Some Set; value_names = 1 }
+-- the rules of a word at its place, of words, of a flag, and of an option with a word
+abbrev pub place : List ℕ → Rule
+place name = record (new_rule name) { action = Some Set; required = true }
+
+abbrev pub words : List ℕ → Rule
+words name = record (new_rule name) { action = Some Append; required = true; range = Some (record { start_inclusive = 1; end_inclusive = usize_max }) }
+
+abbrev pub flag : List ℕ → Option ℕ → Rule
+flag name letter = record (new_rule name) { long = Some name; short = letter; action = Some SetTrue }
+
+abbrev pub option : List ℕ → Option ℕ → Rule
+option name letter = record (new_rule name) { long = Some name; short = letter; action = Some Set; value_names = 1 }
+
+-- the same, if it takes only words of a list, or numbers up to this one
+abbrev pub from_list : Bor (List (Bor (List ℕ))) → Rule → Rule
+from_list list rule = record rule { parser = Some (Names list) }
+
+abbrev pub numbers_to : ℕ → Rule → Rule
+numbers_to most rule = record rule { parser = Some (Unsigned 0 most) }
+
+-- the same, if it has to be there, or has a default
+abbrev pub as_required : Rule → Rule
+as_required rule = record rule { required = true }
+
+abbrev pub as_default : List ℕ → Rule → Rule
+as_default word rule = record rule { defaults = word ∷ [] }
 
 -- the same, by what holds if it is left out
 abbrev pub rule_left_out : Otherwise → Rule → Rule
-rule_left_out otherwise.Refused rule = record rule { required = true }
-rule_left_out (otherwise.Is word) rule = record rule { defaults = word.now ∷ [] }
+rule_left_out otherwise.Refused rule = as_required rule
+rule_left_out (otherwise.Is word) rule = as_default word.now rule
 rule_left_out otherwise.Nothing rule = rule
 
--- the rule of an argument by its form; a word that begins with a hyphen is no simple matter for clap
-abbrev pub rule_of_form : Bor (List ℕ) → Form → Rule
-rule_of_form name form.Place = record (new_rule name.now) { action = Some Set; required = true }
-rule_of_form name (form.Word words) = record (new_rule name.now) { action = Some Set; required = true; parser = Some (Names words) }
-rule_of_form name form.Words = record (new_rule name.now) { action = Some Append; required = true; range = Some (record { start_inclusive = 1; end_inclusive = usize_max }) }
-rule_of_form name (form.Flag letter) = record (new_rule name.now) { long = Some name.now; short = letter; action = Some SetTrue }
-rule_of_form name (form.Text value letter otherwise) = rule_left_out otherwise (option_rule name letter)
-rule_of_form name (form.Number value letter most) = record (option_rule name letter) { parser = Some (Unsigned 0 most) }
-rule_of_form name (form.AnyText value letter) = record (option_rule name letter) { is_simple = false }
-rule_of_form name (form.OneOf value letter words otherwise) = rule_left_out otherwise (record (option_rule name letter) { parser = Some (Names words) })
+-- the rule of an argument by its form
+abbrev pub rule_of_form : List ℕ → Form → Rule
+rule_of_form name form.Place = place name
+rule_of_form name (form.Word list) = from_list list (place name)
+rule_of_form name form.Words = words name
+rule_of_form name (form.Flag letter) = flag name letter
+rule_of_form name (form.Text value letter otherwise) = rule_left_out otherwise (option name letter)
+rule_of_form name (form.Number value letter most) = numbers_to most (option name letter)
+rule_of_form name (form.OneOf value letter list otherwise) = rule_left_out otherwise (from_list list (option name letter))
 
 abbrev pub rule_by : Argument → Rule
-rule_by argument = rule_of_form argument.name argument.form
+rule_by argument = rule_of_form argument.name.now argument.form
 
 -- a command with these rules, too
 abbrev pub with_rules : App → List Rule → App

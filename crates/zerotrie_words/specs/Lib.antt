@@ -2,6 +2,7 @@ pub mod Words
 pub mod Refusals
 pub mod Diffs
 pub mod Arguments
+pub mod Program
 pub mod Tasks
 pub mod Replies
 pub mod Requests

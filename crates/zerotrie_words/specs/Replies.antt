@@ -1,9 +1,10 @@
 -- What is said in place of a command, and how the program ends then.
-use Rattle.std.specs.Prelude.{◌≡◌, ◌≢◌, ◌⊎◌}
+use Rattle.std.specs.Prelude.{◌≡◌, ◌≢◌, ◌⊎◌, [], string_bytes}
 use Rattle.clap.specs.declared.error.kind.ErrorKind.{ErrorKind}
 use Rattle.clap.specs.declared.error.kind.ErrorKind.TheVariants.{DisplayHelp, DisplayVersion}
 use Rattle.zerotrie_run.specs.declared.status.Status.{Status}
 use Rattle.zerotrie_run.specs.declared.status.Status.TheVariants.{Done, BadUsage, OutOfMemory}
+use Rattle.zerotrie_words.specs.Refusals.{IsSaid}
 use Rattle.zerotrie_words.specs.declared.reply.Reply.{Reply}
 use Rattle.zerotrie_words.specs.declared.reply.Reply.TheVariants as reply
 
@@ -19,10 +20,10 @@ status_of reply.OutOfMemory = OutOfMemory
 abbrev pub AsksForHelp : ErrorKind → Type 0
 AsksForHelp kind = (kind ≡ DisplayHelp) ⊎ (kind ≡ DisplayVersion)
 
--- a reply to words of which clap makes an error of this kind: help only if they ask for it
+-- a reply to words of which clap makes an error of this kind: help only if they ask for it, and else a message
 abbrev pub IsReply : ErrorKind → Reply → Type 0
 IsReply kind (reply.Help text) = AsksForHelp kind
-IsReply kind (reply.Misuse text) = (kind ≢ DisplayHelp) × (kind ≢ DisplayVersion)
-IsReply kind (reply.Refusal why) = ⊥
+IsReply kind (reply.Misuse text) = (kind ≢ DisplayHelp) × (kind ≢ DisplayVersion) × (string_bytes text ≢ [])
+IsReply kind (reply.Refusal why) = (kind ≢ DisplayHelp) × (kind ≢ DisplayVersion) × IsSaid why
 IsReply kind (reply.OneFile path other) = ⊥
 IsReply kind reply.OutOfMemory = Unit {0}

@@ -33,8 +33,6 @@ pub enum Form {
     Text(&'static str, Option<char>, Otherwise),
     /// Its name and a number up to this one after it, which help calls so.
     Number(&'static str, Option<char>, u64),
-    /// Its name and any word after it, which help calls so; also one that begins with a hyphen.
-    AnyText(&'static str, Option<char>),
     /// Its name and one of these words after it, which help calls so.
     OneOf(&'static str, Option<char>, &'static [&'static str], Otherwise),
 }
@@ -113,9 +111,6 @@ impl Argument {
                 with_word(arg, self.name, *letter, value).value_parser(ValueParser::unsigned(
                     0, *most,
                 ))
-            }
-            Form::AnyText(value, letter) => {
-                with_word(arg, self.name, *letter, value).allow_hyphen_values(true)
             }
             Form::OneOf(value, letter, words, otherwise) => {
                 let option = with_word(arg, self.name, *letter, value);

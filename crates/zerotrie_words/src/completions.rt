@@ -72,7 +72,6 @@ impl Argument {
             Form::Flag(letter)
             | Form::Text(_, letter, _)
             | Form::Number(_, letter, _)
-            | Form::AnyText(_, letter)
             | Form::OneOf(_, letter, _, _) => letter,
         }
     }
@@ -81,11 +80,8 @@ impl Argument {
     pub fn is_option(&self) -> bool {
         match self.form {
             Form::Place | Form::Word(_) | Form::Words => false,
-            Form::Flag(_)
-            | Form::Text(_, _, _)
-            | Form::Number(_, _, _)
-            | Form::AnyText(_, _)
-            | Form::OneOf(_, _, _, _) => true,
+            Form::Flag(_) | Form::Text(_, _, _) | Form::Number(_, _, _) | Form::OneOf(_, _, _, _) =>
+                true,
         }
     }
 
@@ -94,10 +90,8 @@ impl Argument {
         match self.form {
             Form::Place | Form::Word(_) | Form::Words => Some(self.name),
             Form::Flag(_) => None,
-            Form::Text(value, _, _)
-            | Form::Number(value, _, _)
-            | Form::AnyText(value, _)
-            | Form::OneOf(value, _, _, _) => Some(value),
+            Form::Text(value, _, _) | Form::Number(value, _, _) | Form::OneOf(value, _, _, _) =>
+                Some(value),
         }
     }
 
@@ -107,7 +101,7 @@ impl Argument {
             Form::Word(words) | Form::OneOf(_, _, words, _) => Offer::Words(words),
             Form::Place | Form::Words => offer_of(self.name),
             Form::Text(value, _, _) => offer_of(value),
-            Form::Flag(_) | Form::Number(_, _, _) | Form::AnyText(_, _) => Offer::Nothing,
+            Form::Flag(_) | Form::Number(_, _, _) => Offer::Nothing,
         }
     }
 
@@ -120,7 +114,6 @@ impl Argument {
             | Form::Flag(_)
             | Form::Text(_, _, _)
             | Form::Number(_, _, _)
-            | Form::AnyText(_, _)
             | Form::OneOf(_, _, _, _) => false,
         }
     }

@@ -1,5 +1,6 @@
 //! The texts of help and of errors of the command line.
 
+use crate::arguments::{Argument, Form, Subcommand};
 use std::alloc::{AllocError, Global};
 
 /// How many columns a line of help has at most.
@@ -60,13 +61,81 @@ fn is_said(line: &str) -> bool {
     !line.starts_with("  tip: to pass") && !line.starts_with("For more information")
 }
 
-/// Returns an error of clap as the program says it. Words that are lacking may be `-`.
-fn error_of(alloc: Global, error: &str) -> Result<String, AllocError> {
+/// Returns whether a word is the name or the letter of an option that takes any text.
+fn takes_text(argument: &Argument, word: &str) -> bool {
+    let Form::Text(_, letter, _) = argument.form else {
+        return false;
+    };
+    match word.strip_prefix("--") {
+        Some(name) => name == argument.name,
+        None => {
+            let mut letters = word.chars();
+            letters.next() == Some('-')
+                && letter.is_some()
+                && letters.next() == letter
+                && letters.next().is_none()
+        }
+    }
+}
+
+/// Returns whether a word asks for any text behind it, in the command of this name.
+fn wants_text(rows: &[&'static [Subcommand]], command: &str, word: &str) -> bool {
+    for part in rows {
+        for row in *part {
+            for argument in row.arguments {
+                if row.name == command && takes_text(argument, word) {
+                    return true;
+                }
+            }
+        }
+    }
+    false
+}
+
+/// Returns an option that wants a text, and the word behind it, if that begins with a hyphen: clap
+/// takes it for an option. `None` if there is none.
+pub fn text_apart<'a>(
+    rows: &[&'static [Subcommand]],
+    words: &'a [String],
+) -> Option<(&'a str, &'a str)> {
+    let command = words.get(1)?.as_str();
+    let mut before = "";
+    for word in words {
+        let word = word.as_str();
+        if before == "--" {
+            return None;
+        }
+        if word.starts_with("-") && word != "-" && wants_text(rows, command, before) {
+            return Some((before, word));
+        }
+        before = word;
+    }
+    None
+}
+
+/// Adds how to write an option with a text that begins with a hyphen, if there is one.
+fn add_tip(text: &mut String, apart: Option<(&str, &str)>) -> Result<(), AllocError> {
+    let Some((option, word)) = apart else {
+        return Ok(());
+    };
+    text.push_str("  tip: write ")?;
+    text.push_str(option)?;
+    text.push_str(if option.starts_with("--") { "=" } else { "" })?;
+    text.push_str(word)?;
+    text.push_str(" for a text that begins with a hyphen\n\n")
+}
+
+/// Returns an error of clap as the program says it, of words with such an option. Words that are
+/// lacking may be `-`.
+fn error_of(alloc: Global, error: &str, apart: Option<(&str, &str)>) -> Result<String, AllocError> {
     let mut text = String::new(alloc);
     text.push_str("zerotrie: ")?;
     let mut was_empty = false;
     for line in error.lines() {
         let is_empty = line.is_empty();
+        if line.starts_with("Usage: ") {
+            add_tip(&mut text, apart)?;
+        }
         if is_said(line) && !(is_empty && was_empty) {
             text.push_str(line)?;
             if line.starts_with("  <") && line.ends_with(">...") {
@@ -81,10 +150,14 @@ fn error_of(alloc: Global, error: &str) -> Result<String, AllocError> {
 
 /// Returns what clap says as the program says it: an error as its other messages, help with short
 /// lines.
-pub fn text_of(alloc: Global, said: &clap::Error) -> Result<String, AllocError> {
+pub fn text_of(
+    alloc: Global,
+    said: &clap::Error,
+    apart: Option<(&str, &str)>,
+) -> Result<String, AllocError> {
     let text = format!(in alloc; "{said}")?;
     match text.as_str().strip_prefix("error: ") {
-        Some(error) => error_of(alloc, error),
+        Some(error) => error_of(alloc, error, apart),
         None => wrapped(alloc, text.as_str()),
     }
 }

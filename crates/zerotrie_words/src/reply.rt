@@ -55,16 +55,17 @@ impl Reply<'_> {
 }
 
 /// Returns what is said where clap finds no command: the help or the version that the words ask
-/// for, or why they are none.
-pub fn reply_to<'a>(alloc: Global, said: &clap::Error) -> Reply<'a>
+/// for, or why they are none. `apart` is an option with a word that belongs to it.
+pub fn reply_to<'a>(alloc: Global, said: &clap::Error, apart: Option<(&str, &str)>) -> Reply<'a>
     ensures { IsReply (kind_of said.now) result }
 {
-    let Ok(text) = text_of(alloc, said) else {
+    let Ok(text) = text_of(alloc, said, apart) else {
         return Reply::OutOfMemory;
     };
     match said.kind() {
         ErrorKind::OutOfMemory => Reply::OutOfMemory,
         ErrorKind::DisplayHelp | ErrorKind::DisplayVersion => Reply::Help(text),
+        _ if text.is_empty() => Reply::Refusal("give a command, or --help"),
         _ => Reply::Misuse(text),
     }
 }

@@ -1,20 +1,19 @@
 //! The words of a command line as a command.
 
-ghost use Rattle.std.specs.Prelude.{◌≡◌, List, IfOk, IfErr, IfSome, map, string_bytes};
+ghost use Rattle.std.specs.Prelude.{◌≡◌, IfOk, IfErr, IfSome, map, string_bytes};
 ghost use Rattle.zerotrie_run.specs.declared.status.Status.TheVariants.{BadUsage};
-ghost use Rattle.zerotrie_words.specs.Arguments.{program_by};
 ghost use Rattle.zerotrie_words.specs.Reads.{IsFaultSaid, IsFoundIn, IsNoRequest, IsRequest};
 ghost use Rattle.zerotrie_words.specs.Replies.{status_of};
 ghost use Rattle.zerotrie_words.specs.Requests.{AreApart, AreOneFile, ArePlaces, IsCommand, IsHeading, IsNoCommand, IsQuiet, IsRefusal, NamesOneFile, file_count, keys_by};
 ghost use Rattle.zerotrie_words.specs.Tasks.{AsksForPage};
 ghost use Rattle.zerotrie_words.specs.Words.{texts_of};
-ghost use Rattle.zerotrie_words.specs.declared.arguments.Subcommand.{Subcommand};
 
-use crate::arguments::{Subcommand, program};
+use crate::arguments::program;
 use crate::build::build_in;
 use crate::combine::{combine_in, places_in};
 use crate::completions::script_for;
 use crate::diff::diff_in;
+use crate::help::text_apart;
 use crate::keys::words_in;
 use crate::manual::manual;
 use crate::question::{ask_in, file_count, heading_in};
@@ -36,38 +35,30 @@ pub struct Request<'a> {
     places: Vec<Place<'a>>,
 }
 
-/// Returns what clap finds in words, by rows of commands, or what is said in place of it.
-fn matches_in<'a>(
-    alloc: Global,
-    rows: &[&'static [Subcommand]],
-    words: &'a [String],
-) -> Result<ArgMatches<'a>, Reply<'a>>
-    ensures found { IfOk result (IsFoundIn (program_by (map (λ part. part.now) rows.now))
-        (map (λ word. string_bytes word) words.now)) }
-    ensures refused { IfErr result (IsFaultSaid (program_by (map (λ part. part.now) rows.now))
-        (map (λ word. string_bytes word) words.now)) }
+/// Returns what clap finds in words, or what is said in place of it.
+fn matches_in<'a>(alloc: Global, words: &'a [String]) -> Result<ArgMatches<'a>, Reply<'a>>
+    ensures found { IfOk result (IsFoundIn (map (λ word. string_bytes word) words.now)) }
+    ensures refused { IfErr result (IsFaultSaid (map (λ word. string_bytes word) words.now)) }
 {
-    let known = program(alloc, rows)?;
+    let rows = commands();
+    let known = program(alloc, &rows)?;
     match known.try_get_matches_from(words) {
         Ok(matches) => Ok(matches),
-        Err(error) => Err(reply_to(alloc, &error)),
+        Err(error) => Err(reply_to(alloc, &error, text_apart(&rows, words))),
     }
 }
 
 /// Returns the man page, or the completions for a shell, if the words ask for these. `None` if they
 /// ask for something else.
-fn page_in(
-    alloc: Global,
-    rows: &[&'static [Subcommand]],
-    matches: &ArgMatches<'_>,
-) -> Result<Option<String>, AllocError>
+fn page_in(alloc: Global, matches: &ArgMatches<'_>) -> Result<Option<String>, AllocError>
     ensures { IfOk result (λ page. IfSome page (λ _. AsksForPage matches.now)) }
 {
     match matches.subcommand() {
         Some(("completions", words)) => {
-            script_for(alloc, words.get_str("SHELL").unwrap_or(""), rows)
+            let shell = words.get_str("SHELL").unwrap_or("");
+            script_for(alloc, shell, &commands())
         }
-        Some(("man", _)) => Ok(Some(manual(alloc, rows)?)),
+        Some(("man", _)) => Ok(Some(manual(alloc, &commands())?)),
         _ => Ok(None),
     }
 }
@@ -93,32 +84,13 @@ impl<'a> Request<'a> {
     pub fn read(alloc: Global, words: &'a [String]) -> Result<Self, Reply<'a>>
         ensures keys { IfOk result (λ r. texts_of r.keys ≡ keys_by r.matches r.task) }
         ensures places { IfOk result (λ r. ArePlaces r.matches r.task r.places.items) }
-        ensures request { IfOk result (λ r. (rows : List (List Subcommand))
-            × IsRequest (program_by rows) (map (λ word. string_bytes word) words.now)
-            r.task r.matches) }
-        ensures refused { IfErr result (λ reply. (rows : List (List Subcommand))
-            × IsNoRequest (program_by rows) (map (λ word. string_bytes word) words.now) reply) }
-    {
-        Request::read_by(alloc, &commands(), words)
-    }
-
-    /// Reads the words of a command line, by rows of commands.
-    fn read_by(
-        alloc: Global,
-        rows: &[&'static [Subcommand]],
-        words: &'a [String],
-    ) -> Result<Self, Reply<'a>>
-        ensures keys { IfOk result (λ r. texts_of r.keys ≡ keys_by r.matches r.task) }
-        ensures places { IfOk result (λ r. ArePlaces r.matches r.task r.places.items) }
         ensures request { IfOk result (λ r. IsRequest
-            (program_by (map (λ part. part.now) rows.now))
             (map (λ word. string_bytes word) words.now) r.task r.matches) }
-        ensures refused { IfErr result (IsNoRequest
-            (program_by (map (λ part. part.now) rows.now))
-            (map (λ word. string_bytes word) words.now)) }
+        ensures refused { IfErr result
+            (IsNoRequest (map (λ word. string_bytes word) words.now)) }
     {
-        let mut matches = matches_in(alloc, rows, words)?;
-        if let Some(page) = page_in(alloc, rows, &matches)? {
+        let mut matches = matches_in(alloc, words)?;
+        if let Some(page) = page_in(alloc, &matches)? {
             return Err(Reply::Help(page));
         }
         let Some((task, matches)) = task_in(&mut matches) else {

@@ -1,5 +1,10 @@
 //! The commands, as rows.
 
+ghost use Rattle.std.specs.Prelude.{◌≡◌, map};
+ghost use Rattle.zerotrie_words.specs.Arguments.{program_by};
+ghost use Rattle.zerotrie_words.specs.Program as program;
+ghost use Rattle.zerotrie_words.specs.Program.{IsProgram, shape_by};
+
 use crate::arguments::{Argument, Form, Otherwise, Subcommand};
 use crate::completions::SHELLS;
 use crate::input::INPUTS;
@@ -70,19 +75,19 @@ const NO_CHECK: Argument = Argument {
 
 const PREFIX: Argument = Argument {
     name: "prefix",
-    form: Form::AnyText("P", Some('p')),
+    form: Form::Text("P", Some('p'), Otherwise::Nothing),
     help: "Only keys that begin so",
 };
 
 const FROM: Argument = Argument {
     name: "from",
-    form: Form::AnyText("A", None),
+    form: Form::Text("A", None, Otherwise::Nothing),
     help: "Only keys from this one on, by their bytes; in kind ignore by those in lower case",
 };
 
 const BELOW: Argument = Argument {
     name: "below",
-    form: Form::AnyText("B", None),
+    form: Form::Text("B", None, Otherwise::Nothing),
     help: "Only keys below this one, by their bytes; in kind ignore by those in lower case",
 };
 
@@ -328,7 +333,7 @@ const LOOK_UPS: &[Subcommand] = &[
             },
             Argument {
                 name: "at",
-                form: Form::AnyText("BYTE", None),
+                form: Form::Text("BYTE", None, Otherwise::Nothing),
                 help: "Take only keys that end with the text or before this byte",
             },
             ESCAPED,
@@ -381,12 +386,12 @@ const LISTINGS: &[Subcommand] = &[
             FILE,
             Argument {
                 name: "glob",
-                form: Form::AnyText("P", Some('g')),
+                form: Form::Text("P", Some('g'), Otherwise::Nothing),
                 help: "Keys that match as a whole; * is any characters, ? one, [a-z] or [!a-z] one of a class, {a,b} either, and \\ takes the next as it is",
             },
             Argument {
                 name: "fuzzy",
-                form: Form::AnyText("WORD", Some('z')),
+                form: Form::Text("WORD", Some('z'), Otherwise::Nothing),
                 help: "Keys that few edits make of this word, of at most 63 characters",
             },
             Argument {
@@ -416,12 +421,12 @@ const LISTINGS: &[Subcommand] = &[
             },
             Argument {
                 name: "subsequence",
-                form: Form::AnyText("S", Some('s')),
+                form: Form::Text("S", Some('s'), Otherwise::Nothing),
                 help: "Keys that have these bytes in this order, with any others between",
             },
             Argument {
                 name: "not",
-                form: Form::AnyText("P", None),
+                form: Form::Text("P", None, Otherwise::Nothing),
                 help: "Keys that do not match this pattern, as of --glob",
             },
             PREFIX,
@@ -590,29 +595,41 @@ const SERVICES: &[Subcommand] = &[
     },
 ];
 
-fn look_ups() -> &'static [Subcommand] {
+fn look_ups() -> &'static [Subcommand]
+    ensures { map shape_by result.now ≡ program.look_ups }
+{
     LOOK_UPS
 }
 
-fn listings() -> &'static [Subcommand] {
+fn listings() -> &'static [Subcommand]
+    ensures { map shape_by result.now ≡ program.listings }
+{
     LISTINGS
 }
 
-fn reports() -> &'static [Subcommand] {
+fn reports() -> &'static [Subcommand]
+    ensures { map shape_by result.now ≡ program.reports }
+{
     REPORTS
 }
 
-fn combinations() -> &'static [Subcommand] {
+fn combinations() -> &'static [Subcommand]
+    ensures { map shape_by result.now ≡ program.combinations }
+{
     COMBINATIONS
 }
 
-fn services() -> &'static [Subcommand] {
+fn services() -> &'static [Subcommand]
+    ensures { map shape_by result.now ≡ program.services }
+{
     SERVICES
 }
 
 /// What the program can be asked to do, in the order of the help. Each part is behind a function of
 /// its own, since a proof writes out the rows that it sees.
-pub fn commands() -> [&'static [Subcommand]; 5] {
+pub fn commands() -> [&'static [Subcommand]; 5]
+    ensures { IsProgram (program_by (map (λ part. part.now) result)) }
+{
     [
         look_ups(),
         listings(),

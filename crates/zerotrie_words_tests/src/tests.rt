@@ -1,5 +1,5 @@
-//! Which words ask for which command, and what is said in place of one. No clause says it, since `clap` has none on words
-//! of a command with options whose words may begin with a hyphen.
+//! Which words ask for which command, and what is said in place of one: rows beside the clauses of `Request`, and the
+//! first lines of messages, of which no clause speaks.
 
 use std::alloc::{AllocError, Global};
 use std::process::Abort;
@@ -85,7 +85,7 @@ longest f -- -a => Ask(TrieFile { place: File("f"), bare: None, check: Usual }, 
 keys f - --no-check => Ask(TrieFile { place: File("f"), bare: None, check: Skip }, LookUp(Query { asked: KeyOf, spelling: Plain }, Lines))
 keys - 2 03 -b hash => Ask(TrieFile { place: Stream, bare: Some(Hash), check: Usual }, LookUp(Query { asked: KeyOf, spelling: Plain }, Words([[50], [48, 51]])))
 list f -p x -f csv -n 3 -S -b hash => Ask(TrieFile { place: File("f"), bare: Some(Hash), check: Usual }, List(Lines(Csv), Choice { prefix: [120], range: KeyRange { from: Unbounded, to: Unbounded }, without: None, sought: None }, ByBytes, Some(3)))
-list f --prefix -x --format keys --limit 0 => Ask(TrieFile { place: File("f"), bare: None, check: Usual }, List(Lines(Keys), Choice { prefix: [45, 120], range: KeyRange { from: Unbounded, to: Unbounded }, without: None, sought: None }, Stored, Some(0)))
+list f --prefix=-x --format keys --limit 0 => Ask(TrieFile { place: File("f"), bare: None, check: Usual }, List(Lines(Keys), Choice { prefix: [45, 120], range: KeyRange { from: Unbounded, to: Unbounded }, without: None, sought: None }, Stored, Some(0)))
 list f -r => Ask(TrieFile { place: File("f"), bare: None, check: Usual }, List(Lines(TsvRaw), Choice { prefix: [], range: KeyRange { from: Unbounded, to: Unbounded }, without: None, sought: None }, Stored, None))
 list f --format values => Ask(TrieFile { place: File("f"), bare: None, check: Usual }, List(Lines(Values), Choice { prefix: [], range: KeyRange { from: Unbounded, to: Unbounded }, without: None, sought: None }, Stored, None))
 list f --format json => Ask(TrieFile { place: File("f"), bare: None, check: Usual }, List(Json, Choice { prefix: [], range: KeyRange { from: Unbounded, to: Unbounded }, without: None, sought: None }, Stored, None))
@@ -105,7 +105,7 @@ search f --subsequence ab -S => Ask(TrieFile { place: File("f"), bare: None, che
 search f --from b --below c => Ask(TrieFile { place: File("f"), bare: None, check: Usual }, List(Lines(Tsv), Choice { prefix: [], range: KeyRange { from: Included([98]), to: Excluded([99]) }, without: None, sought: None }, Stored, None))
 search f --below c => Ask(TrieFile { place: File("f"), bare: None, check: Usual }, List(Lines(Tsv), Choice { prefix: [], range: KeyRange { from: Unbounded, to: Excluded([99]) }, without: None, sought: None }, Stored, None))
 search f -p a => Ask(TrieFile { place: File("f"), bare: None, check: Usual }, List(Lines(Tsv), Choice { prefix: [97], range: KeyRange { from: Unbounded, to: Unbounded }, without: None, sought: None }, Stored, None))
-search f -g x* -p -a --from b --below c -S => Ask(TrieFile { place: File("f"), bare: None, check: Usual }, List(Lines(Tsv), Choice { prefix: [45, 97], range: KeyRange { from: Included([98]), to: Excluded([99]) }, without: None, sought: Some(Sought { by: GlobChars, word: [120, 42], begins: false }) }, ByBytes, None))
+search f -g x* -p-a --from b --below c -S => Ask(TrieFile { place: File("f"), bare: None, check: Usual }, List(Lines(Tsv), Choice { prefix: [45, 97], range: KeyRange { from: Included([98]), to: Excluded([99]) }, without: None, sought: Some(Sought { by: GlobChars, word: [120, 42], begins: false }) }, ByBytes, None))
 search f -s ab --from b => Ask(TrieFile { place: File("f"), bare: None, check: Usual }, List(Lines(Tsv), Choice { prefix: [], range: KeyRange { from: Included([98]), to: Unbounded }, without: None, sought: Some(Sought { by: Subsequence, word: [97, 98], begins: false }) }, Stored, None))
 list f --from b --below c -p a => Ask(TrieFile { place: File("f"), bare: None, check: Usual }, List(Lines(Tsv), Choice { prefix: [97], range: KeyRange { from: Included([98]), to: Excluded([99]) }, without: None, sought: None }, Stored, None))
 diff a b -b ext => Diff(Diff { old: File("a"), new: File("b"), bare: Some(Ext) })
@@ -128,6 +128,8 @@ get => 2 the following required arguments were not provided:
 diff a => 2 the following required arguments were not provided:
 nope => 2 unrecognized subcommand 'nope'
 list f --nope => 2 unexpected argument '--nope' found
+search f --glob -x => 2 unexpected argument '-x' found
+search f -g --count => 2 a value is required for '--glob <P>' but none was supplied
 verify f --no-check => 2 unexpected argument '--no-check' found
 list f -N 3 => 2 unexpected argument '-N' found
 verify f g => Ask(TrieFile { place: File("f"), bare: None, check: Full }, Verify)
