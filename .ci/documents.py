@@ -30,7 +30,7 @@ LIMITS = {
     "CONTRIBUTING.md": 1760,
     "bindings/README.md": 330,
     "bindings/python/README.md": 120,
-    "crates/zerotrie_cli/NOTES.md": 688,
+    "crates/zerotrie_cli/NOTES.md": 705,
     "crates/zerotrie_cli/README.md": 1210,
     "crates/zerotrie_index/README.md": 475,
     "crates/zerotrie_reverse/README.md": 320,

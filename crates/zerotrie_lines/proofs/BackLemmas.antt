@@ -1,15 +1,15 @@
 -- What is written is read back, and nothing else is.
-use Rattle.std.proofs.Common.{◌≡◌, ℕ, ◌+◌, ◌-◌, ◌*◌, ◌/◌, ◌%◌, ◌^◌, ◌<◌, ◌≤◌, ◌⊎◌, inl, inr, map, List, [], ◌∷◌, ◌++◌, length, take, drop, refl, sym, ◌∙◌, ap, subst, arith, Bool, true, false, append_assoc, suc}
-use Rattle.std.specs.Prelude.{◌≢◌, ◌==◌, ◌&&◌, nat_lt, not, if◌then◌else◌, decimal, All}
+use Rattle.std.proofs.Common.{◌≡◌, ℕ, ◌+◌, ◌-◌, ◌*◌, ◌/◌, ◌%◌, ◌^◌, ◌<◌, ◌≤◌, inl, inr, map, List, [], ◌∷◌, ◌++◌, length, take, drop, refl, sym, ◌∙◌, ap, subst, arith, Bool, true, false, append_assoc, zero, suc}
+use Rattle.std.specs.Prelude.{◌≢◌, ◌==◌, nat_lt, if◌then◌else◌, decimal, All}
 use Rattle.std.specs.List.{before_first, after_first, position_or_len}
-use Rattle.std.proofs.lemmas.Bool.{eqb-true, eqb-false, ltb-true, lt-ltb, le-ltb}
+use Rattle.std.proofs.lemmas.Bool.{eqb-true, ltb-true, lt-ltb, le-ltb}
 use Rattle.std.proofs.lemmas.Bool.Decides.{eqb_tells, leb_tells}
 use Rattle.std.proofs.lemmas.Fmt.{decimal_by_steps, length-decimal-le}
 use Rattle.std.proofs.lemmas.List.{length-append}
 use Rattle.std.proofs.Math.Seq.{take-append_seam}
 use Rattle.zerotrie_lines.specs.Numbers.{AreDigits, number_behind, IsNumber}
 use Rattle.zerotrie_lines.specs.Tables.{Pair, Pairs}
-use Rattle.zerotrie_lines.specs.Escapes.{IsHexDigit, SpellsHex, SpellsEscape, SpellsFirst, Spells, hex_digit, is_plain, escape_of, escape, spelled, has_mark, escaped}
+use Rattle.zerotrie_lines.specs.Escapes.{IsHexDigit, SpellsHex, SpellsEscape, SpellsFirst, Spells, hex_digit, are_three, len_of_four, shown_len, escape_of, escaped_behind, has_mark, escaped}
 use Rattle.csv.specs.Reading.{is_bom, strip_bom}
 use Rattle.csv.specs.declared.parser.State.TheVariants as st
 use Rattle.zerotrie_lines.specs.Records.{Fields, IsPairRecord, ArePairRecords, config_of}
@@ -27,35 +27,7 @@ use Rattle.zerotrie_lines.specs.declared.reading.LineEnd.{LineEnd}
 use Rattle.zerotrie_lines.proofs.BytesLemmas.{High, high_append, digits_high, Lacks, lacks_low, lacks_append, place_behind, drop_behind}
 use Rattle.zerotrie_lines.proofs.EndLemmas.{ended_on, ended_high, no_mark}
 use Rattle.zerotrie_lines.proofs.EscapeLemmas.{one_rest}
-
--- a fact of both arms of a test
-by_test : {X : Type 0} (Fact : X → Type 0) (b : Bool) (x y : X) → (b ≡ true → Fact x) → (b ≡ false → Fact y) → Fact (if b then x else y)
-by_test Fact true x y h k = h refl
-by_test Fact false x y h k = k refl
-
--- what a byte that stands for itself is not
-plain_is : (b : ℕ) → is_plain b ≡ true → (32 ≤ b) × (b ≢ 92)
-plain_is b is = elim (leb_tells 32 b) [
-  | inl low ↦ elim (eqb_tells b 92) [
-    | inl slash ↦ absurd (apart (b == 127) (rw (low.0, slash.0) at is))
-    | inr other ↦ (low.1, λ e. eqb-false b 92 other.0 e)
-  ]
-  | inr high ↦ absurd (cc (rw high.0 at is))
-]
-  where
-    apart : (t : Bool) → (true && (not t && not true)) ≡ true → ⊥
-    apart true e = absurd (cc e)
-    apart false e = absurd (cc e)
-
--- a byte that does not is below 128
-not_plain : (b : ℕ) → is_plain b ≡ false → b < 128
-not_plain b is = elim (leb_tells 32 b) [
-  | inl low ↦ elim (eqb_tells b 127) [
-    | inl last ↦ omega (arith, last.1)
-    | inr other ↦ elim (eqb_tells b 92) [ inl slash ↦ omega (arith, slash.1) | inr plain ↦ absurd (cc (rw (low.0, other.0, plain.0) at is)) ]
-  ]
-  | inr high ↦ omega (arith, high.1)
-]
+use Rattle.zerotrie_lines.proofs.WrittenLemmas.{Wide, by_test, shown_by, no_bom}
 
 hexes : (n : ℕ) → n < 16 → IsHexDigit (hex_digit n) n
 hexes n most = by_test (λ d. IsHexDigit d n) (nat_lt n 10) (48 + n) (87 + n) (λ low. inl (ltb-true n 10 low, refl)) (λ high. inr (ten high, most, inl refl))
@@ -68,7 +40,7 @@ itself b [] other = (other, refl, refl)
 itself b (c ∷ rest) other = inl (other, refl, refl)
 
 -- an escape that is written is one of its byte
-spells_of : (b : ℕ) (rest : List ℕ) → b < 128 → SpellsFirst (escape_of b ++ rest) b rest
+spells_of : (b : ℕ) (rest : List ℕ) → b < 256 → SpellsFirst (escape_of b ++ rest) b rest
 spells_of b rest few =
     let Fact : List ℕ → Type 0 = λ t. SpellsFirst (t ++ rest) b rest in
     by_test Fact (b == 9) _ _ (λ e. inr (refl, inl (refl, eqb-true b 9 e, refl)))
@@ -77,37 +49,20 @@ spells_of b rest few =
     (λ _. by_test Fact (b == 92) _ _ (λ e. inr (refl, inr (inr (inr (inl (refl, eqb-true b 92 e, refl))))))
     (λ _. inr (refl, inr (inr (inr (inr (refl, (b / 16, b % 16, hexes (b / 16) (omega arith), hexes (b % 16) (omega arith), omega arith, refl))))))))))
 
-first_back : (b : ℕ) (rest : List ℕ) → SpellsFirst (escape b ++ rest) b rest
-first_back b rest =
-    by_test (λ t. SpellsFirst (t ++ rest) b rest) (is_plain b) (b ∷ []) (escape_of b)
-    (λ plain. itself b rest (plain_is b plain).1) (λ not. spells_of b rest (not_plain b not))
-
--- bytes that are written spell themselves
-spelled_back : (key : List ℕ) → Spells (spelled key) key
-spelled_back [] = refl
-spelled_back (b ∷ key) = (spelled key, first_back b (spelled key), spelled_back key)
-
--- so does a key that has a byte order mark in front
-marked_back : (key : List ℕ) → has_mark key ≡ true → Spells (escape_of 239 ++ spelled (drop 1 key)) key
-marked_back [] h = absurd (cc h)
-marked_back (a ∷ []) h = absurd (cc h)
-marked_back (a ∷ b ∷ []) h = absurd (cc h)
-marked_back (a ∷ b ∷ c ∷ rest) h =
-    let mark : a ≡ 239 = eqb-true a 239 (both_left (a == 239) (b == 187) (both_left (a == 239 && b == 187) (c == 191) h)) in
-    subst (λ d. Spells (escape_of 239 ++ spelled (b ∷ c ∷ rest)) (d ∷ b ∷ c ∷ rest)) (sym mark)
-    (spelled (b ∷ c ∷ rest), by_hex (spelled (b ∷ c ∷ rest)), spelled_back (b ∷ c ∷ rest))
-  where
-    both_left : (p q : Bool) → (p && q) ≡ true → p ≡ true
-    both_left true q h = refl
-    both_left false q h = absurd (cc h)
-
-    by_hex : (rest : List ℕ) → SpellsFirst (escape_of 239 ++ rest) 239 rest
-    by_hex rest = inr (refl, inr (inr (inr (inr (refl, (14, 15, inr (omega arith, omega arith, inl refl), inr (omega arith, omega arith, inl refl), refl, refl))))))
+behind_back : (n : ℕ) (key : List ℕ) → Wide n key → Spells (escaped_behind n key) key
+unfolding Wide
+behind_back zero [] w = refl
+behind_back (suc n) [] w = absurd w
+behind_back zero (b ∷ key) w = elim (shown_by b key) [
+  | inl none ↦ rw none.0 (escaped_behind 0 key, spells_of b (escaped_behind 0 key) none.1, behind_back 0 key tt)
+  | inr s ↦ rw s.some (escaped_behind (shown_len (b ∷ key) - 1) key, itself b (escaped_behind (shown_len (b ∷ key) - 1) key) s.other, behind_back (shown_len (b ∷ key) - 1) key s.wide)
+]
+behind_back (suc n) (b ∷ key) w = (escaped_behind n key, itself b (escaped_behind n key) (λ e. omega (arith, e, w.0)), behind_back n key w.1)
 
 -- a key that is written spells that key
 pub spells_back : (key : List ℕ) → Spells (escaped key) key
-unfolding escaped
-spells_back key = by_test (λ t. Spells t key) (has_mark key) _ _ (λ mark. marked_back key mark) (λ _. spelled_back key)
+unfolding escaped Wide
+spells_back key = behind_back 0 key tt
 
 -- the byte that a text spells first
 digit_of : ℕ → ℕ
@@ -177,7 +132,7 @@ one_key text (b ∷ key) (d ∷ other) h k =
 high_hex : (n : ℕ) → n < 16 → 32 ≤ hex_digit n
 high_hex n most = by_test (λ d. 32 ≤ d) (nat_lt n 10) (48 + n) (87 + n) (λ _. omega arith) (λ _. omega arith)
 
-high_of : (b : ℕ) → b < 128 → High (escape_of b)
+high_of : (b : ℕ) → b < 256 → High (escape_of b)
 unfolding High
 high_of b few =
     by_test High (b == 9) _ _ (λ _. (omega arith, (omega arith, tt)))
@@ -186,81 +141,62 @@ high_of b few =
     (λ _. by_test High (b == 92) _ _ (λ _. (omega arith, (omega arith, tt)))
     (λ _. (omega arith, (omega arith, (high_hex (b / 16) (omega arith), (high_hex (b % 16) (omega arith), tt))))))))
 
-spelled_high : (key : List ℕ) → High (spelled key)
-unfolding High
-spelled_high [] = tt
-spelled_high (b ∷ key) =
-    high_append (escape b) (spelled key)
-    (by_test High (is_plain b) (b ∷ []) (escape_of b) (λ plain. ((plain_is b plain).0, tt)) (λ not. high_of b (not_plain b not))) (spelled_high key)
-
-mark_high : High (escape_of 239)
-unfolding High
-mark_high = (omega arith, (omega arith, (omega arith, (omega arith, tt))))
+behind_high : (n : ℕ) (key : List ℕ) → Wide n key → High (escaped_behind n key)
+unfolding High Wide
+behind_high zero [] w = tt
+behind_high (suc n) [] w = tt
+behind_high zero (b ∷ key) w = elim (shown_by b key) [
+  | inl none ↦ rw none.0 (high_append (escape_of b) (escaped_behind 0 key) (high_of b none.1) (behind_high 0 key tt))
+  | inr s ↦ rw s.some (s.high, behind_high (shown_len (b ∷ key) - 1) key s.wide)
+]
+behind_high (suc n) (b ∷ key) w = (omega (arith, w.0), behind_high n key w.1)
 
 escaped_high : (key : List ℕ) → High (escaped key)
-unfolding escaped
-escaped_high key = by_test High (has_mark key) _ _ (λ _. high_append (escape_of 239) (spelled (drop 1 key)) mark_high (spelled_high (drop 1 key))) (λ _. spelled_high key)
-
--- The first byte that is written: itself, or a backslash.
-abbrev IsWritten : ℕ → List ℕ → Type 0
-IsWritten b text = ((c : ℕ) × (rest : List ℕ) × (text ≡ 92 ∷ c ∷ rest)) ⊎ (text ≡ b ∷ [])
-
-written : (b : ℕ) → IsWritten b (escape b)
-written b =
-    by_test (IsWritten b) (is_plain b) (b ∷ []) (escape_of b) (λ _. inr refl)
-    (λ _. by_test (IsWritten b) (b == 9) _ _ (λ _. inl (_, _, refl))
-    (λ _. by_test (IsWritten b) (b == 10) _ _ (λ _. inl (_, _, refl))
-    (λ _. by_test (IsWritten b) (b == 13) _ _ (λ _. inl (_, _, refl))
-    (λ _. by_test (IsWritten b) (b == 92) _ _ (λ _. inl (_, _, refl)) (λ _. inl (_, _, refl))))))
-
--- bytes that have no mark in front have none when they are written, with a tab after them
-and_false : (p : Bool) → (p && false) ≡ false
-and_false true = refl
-and_false false = refl
-
-is_apart : (a b c : ℕ) → (b == 187) ≡ false → is_bom a b c ≡ false
-is_apart a b c other = rw (other, and_false (a == 239)) refl
-
-last_apart : (a b c : ℕ) → (c == 191) ≡ false → is_bom a b c ≡ false
-last_apart a b c other = rw other (and_false (a == 239 && b == 187))
+unfolding escaped Wide
+escaped_high key = behind_high 0 key tt
 
 low_start : (a : ℕ) (rest : List ℕ) → (a == 239) ≡ false → has_mark (a ∷ rest) ≡ false
 low_start a [] other = refl
 low_start a (b ∷ []) other = refl
 low_start a (b ∷ c ∷ rest) other = rw other refl
 
-third_low : (a b : ℕ) (c : ℕ) (rest : List ℕ) → (c == 191) ≡ false → has_mark (a ∷ b ∷ c ∷ rest) ≡ false
-third_low a b c rest other = last_apart a b c other
+escape_start : (b : ℕ) (rest : List ℕ) → has_mark (escape_of b ++ rest) ≡ false
+escape_start b rest =
+    let Fact : List ℕ → Type 0 = λ t. has_mark (t ++ rest) ≡ false in
+    by_test Fact (b == 9) _ _ (λ _. low_start 92 (116 ∷ rest) refl)
+    (λ _. by_test Fact (b == 10) _ _ (λ _. low_start 92 (110 ∷ rest) refl)
+    (λ _. by_test Fact (b == 13) _ _ (λ _. low_start 92 (114 ∷ rest) refl)
+    (λ _. by_test Fact (b == 92) _ _ (λ _. low_start 92 (92 ∷ rest) refl) (λ _. low_start 92 (120 ∷ hex_digit (b / 16) ∷ hex_digit (b % 16) ∷ rest) refl))))
 
-second_low : (a b : ℕ) (rest : List ℕ) → (b == 187) ≡ false → has_mark (a ∷ b ∷ rest) ≡ false
-second_low a b [] other = refl
-second_low a b (c ∷ rest) other = is_apart a b c other
+no_four : (c d : ℕ) (rest : List ℕ) → len_of_four 239 c d rest ≡ 0
+no_four c d [] = refl
+no_four c d (e ∷ rest) = refl
 
-third_of : (a b : ℕ) (key more : List ℕ) → has_mark (a ∷ b ∷ key) ≡ false → has_mark (a ∷ b ∷ (spelled key ++ 9 ∷ more)) ≡ false
-third_of a b [] more none = third_low a b 9 more refl
-third_of a b (c ∷ key) more none = elim (written c) [
-  | inl slash ↦ rw (append_assoc (escape c) (spelled key) (9 ∷ more), slash.2) (third_low a b 92 (slash.0 ∷ slash.1 ++ (spelled key ++ 9 ∷ more)) refl)
-  | inr same ↦ rw (append_assoc (escape c) (spelled key) (9 ∷ more), same) none
-]
+mark_by : (c d n : ℕ) (rest more : List ℕ) (t : Bool) → n ≡ 0 → (t ≡ true → is_bom 239 c d ≡ false) → ((if t then 3 else n) == 0) ≡ false
+    → has_mark (239 ∷ (escaped_behind ((if t then 3 else n) - 1) (c ∷ d ∷ rest) ++ 9 ∷ more)) ≡ false
+mark_by c d n rest more true none apart some = apart refl
+mark_by c d n rest more false none apart some = absurd (cc (rw none at some))
 
-second_of : (a : ℕ) (key more : List ℕ) → has_mark (a ∷ key) ≡ false → has_mark (a ∷ (spelled key ++ 9 ∷ more)) ≡ false
-second_of a [] more none = second_low a 9 more refl
-second_of a (b ∷ key) more none = elim (written b) [
-  | inl slash ↦ rw (append_assoc (escape b) (spelled key) (9 ∷ more), slash.2) (second_low a 92 (slash.0 ∷ slash.1 ++ (spelled key ++ 9 ∷ more)) refl)
-  | inr same ↦ rw (append_assoc (escape b) (spelled key) (9 ∷ more), same) (third_of a b key more none)
-]
-
-first_of : (key more : List ℕ) → has_mark key ≡ false → has_mark (spelled key ++ 9 ∷ more) ≡ false
-first_of [] more none = low_start 9 more refl
-first_of (a ∷ key) more none = elim (written a) [
-  | inl slash ↦ rw (append_assoc (escape a) (spelled key) (9 ∷ more), slash.2) (low_start 92 (slash.0 ∷ slash.1 ++ (spelled key ++ 9 ∷ more)) refl)
-  | inr same ↦ rw (append_assoc (escape a) (spelled key) (9 ∷ more), same) (second_of a key more none)
-]
+-- a character that is itself is no mark
+mark_apart : (key more : List ℕ) → (shown_len (239 ∷ key) == 0) ≡ false → has_mark (239 ∷ (escaped_behind (shown_len (239 ∷ key) - 1) key ++ 9 ∷ more)) ≡ false
+mark_apart [] more some = absurd (cc some)
+mark_apart (c ∷ []) more some = absurd (cc some)
+mark_apart (c ∷ d ∷ rest) more some = mark_by c d (len_of_four 239 c d rest) rest more (are_three 239 c d) (no_four c d rest) (no_bom c d) some
 
 -- a key that is written begins with no mark
 unmarked : (key more : List ℕ) → has_mark (escaped key ++ 9 ∷ more) ≡ false
 unfolding escaped
-unmarked key more = by_test (λ t. has_mark (t ++ 9 ∷ more) ≡ false) (has_mark key) _ _ (λ _. refl) (λ none. first_of key more none)
+unmarked [] more = low_start 9 more refl
+unmarked (b ∷ key) more = elim (shown_by b key) [
+  | inl none ↦ rw (none.0, append_assoc (escape_of b) (escaped_behind 0 key) (9 ∷ more)) (escape_start b (escaped_behind 0 key ++ 9 ∷ more))
+  | inr s ↦ elim (eqb_tells b 239) [
+    | inl is ↦ by_mark is.1 s.some
+    | inr other ↦ rw s.some (low_start b (escaped_behind (shown_len (b ∷ key) - 1) key ++ 9 ∷ more) other.0)
+  ]
+]
+  where
+    by_mark : b ≡ 239 → (shown_len (b ∷ key) == 0) ≡ false → has_mark (escaped_behind 0 (b ∷ key) ++ 9 ∷ more) ≡ false
+    by_mark is some = rw some (subst (λ a. (shown_len (a ∷ key) == 0) ≡ false → has_mark (a ∷ (escaped_behind (shown_len (a ∷ key) - 1) key ++ 9 ∷ more)) ≡ false) (sym is) (mark_apart key more) some)
 
 -- a line and its line feed in front of an input
 line_first : (line input : List ℕ) → Lacks 10 line → lines_of (line ++ 10 ∷ input) ≡ line ∷ lines_of input

@@ -1,10 +1,9 @@
 -- What a text spells, byte by byte.
-use Rattle.std.proofs.Common.{◌≡◌, ℕ, ◌<◌, ◌≤◌, inl, inr, List, [], ◌∷◌, ◌++◌, length, drop, refl, sym, ◌∙◌, ap, subst, arith, Bool, true, false, append_assoc, Option, Some, None, get_or, suc}
-use Rattle.std.specs.Prelude.{◌≢◌, ◌==◌, ◌&&◌, IfNone, if◌then◌else◌}
-use Rattle.std.specs.List.{list_all}
+use Rattle.std.proofs.Common.{◌≡◌, ℕ, ◌<◌, ◌≤◌, inl, inr, List, [], ◌∷◌, ◌++◌, length, drop, refl, sym, ◌∙◌, ap, subst, arith, false, append_assoc, Option, Some, None, get_or, suc}
+use Rattle.std.specs.Prelude.{◌≢◌, ◌==◌, IfNone, if◌then◌else◌}
 use Rattle.std.proofs.lemmas.Bool.Decides.{eqb_tells}
 use Rattle.std.proofs.lemmas.List.{append-nil}
-use Rattle.zerotrie_lines.specs.Escapes.{IsHexDigit, SpellsHex, SpellsEscape, SpellsFirst, Spells, is_plain, spelled}
+use Rattle.zerotrie_lines.specs.Escapes.{IsHexDigit, SpellsHex, SpellsEscape, SpellsFirst, Spells}
 
 -- what is left after the first byte that a text spells
 after_escape : ℕ → List ℕ → List ℕ
@@ -83,18 +82,6 @@ spelt_not text key rest s some none all h = let r = s.split all h in at_once r.0
     at_once : (more : List ℕ) → Spells rest more → ⊥
     at_once [] h = some h
     at_once (b ∷ more) h = none b h.0 h.1
-
-both : (p q : Bool) → (p && q) ≡ true → (p ≡ true) × (q ≡ true)
-both true true h = (refl, refl)
-both true false h = absurd (cc)
-both false q h = absurd (cc)
-
--- bytes that stand for themselves
-pub all_plain : (key : List ℕ) → list_all is_plain key ≡ true → spelled key ≡ key
-all_plain [] all = refl
-all_plain (b ∷ key) all =
-    let parts = both (is_plain b) (list_all is_plain key) all in
-    rw (parts.0, all_plain key parts.1) refl
 
 -- a text with no backslash spells itself
 pub spells_itself : (text : List ℕ) → ((k : ℕ) → k < length text → get_or text k 0 ≢ 92) → Spells text text

@@ -3,6 +3,7 @@ mod TableLemmas
 mod PlainLemmas
 mod StopLemmas
 mod EscapeLemmas
+mod WrittenLemmas
 pub mod SpellingLemmas
 mod ItemLemmas
 mod LineLemmas

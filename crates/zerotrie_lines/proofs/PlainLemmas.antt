@@ -1,9 +1,12 @@
 -- Bytes that stand for themselves, as masks of lanes and part by part.
-use Rattle.std.proofs.Common.{rules, ◌-◌, take, drop, subst, ◌≡◌, ℕ, ◌+◌, ◌*◌, ◌≤◌, ◌&&◌, List, [], ◌∷◌, Bool, true, false, cond, not, eqb, ltb, length, map, refl, sym, ap, ◌∙◌, arith, inl, inr}
+use Rattle.std.proofs.Common.{rules, ◌-◌, take, drop, subst, ◌≡◌, ℕ, ◌+◌, ◌*◌, ◌≤◌, ◌&&◌, List, [], ◌∷◌, Bool, true, false, cond, not, eqb, ltb, leb, length, replicate, w8, ◌%◌, ◌^◌, map, refl, sym, ap, ◌∙◌, arith, inl, inr}
 use Rattle.std.specs.List.{list_all}
 use Rattle.std.specs.Simd.Lanes.{mask_l}
+use Rattle.std.proofs.lemmas.Simd.{tops_compared, zip2_splat_left, mask_l-mod}
+use lib.Lanes.{zip2, top}
+use mir.Val.{hbits, bits}
 use Rattle.std.proofs.lemmas.Bool.{eq-eqb, cases_eq, ne_eqb}
-use Rattle.std.proofs.lemmas.List.{take-append-drop, take_rest, drop-drop}
+use Rattle.std.proofs.lemmas.List.{length-map, take-append-drop, take_rest, drop-drop}
 use Rattle.std.proofs.lemmas.List.Folds.{list_all-append}
 use Rattle.zerotrie_lines.specs.Escapes.{is_plain}
 
@@ -23,24 +26,30 @@ shuffle true true false true false f = refl
 shuffle true true false true true f = refl
 shuffle true true true d e f = refl
 
-is_plain_by : (x : ℕ) → (not (ltb x 32) && (not (eqb x 127) && not (eqb x 92))) ≡ is_plain x
+is_plain_by : (x : ℕ) → (not (ltb x 32) && (not (leb 127 x) && not (eqb x 92))) ≡ is_plain x
 is_plain_by x = search rules
 
-unmasked : (xs : List ℕ) → ((eqb (mask_l (map (λ x. ltb x 32) xs)) 0 && eqb (mask_l (map (λ x. eqb x 127) xs)) 0) && eqb (mask_l (map (λ x. eqb x 92) xs)) 0) ≡ list_all is_plain xs
+unmasked : (xs : List ℕ) → ((eqb (mask_l (map (λ x. ltb x 32) xs)) 0 && eqb (mask_l (map (λ x. leb 127 x) xs)) 0) && eqb (mask_l (map (λ x. eqb x 92) xs)) 0) ≡ list_all is_plain xs
 unmasked [] = refl
 unmasked (x ∷ xs) =
     let m1 = mask_l (map (λ x. ltb x 32) xs) in
-    let m2 = mask_l (map (λ x. eqb x 127) xs) in
+    let m2 = mask_l (map (λ x. leb 127 x) xs) in
     let m3 = mask_l (map (λ x. eqb x 92) xs) in
-    rw (half (ltb x 32) m1, half (eqb x 127) m2, half (eqb x 92) m3)
-    (shuffle (not (ltb x 32)) (not (eqb x 127)) (not (eqb x 92)) (eqb m1 0) (eqb m2 0) (eqb m3 0)
+    rw (half (ltb x 32) m1, half (leb 127 x) m2, half (eqb x 92) m3)
+    (shuffle (not (ltb x 32)) (not (leb 127 x)) (not (eqb x 92)) (eqb m1 0) (eqb m2 0) (eqb m3 0)
     ∙ (ap (λ b. b && ((eqb m1 0 && eqb m2 0) && eqb m3 0)) (is_plain_by x)
     ∙ ap (λ b. is_plain x && b) (unmasked xs)))
 
--- no lane is below 32, none is 127 and none a backslash exactly if all are plain
-pub all_plain : (xs : List ℕ) (low deleted slash : ℕ) → low ≡ mask_l (map (λ x. ltb x 32) xs) → deleted ≡ mask_l (map (λ x. eqb x 127) xs)
-    → slash ≡ mask_l (map (λ x. eqb x 92) xs) → ((eqb low 0 && eqb deleted 0) && eqb slash 0) ≡ list_all is_plain xs
-all_plain xs low deleted slash a b c = rw (a, b, c) (unmasked xs)
+-- no lane is below 32, none is 127 or more and none a backslash exactly if all are plain
+pub all_plain : (xs : List ℕ) (low high slash : ℕ) → low ≡ mask_l (map (λ x. ltb x 32) xs) → high ≡ mask_l (map (λ x. leb 127 x) xs)
+    → slash ≡ mask_l (map (λ x. eqb x 92) xs) → ((eqb low 0 && eqb high 0) && eqb slash 0) ≡ list_all is_plain xs
+all_plain xs low high slash a b c = rw (a, b, c) (unmasked xs)
+
+-- the mask of a comparison of bytes with a splat, which stands first
+pub splat_mask : (t : ℕ → ℕ → Bool) (xs : List ℕ) (n y : ℕ) → length xs ≡ n → n ≤ 64
+    → mask_l (map (top (hbits w8)) (zip2 (λ a b. cond (t a b) (2 ^ bits w8 - 1) 0) (replicate n y) xs)) % 2 ^ 64 ≡ mask_l (map (λ x. t y x) xs)
+splat_mask t xs n y e le =
+    ap (λ ms. mask_l ms % 2 ^ 64) (tops_compared w8 t (replicate n y) xs ∙ zip2_splat_left t y n xs e) ∙ mask_l-mod (map (λ x. t y x) xs) 64 (omega (arith, length-map xs (λ x. t y x)))
 
 -- all are plain exactly if the first n are and what follows them is
 pub split_all : (n : ℕ) (xs : List ℕ) → (list_all is_plain (take n xs) && list_all is_plain (drop n xs)) ≡ list_all is_plain xs
