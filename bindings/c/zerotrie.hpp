@@ -53,6 +53,10 @@
 #include <vector>
 #if __cplusplus >= 202002L
 #include <span>
+// clang before 16 can't read the ranges of libstdc++
+#if !defined(__clang__) || __clang_major__ >= 16
+#include <ranges>
+#endif
 #endif
 
 /// @cond
@@ -223,16 +227,16 @@ template <class Exception> [[noreturn]] void refuse([[maybe_unused]] const Excep
     std::abort();
 #endif
 }
-// A value as C has it.
-template <class T> size_t number_of(T value) {
+// A value as C has it. where() says whose it is.
+template <class T, class Where> size_t number_of(T value, Where where) {
     if constexpr (std::is_enum_v<T>) {
-        return number_of(static_cast<std::underlying_type_t<T>>(value));
+        return number_of(static_cast<std::underlying_type_t<T>>(value), where);
     } else {
         static_assert(std::is_integral_v<T>, "a value is a whole number");
         const size_t number = static_cast<size_t>(value);
         bool fits = static_cast<T>(number) == value;
         if constexpr (std::is_signed_v<T>) fits = fits && value >= 0;
-        if (!fits) refuse(std::out_of_range("a value is from 0 to 2^64 - 1"));
+        if (!fits) refuse(std::out_of_range("a value is from 0 to 2^64 - 1: that of " + where()));
         return number;
     }
 }
@@ -396,7 +400,10 @@ public:
         for (auto &&[key, value] : range) {
             const std::string_view text(key);
             if constexpr (!keys_stay) texts_ += text;
-            pairs_.push_back({of(text), number_of(value)});
+            const size_t place = pairs_.size();
+            pairs_.push_back({of(text), number_of(value, [&] {
+                                  return "pair " + std::to_string(place) + ", " + shown(of(text));
+                              })});
         }
         if constexpr (!keys_stay) lead_to_texts();
     }
@@ -512,6 +519,7 @@ public:
 private:
     friend class detail::Parts;
     friend class Map;
+    friend class Range;
     friend class Trie;
     Search(zerotrie_search_by by, std::string_view text, uint32_t edits = 0)
         : text_(text), by_(by), edits_(edits) {}
@@ -900,10 +908,74 @@ public:
     [[nodiscard]] StreamIterator end() const noexcept { return {}; }
 
 private:
+    friend class Range;
     Kind kind_;
     Bytes bytes_;
     Search what_;
 };
+
+/// The pairs between two bounds in the order of bytes: a Stream that can be reversed, also as
+/// `range | std::views::reverse`.
+class ZEROTRIE_VIEW Range : public Stream {
+public:
+    /// @cond
+    using Stream::Stream;
+    /// @endcond
+    /// The same pairs from the last one on. Each costs about two look-ups.
+    [[nodiscard]] Stream reversed() const { return Stream(kind_, bytes_, what_.down()); }
+};
+
+/// @cond
+namespace detail {
+// An iterator over the keys of pairs, or over their values.
+template <bool Key> class PartIterator {
+public:
+    using iterator_category = std::input_iterator_tag;
+    using value_type = std::conditional_t<Key, std::string, size_t>;
+    using difference_type = std::ptrdiff_t;
+    using reference = std::conditional_t<Key, std::string_view, size_t>;
+    using pointer = Pointer<reference>;
+    PartIterator() noexcept = default;
+    explicit PartIterator(StreamIterator at) noexcept : at_(std::move(at)) {}
+    reference operator*() const noexcept {
+        const StreamEntry pair = *at_;
+        if constexpr (Key)
+            return pair.first;
+        else
+            return pair.second;
+    }
+    pointer operator->() const noexcept { return {**this}; }
+    PartIterator &operator++() { return ++at_, *this; }
+    void operator++(int) { ++at_; }
+    friend bool operator==(const PartIterator &a, const PartIterator &b) noexcept {
+        return a.at_ == b.at_;
+    }
+    friend bool operator!=(const PartIterator &a, const PartIterator &b) noexcept {
+        return !(a == b);
+    }
+
+private:
+    StreamIterator at_;
+};
+template <bool Key> class ZEROTRIE_VIEW PartStream {
+public:
+    using iterator = PartIterator<Key>;
+    explicit PartStream(Stream pairs) : pairs_(std::move(pairs)) {}
+    [[nodiscard]] iterator begin() const { return iterator(pairs_.begin()); }
+    [[nodiscard]] iterator end() const noexcept { return {}; }
+
+private:
+    Stream pairs_;
+};
+} // namespace detail
+/// @endcond
+
+/// The keys of a Stream, as a range of std::string_view, each of which is valid until the iterator is
+/// moved on.
+using Keys = detail::PartStream<true>;
+
+/// The values of a Stream, as a range.
+using Values = detail::PartStream<false>;
 
 /// A pair whose key few edits make of a word.
 struct Near {
@@ -1068,6 +1140,12 @@ public:
     [[nodiscard]] Stream stream(std::string_view prefix = {}) const {
         return Stream(kind_, bytes_, prefix);
     }
+    /// The keys of stream().
+    [[nodiscard]] Keys keys(std::string_view prefix = {}) const { return Keys(stream(prefix)); }
+    /// The values of stream().
+    [[nodiscard]] Values values(std::string_view prefix = {}) const {
+        return Values(stream(prefix));
+    }
     /// The pairs whose keys a search finds, as a range that lists a part of them at a time.
     [[nodiscard]] Stream search(Search what) const {
         return Stream(kind_, bytes_, std::move(what));
@@ -1075,14 +1153,14 @@ public:
     /// The pairs whose keys are from one on and below another one, in the order of bytes in every
     /// kind, a part at a time. nullopt: there is no bound on this side. search() of a
     /// Search::range() lists them in the order of the trie's bytes.
-    [[nodiscard]] Stream range(std::optional<std::string_view> from,
-                               std::optional<std::string_view> below = std::nullopt) const {
-        return search(Search::range(from, below).sorted());
+    [[nodiscard]] Range range(std::optional<std::string_view> from,
+                              std::optional<std::string_view> below = std::nullopt) const {
+        return Range(kind_, bytes_, Search::range(from, below).sorted());
     }
     /// The pairs whose keys begin with a prefix, as they are stored, in the order of bytes in every
     /// kind, a part at a time.
-    [[nodiscard]] Stream sorted(std::string_view prefix = {}) const {
-        return search(Search::sorted_within(prefix));
+    [[nodiscard]] Range sorted(std::string_view prefix = {}) const {
+        return Range(kind_, bytes_, Search::sorted_within(prefix));
     }
     /// The pairs of range() from the last one on, so that the first N are the N last ones. Each costs
     /// about two look-ups.
@@ -1379,7 +1457,8 @@ private:
 struct Pair {
     /// Of a key and a value.
     template <class Value>
-    Pair(std::string_view k, Value v) : key(k), value(detail::number_of(v)) {}
+    Pair(std::string_view k, Value v)
+        : key(k), value(detail::number_of(v, [&] { return detail::shown(detail::of(k)); })) {}
     std::string_view key; ///< the key
     size_t value;         ///< its value
 };
@@ -1619,24 +1698,34 @@ public:
         return trie().stream(prefix);
     }
     Stream stream(std::string_view prefix = {}) const && = delete;
+    /// See Trie::keys().
+    [[nodiscard]] Keys keys(std::string_view prefix = {}) const &ZEROTRIE_LIFETIMEBOUND {
+        return trie().keys(prefix);
+    }
+    Keys keys(std::string_view prefix = {}) const && = delete;
+    /// See Trie::values().
+    [[nodiscard]] Values values(std::string_view prefix = {}) const &ZEROTRIE_LIFETIMEBOUND {
+        return trie().values(prefix);
+    }
+    Values values(std::string_view prefix = {}) const && = delete;
     /// See Trie::search().
     [[nodiscard]] Stream search(Search what) const &ZEROTRIE_LIFETIMEBOUND {
         return trie().search(std::move(what));
     }
     Stream search(Search what) const && = delete;
     /// See Trie::range().
-    [[nodiscard]] Stream range(
+    [[nodiscard]] Range range(
         std::optional<std::string_view> from,
         std::optional<std::string_view> below = std::nullopt) const &ZEROTRIE_LIFETIMEBOUND {
         return trie().range(from, below);
     }
-    Stream range(std::optional<std::string_view> from,
-                 std::optional<std::string_view> below = std::nullopt) const && = delete;
+    Range range(std::optional<std::string_view> from,
+                std::optional<std::string_view> below = std::nullopt) const && = delete;
     /// See Trie::sorted().
-    [[nodiscard]] Stream sorted(std::string_view prefix = {}) const &ZEROTRIE_LIFETIMEBOUND {
+    [[nodiscard]] Range sorted(std::string_view prefix = {}) const &ZEROTRIE_LIFETIMEBOUND {
         return trie().sorted(prefix);
     }
-    Stream sorted(std::string_view prefix = {}) const && = delete;
+    Range sorted(std::string_view prefix = {}) const && = delete;
     /// See Trie::reversed().
     [[nodiscard]] Stream reversed(
         std::optional<std::string_view> from = std::nullopt,
@@ -1778,6 +1867,32 @@ private:
     size_t size_ = 0;
 };
 
+/// @cond
+#if defined(__cpp_lib_ranges) && (!defined(__clang__) || __clang_major__ >= 16)
+// Elements that make no Entry are no std::pair, which the standard's own adaptors ask for.
+namespace detail {
+inline Stream stream_of(const Trie &trie) { return trie.stream(); }
+inline Stream stream_of(const Map &map) { return map.stream(); }
+inline Stream stream_of(const Stream &stream) { return stream; }
+template <class T>
+using Streaming = std::enable_if_t<is<T, Trie> || is<T, Map> || is<T, Stream> || is<T, Range>>;
+} // namespace detail
+template <class Pairs, class = detail::Streaming<Pairs>>
+Keys operator|(const Pairs &pairs, const decltype(std::views::keys) &) {
+    return Keys(detail::stream_of(pairs));
+}
+template <class Pairs, class = detail::Streaming<Pairs>>
+Values operator|(const Pairs &pairs, const decltype(std::views::values) &) {
+    return Values(detail::stream_of(pairs));
+}
+inline Stream operator|(const Range &range, const decltype(std::views::reverse) &) {
+    return range.reversed();
+}
+Keys operator|(const Map &&, const decltype(std::views::keys) &) = delete;
+Values operator|(const Map &&, const decltype(std::views::values) &) = delete;
+#endif
+/// @endcond
+
 /// A map from two texts to numbers over the record of a dense table, which has to outlive it.
 class ZEROTRIE_VIEW DenseTable {
 public:
@@ -1810,7 +1925,10 @@ template <class Rows> [[nodiscard]] std::string build_dense(Rows &&rows, char de
         for (auto &&[suffix, value] : row) {
             prefixes += std::string_view(prefix), suffixes += std::string_view(suffix);
             prefix_ends.push_back(prefixes.size()), suffix_ends.push_back(suffixes.size());
-            values.push_back(detail::number_of(value));
+            const std::string_view first(prefix), second(suffix);
+            values.push_back(detail::number_of(value, [&] {
+                return detail::shown(detail::of(first)) + ", " + detail::shown(detail::of(second));
+            }));
         }
     }
     const size_t count = values.size();

@@ -41,10 +41,11 @@ def program(language, body):
     if language == "js":
         return in_javascript(body)
     if language == "c":
-        text = '#include "zerotrie.h"\n#include <stdio.h>\nint main(void) {\n' + body + "}\n"
+        headers = "".join(f"#include <{it}>\n" for it in ("fcntl.h", "stdio.h", "sys/mman.h"))
+        text = f'#include "zerotrie.h"\n{headers}int main(void) {{\n{body}}}\n'
         return compiled([os.environ.get("CC", "cc"), "-std=c11"], "shown.c", text)
     if language == "cpp":
-        headers = "".join(f"#include {it}\n" for it in ('"zerotrie.hpp"', "<iostream>", "<map>"))
+        headers = "".join(f"#include {it}\n" for it in ('"zerotrie.hpp"', "<fcntl.h>", "<iostream>", "<map>", "<sys/mman.h>", "<sys/stat.h>"))
         text = f"{headers}int main() {{\n{body}}}\n"
         compiler = [os.environ.get("CXX", "c++"), "-std=c++17"]
         # programs without exceptions and run-time types take the header too
@@ -64,12 +65,13 @@ def shown(page):
 def run(page, language, body):
     """Runs an example."""
     want = re.findall(r"(?:print|cout|console).*?(?://|#) (.*)", body)
+    want = [line.rstrip() for line in want]
     environment = {**os.environ, "PYTHONPATH": str(here / "python")}
     command = program(language, body)
     # in a folder of its own, where it may write files
     with tempfile.TemporaryDirectory(dir=room) as folder:
         done = subprocess.run(command, check=True, capture_output=True, text=True, env=environment, cwd=folder)
-    assert want and done.stdout.splitlines() == want, (page, language, done.stdout, want)
+    assert want and [line.rstrip() for line in done.stdout.splitlines()] == want, (page, language, done.stdout, want)
     assert page.parent.name != "docs" or body.count("\n") <= 12, (page, language, body)
 
 

@@ -348,8 +348,35 @@ static void owner() {
     try {
         CHECK(zerotrie::build(Kind::SimpleAscii, {{"a", BelowZero}}).empty());
         CHECK(false);
-    } catch (const std::out_of_range &) {
+    } catch (const std::out_of_range &why) {
+        CHECK(why.what() == "a value is from 0 to 2^64 - 1: that of \"a\""s);
     }
+    // a value that is refused has a row and a key
+    try {
+        CHECK(zerotrie::Map(std::vector<std::pair<std::string, int64_t>>{{"b", 1}, {"a", 2}, {"c\xff", -3}}).empty());
+        CHECK(false);
+    } catch (const std::out_of_range &why) {
+        CHECK(why.what() == "a value is from 0 to 2^64 - 1: that of pair 2, \"c\\xff\""s);
+    }
+    try {
+        CHECK(zerotrie::build_dense(std::map<std::string, std::map<std::string, int>>{{"de", {{"AT", 1}, {"CH", -1}}}}, '/').empty());
+        CHECK(false);
+    } catch (const std::out_of_range &why) {
+        CHECK(why.what() == "a value is from 0 to 2^64 - 1: that of \"de\", \"CH\""s);
+    }
+    // keys and values alone
+    const zerotrie::Map letters{{"bar", 2}, {"bazzoo", 3}, {"foo", 1}};
+    std::string joined;
+    size_t sum = 0;
+    for (const std::string_view key : letters.keys("ba")) joined += key;
+    for (const size_t value : letters.trie().values("ba")) sum += value;
+    CHECK(joined == "barbazzoo" && sum == 5);
+    const auto all = letters.keys();
+    CHECK(std::vector<std::string>(all.begin(), all.end()).back() == "foo" && letters.keys("x").begin() == letters.keys().end());
+    joined.clear();
+    for (const auto [key, value] : letters.range("bar", "foo").reversed()) joined += key;
+    for (const auto [key, value] : letters.sorted("ba").reversed()) joined += key;
+    CHECK(joined == "bazzoobarbazzoobar");
     // files
     char room[] = "/tmp/zerotrie-XXXXXX";
     CHECK(mkdtemp(room));
@@ -387,7 +414,17 @@ static void owner() {
     CHECK(std::remove(path.c_str()) == 0 && rmdir(room) == 0);
 #ifdef HAS_RANGES
     static_assert(std::ranges::input_range<const zerotrie::Map> && std::ranges::sized_range<const zerotrie::Map>);
-    static_assert(std::ranges::input_range<const zerotrie::Stream>);
+    static_assert(std::ranges::input_range<const zerotrie::Stream> && std::ranges::input_range<const zerotrie::Keys> &&
+                  std::ranges::input_range<const zerotrie::Values>);
+    namespace views = std::views;
+    std::string piped;
+    size_t added = 0;
+    for (const std::string_view key : small | views::keys | views::take(2)) piped += key;
+    for (const size_t value : small.stream("ba") | views::values) added += value;
+    for (const auto pair : small.range("bar", "foo") | views::reverse) piped += pair.first;
+    for (const std::string_view key : small.range("foo") | views::keys) piped += key;
+    for (const std::string_view key : small.trie() | views::keys | views::drop(2)) piped += key;
+    CHECK(piped == "barbazzoobazzoobarfoofoo" && added == small.at("bar") + small.at("bazzoo"));
 #endif
 }
 
