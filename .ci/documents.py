@@ -49,7 +49,7 @@ LIMITS = {
     "docs/speed/tables.md": 1340,
     "examples/README.md": 250,
     "release/README.md": 290,
-    "rust/README.md": 220,
+    "rust/README.md": 225,
     "rust/zerotrie/README.md": 180,
 }
 # Pages for users of a language are as long as they have to be.

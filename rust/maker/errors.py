@@ -4,6 +4,7 @@ import re
 DISPLAY = """
 
 impl core::fmt::Display for {name} {{
+    #[inline]
     fn fmt(&self, f: &mut core::fmt::Formatter<'_>) -> core::fmt::Result {{
 {lines}
     }}

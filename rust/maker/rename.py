@@ -11,6 +11,8 @@ LIBRARIES = {
 }
 # a crate whose module has another name: else `use zerotrie::*` would bring a second `zerotrie` into a program
 MODULES = {"zerotrie": "zerotrie_all"}
+# what a macro for users names, by its public path
+PUBLIC = {"AnyAutomaton": "search::AnyAutomaton"}
 # functions of `String`, which is Rust's own and takes no allocator
 STRING_FUNCTIONS = ("String::new(", "String::from_str(", "String::from_utf8(")
 # methods of Rust's own types that here return an error of memory, the second ones if they are given an allocator
@@ -27,29 +29,35 @@ SHIM_MACROS = {"vec": "vec_in"}
 OPERATORS = {"if", "while", "return", "match", "in", "else", "let"}
 
 
-def rename(source, crate, crates, root="crate"):
+def rename(source, crate, crates, root="crate", home=""):
     clones(source)
     own_methods(source)
     formats(source)
     strings(source, root)
     methods(source)
     macros(source, root)
-    paths(source, crate, crates, root)
+    paths(source, crate, crates, root, home)
 
 
 def module(crate):
     return MODULES.get(crate, crate)
 
 
-def paths(source, crate, crates, root):
-    """Names each crate as a module of the package, and the libraries below it as modules of the shim."""
+def paths(source, crate, crates, root, home):
+    """Names each crate as a module of the package, and the libraries below it as modules of the shim. The modules are in `home`, from
+    where the root of the package hands them on; only what is visible in one has to name it.
+    """
     for at in source.each("crate", *crates, *LIBRARIES):
         word = source.word(at)
         is_path = source.match(at, f"{word}::")
         if word == "crate":
             if not is_path and not source.match(source.before(at), "(crate)"):
                 source.refuse(at, "crate of another form")
-            source.put(at, at + 1, f"{'' if is_path else 'in '}crate::{module(crate)}")
+            public = PUBLIC.get(source.word(is_path)) if source.word(source.before(at)) == "$" else None
+            if public:
+                source.put(at, is_path + 1, f"crate::{public}")
+            else:
+                source.put(at, at + 1, f"crate::{module(crate)}" if is_path else f"in crate::{home}{module(crate)}")
         elif is_path and not follows_path(source, at):
             source.put(at, at + 1, f"{root}::{LIBRARIES.get(word, module(word))}")
 

@@ -363,6 +363,7 @@ pub(crate) fn sorted<T: Trie + ?Sized>(trie: &T) -> Sorted<'_, 'static> {
 }
 
 /// Returns the first pair from a bound on.
+#[inline]
 pub(crate) fn first(kind: TrieKind, bytes: &[u8], from: Bound<&[u8]>) -> Option<(Vec<u8>, usize)> {
     Sorted::of(
         kind,
@@ -376,6 +377,7 @@ pub(crate) fn first(kind: TrieKind, bytes: &[u8], from: Bound<&[u8]>) -> Option<
 }
 
 /// Returns the last pair between two bounds.
+#[inline]
 pub(crate) fn last(kind: TrieKind, bytes: &[u8], bounds: KeyRange<'_>) -> Option<(Vec<u8>, usize)> {
     let KeyRange { from, to } = bounds;
     let last =
@@ -394,6 +396,7 @@ pub(crate) fn last(kind: TrieKind, bytes: &[u8], bounds: KeyRange<'_>) -> Option
 }
 
 /// Returns the first fault in the bytes of a trie.
+#[inline]
 pub(crate) fn fault(kind: TrieKind, bytes: &[u8]) -> Option<Fault> {
     fn fault_of<K: ZeroTrieWithOptions>(bytes: &[u8]) -> Result<Option<Fault>, AllocError> {
         zerotrie_core::first_fault::<K, _>(Global, bytes)

@@ -48,12 +48,14 @@ struct Parts(&'static str, Vec<u8>);
 struct Cells(Vec<u16>);
 
 impl fmt::Debug for Cells {
+    #[inline]
     fn fmt(&self, f: &mut fmt::Formatter<'_>) -> fmt::Result {
         f.debug_tuple("ZeroVec").field(&self.0).finish()
     }
 }
 
 impl fmt::Debug for Parts {
+    #[inline]
     fn fmt(&self, f: &mut fmt::Formatter<'_>) -> fmt::Result {
         let (head, rest) = self.1.split_at(27);
         let number = |at: usize| {
@@ -78,6 +80,7 @@ impl fmt::Debug for Parts {
 }
 
 impl fmt::Debug for ZeroAsciiDenseSparse2dTrieOwned {
+    #[inline]
     fn fmt(&self, f: &mut fmt::Formatter<'_>) -> fmt::Result {
         let record = self.as_borrowed().to_record_bytes();
         Parts("ZeroAsciiDenseSparse2dTrieOwned", record).fmt(f)
@@ -85,6 +88,7 @@ impl fmt::Debug for ZeroAsciiDenseSparse2dTrieOwned {
 }
 
 impl fmt::Debug for ZeroAsciiDenseSparse2dTrieBorrowed<'_> {
+    #[inline]
     fn fmt(&self, f: &mut fmt::Formatter<'_>) -> fmt::Result {
         Parts("ZeroAsciiDenseSparse2dTrieBorrowed", self.to_record_bytes()).fmt(f)
     }
@@ -102,6 +106,7 @@ impl ZeroAsciiDenseSparse2dTrieOwned {
     /// let table = ZeroAsciiDenseSparse2dTrieOwned::try_from_btree_map_str(&rows, b'/');
     /// assert_eq!(table, Err(ZeroTrieBuildError::IllegalDelimiter));
     /// ```
+    #[inline]
     pub fn try_from_btree_map_str(
         rows: &BTreeMap<&str, BTreeMap<&str, usize>>,
         delimiter: u8,
@@ -129,6 +134,7 @@ impl ZeroAsciiDenseSparse2dTrieOwned {
     /// assert_eq!(table.as_borrowed().get("en", "GB"), Some(1));
     /// # Ok::<(), zerotrie::ZeroTrieBuildError>(())
     /// ```
+    #[inline]
     pub fn as_borrowed(&self) -> ZeroAsciiDenseSparse2dTrieBorrowed<'_> {
         ZeroAsciiDenseSparse2dTrieBorrowed(self.0.as_borrowed())
     }
@@ -146,6 +152,7 @@ impl<'a> ZeroAsciiDenseSparse2dTrieBorrowed<'a> {
     /// assert_eq!(table.as_borrowed().get("en", "US"), None);
     /// # Ok::<(), zerotrie::ZeroTrieBuildError>(())
     /// ```
+    #[inline]
     pub fn get(&self, prefix: &str, suffix: &str) -> Option<usize> {
         self.0.get(prefix, suffix)
     }
@@ -161,6 +168,7 @@ impl<'a> ZeroAsciiDenseSparse2dTrieBorrowed<'a> {
     /// assert_eq!(table.as_borrowed().get_bytes(b"en", b"\xFF"), None);
     /// # Ok::<(), zerotrie::ZeroTrieBuildError>(())
     /// ```
+    #[inline]
     pub fn get_bytes(&self, prefix: &[u8], suffix: &[u8]) -> Option<usize> {
         self.0.get_bytes(prefix, suffix)
     }
@@ -177,6 +185,7 @@ impl<'a> ZeroAsciiDenseSparse2dTrieBorrowed<'a> {
     /// assert_eq!(ZeroAsciiDenseSparse2dTrieBorrowed::try_from_record_bytes(&record).unwrap(), table.as_borrowed());
     /// # Ok::<(), zerotrie::ZeroTrieBuildError>(())
     /// ```
+    #[inline]
     pub fn to_record_bytes(&self) -> Vec<u8> {
         allocated(self.0.to_record_bytes(Global)).into_inner()
     }
@@ -189,6 +198,7 @@ impl<'a> ZeroAsciiDenseSparse2dTrieBorrowed<'a> {
     /// let table = ZeroAsciiDenseSparse2dTrieBorrowed::try_from_record_bytes(b"short");
     /// assert_eq!(table, Err(RecordError::Truncated));
     /// ```
+    #[inline]
     pub fn try_from_record_bytes(record: &'a [u8]) -> Result<Self, RecordError> {
         dense::ZeroAsciiDenseSparse2dTrieBorrowed::try_from_record_bytes(record).map(Self)
     }

@@ -26,45 +26,40 @@ mod serde;
 pub mod sets;
 mod trie;
 
-// What the sources stand on, and what rust/make makes of them.
+/// What the sources stand on, and what rust/make makes of them.
+#[path = ""]
+mod made {
+    pub mod rstd;
+    #[allow(clippy::all)]
+    pub mod zerotrie_all;
+    #[allow(clippy::all)]
+    pub mod zerotrie_any;
+    #[allow(clippy::all)]
+    pub mod zerotrie_ascii;
+    #[allow(clippy::all)]
+    pub mod zerotrie_base;
+    #[allow(clippy::all)]
+    pub mod zerotrie_build;
+    #[allow(clippy::all)]
+    pub mod zerotrie_core;
+    #[allow(clippy::all)]
+    pub mod zerotrie_hashed;
+    #[allow(clippy::all)]
+    pub mod zerotrie_index;
+    #[allow(clippy::all)]
+    pub mod zerotrie_reverse;
+    #[allow(clippy::all)]
+    pub mod zerotrie_sealed;
+    #[allow(clippy::all)]
+    pub mod zerotrie_search;
+    #[allow(clippy::all)]
+    pub mod zerotrie_sets;
+}
+#[cfg(not(feature = "__internal"))]
+use made::*;
+#[cfg(feature = "__internal")]
 #[doc(hidden)]
-pub mod rstd;
-#[doc(hidden)]
-#[allow(clippy::all)]
-pub mod zerotrie_all;
-#[doc(hidden)]
-#[allow(clippy::all)]
-pub mod zerotrie_any;
-#[doc(hidden)]
-#[allow(clippy::all)]
-pub mod zerotrie_ascii;
-#[doc(hidden)]
-#[allow(clippy::all)]
-pub mod zerotrie_base;
-#[doc(hidden)]
-#[allow(clippy::all)]
-pub mod zerotrie_build;
-#[doc(hidden)]
-#[allow(clippy::all)]
-pub mod zerotrie_core;
-#[doc(hidden)]
-#[allow(clippy::all)]
-pub mod zerotrie_hashed;
-#[doc(hidden)]
-#[allow(clippy::all)]
-pub mod zerotrie_index;
-#[doc(hidden)]
-#[allow(clippy::all)]
-pub mod zerotrie_reverse;
-#[doc(hidden)]
-#[allow(clippy::all)]
-pub mod zerotrie_sealed;
-#[doc(hidden)]
-#[allow(clippy::all)]
-pub mod zerotrie_search;
-#[doc(hidden)]
-#[allow(clippy::all)]
-pub mod zerotrie_sets;
+pub use made::*;
 
 pub use any::{Trie, ZeroTrie};
 pub use listing::{

@@ -195,16 +195,19 @@ pub type ZeroTrieIterator<'a> = Pairs<zerotrie_core::ZeroTrieStream<'a>>;
 
 impl<'a> ZeroTrieIterator<'a> {
     /// Lists the pairs of a trie.
+    #[inline]
     pub(crate) fn of(kind: TrieKind, bytes: &'a [u8]) -> Self {
         Pairs::new(by_kind!(kind, stream_of::<_>(bytes)))
     }
 
     /// Lists the pairs of a trie whose keys begin with a prefix.
+    #[inline]
     pub(crate) fn with_prefix(kind: TrieKind, bytes: &'a [u8], prefix: &[u8]) -> Self {
         Pairs::new(allocated(by_kind!(kind, stream_prefix::<_>(bytes, prefix))))
     }
 
     /// Lists the pairs of a trie after a key, of those whose keys begin with a prefix.
+    #[inline]
     pub(crate) fn after(kind: TrieKind, bytes: &'a [u8], prefix: &[u8], key: &[u8]) -> Self {
         Pairs::new(allocated(by_kind!(
             kind,
@@ -373,6 +376,7 @@ impl<'a, 'p> Reversed<'a, 'p> {
 impl Iterator for Reversed<'_, '_> {
     type Item = (Vec<u8>, usize);
 
+    #[inline]
     fn next(&mut self) -> Option<Self::Item> {
         let KeyRange { from, to } = self.bounds;
         let to = self.listed.as_deref().map_or(to, Bound::Excluded);

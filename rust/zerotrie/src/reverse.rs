@@ -30,6 +30,7 @@ fn table<K: ZeroTrieWithOptions>(
 }
 
 impl<'a> KeysByValue<'a> {
+    #[inline]
     pub(crate) fn of(kind: TrieKind, bytes: &'a [u8]) -> Self {
         KeysByValue(allocated(by_kind!(kind, table::<_>(bytes))))
     }
@@ -43,6 +44,7 @@ impl<'a> KeysByValue<'a> {
     /// assert_eq!(trie.keys_by_value().first_key_of(5), Some(b"a".to_vec()));
     /// # Ok::<(), zerotrie::ZeroTrieBuildError>(())
     /// ```
+    #[inline]
     pub fn first_key_of(&self, value: usize) -> Option<Vec<u8>> {
         allocated(self.0.first_key_of(Global, value)).map(|key| key.into_inner())
     }
@@ -58,12 +60,14 @@ impl<'a> KeysByValue<'a> {
     /// # Ok::<(), zerotrie::ZeroTrieBuildError>(())
     /// ```
     #[allow(clippy::len_without_is_empty)]
+    #[inline]
     pub fn len(&self) -> usize {
         self.0.len()
     }
 
     /// Returns the places, in the order of their values, by which `first_key_by_places` finds keys, or
     /// `None` if a look-up reads the pairs.
+    #[inline]
     pub fn places(&self) -> Option<&[u32]> {
         self.0.places()
     }

@@ -1,7 +1,7 @@
 // Made from crates/zerotrie_tool/src/main.rt by rust/make: edit that.
 //! Runs the commands of standard input, which build tries from pairs and look keys up in them.
 #![deny(unused_must_use)]
-#![allow(dead_code, unused_imports, unused_variables)]
+#![allow(dead_code, missing_docs, unused_imports, unused_variables)]
 
 mod rstd;
 mod zerotrie_session;

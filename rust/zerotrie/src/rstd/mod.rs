@@ -3,6 +3,7 @@
 //!
 //! Not an interface: the modules that `rust/make` makes use it, and tests do.
 #![allow(missing_docs, clippy::new_without_default, clippy::should_implement_trait)]
+#![cfg_attr(not(feature = "__internal"), allow(dead_code, unused_imports))]
 
 /// A wrapper has the methods of what it wraps, besides its own.
 macro_rules! over {
@@ -39,6 +40,7 @@ pub mod collections;
 mod lanes;
 pub mod serde_json;
 pub mod simd;
+pub mod sort;
 pub mod vec;
 
 pub mod prelude {

@@ -46,6 +46,7 @@ pub enum Error {
 }
 
 impl core::fmt::Display for Error {
+    #[inline]
     fn fmt(&self, f: &mut core::fmt::Formatter<'_>) -> core::fmt::Result {
         match self {
             Self::Build(field) => write!(f, "{field}"),
@@ -63,54 +64,63 @@ impl core::fmt::Display for Error {
 impl core::error::Error for Error {}
 
 impl From<ZeroTrieBuildError> for Error {
+    #[inline]
     fn from(field: ZeroTrieBuildError) -> Self {
         Self::Build(field)
     }
 }
 
 impl From<ListError> for Error {
+    #[inline]
     fn from(field: ListError) -> Self {
         Self::List(field)
     }
 }
 
 impl From<NotWellFormed> for Error {
+    #[inline]
     fn from(field: NotWellFormed) -> Self {
         Self::NotWellFormed(field)
     }
 }
 
 impl From<TagError> for Error {
+    #[inline]
     fn from(field: TagError) -> Self {
         Self::Tag(field)
     }
 }
 
 impl From<LoadError> for Error {
+    #[inline]
     fn from(field: LoadError) -> Self {
         Self::Load(field)
     }
 }
 
 impl From<JsonError> for Error {
+    #[inline]
     fn from(field: JsonError) -> Self {
         Self::Json(field)
     }
 }
 
 impl From<RecordError> for Error {
+    #[inline]
     fn from(field: RecordError) -> Self {
         Self::Record(field)
     }
 }
 
 impl From<AllocError> for Error {
+    #[inline]
     fn from(field: AllocError) -> Self {
         Self::Memory(field)
     }
 }
 
 impl<T> From<crate::rstd::alloc::AllocFailed<T>> for Error {
+    #[inline]
     fn from(_: crate::rstd::alloc::AllocFailed<T>) -> Self {
         Self::Memory(AllocError)
     }
@@ -118,6 +128,7 @@ impl<T> From<crate::rstd::alloc::AllocFailed<T>> for Error {
 
 impl Error {
     /// Returns what to do about the error.
+    #[inline]
     pub fn advice(&self) -> &'static str {
         match self {
             Error::Build(error) => error.advice(),

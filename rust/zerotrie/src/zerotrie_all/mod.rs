@@ -47,7 +47,7 @@
 //! has the laws of encodings and maps, and `json_keeps_the_pairs` that of JSON.
 #![forbid(unsafe_code)]
 #![deny(unused_must_use)]
-#![allow(dead_code, unused_imports, unused_variables)]
+#![allow(dead_code, missing_docs, unused_imports, unused_variables)]
 
 use crate::rstd::prelude::*;
 

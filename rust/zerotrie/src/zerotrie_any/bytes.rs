@@ -18,6 +18,7 @@ use crate::zerotrie_core::{Ext, Hash, Simple, TrieStore, ZeroTrieWithOptions, is
 pub struct NotWellFormed;
 
 impl core::fmt::Display for NotWellFormed {
+    #[inline]
     fn fmt(&self, f: &mut core::fmt::Formatter<'_>) -> core::fmt::Result {
         write!(f, "the bytes are no trie of the kind: they were changed, cut or written as another kind")
     }
@@ -41,6 +42,7 @@ pub enum TagError {
 }
 
 impl core::fmt::Display for TagError {
+    #[inline]
     fn fmt(&self, f: &mut core::fmt::Formatter<'_>) -> core::fmt::Result {
         match self {
             Self::Empty => write!(f, "Empty"),
@@ -80,6 +82,7 @@ pub enum LoadError {
 }
 
 impl core::fmt::Display for LoadError {
+    #[inline]
     fn fmt(&self, f: &mut core::fmt::Formatter<'_>) -> core::fmt::Result {
         match self {
             Self::Tag(field) => write!(f, "the bytes begin with no tag of a kind that is read: {field}"),

@@ -32,6 +32,7 @@ pub enum JsonError {
 }
 
 impl core::fmt::Display for JsonError {
+    #[inline]
     fn fmt(&self, f: &mut core::fmt::Formatter<'_>) -> core::fmt::Result {
         match self {
             Self::Shape => write!(f, "Shape"),

@@ -6,7 +6,7 @@ use crate::zerotrie_base::{TriePair, are_ascii};
 use crate::zerotrie_core::TrieKind;
 
 /// Returns whether all keys are ASCII and there are fewer than `TrieKind::SIMPLE_LIMIT`.
-pub(in crate::zerotrie_any) fn is_simple<P: TriePair>(pairs: &[P]) -> bool {
+pub(in crate::made::zerotrie_any) fn is_simple<P: TriePair>(pairs: &[P]) -> bool {
     pairs.len() < TrieKind::SIMPLE_LIMIT && are_ascii(pairs)
 }
 

@@ -4,8 +4,8 @@
 use crate::rstd::prelude::*;
 use crate::rstd::alloc::{AllocError, Global};
 use crate::rstd::collections::{BTreeMap, VecDeque};
-use crate::zerotrie_build::{ByteSliceWithIndices, ZeroTrieBuilder};
-use crate::zerotrie_core::{TrieKey, ZeroTrieBuildError, ZeroTrieBuilderOptions, ZeroTrieWithOptions};
+use crate::zerotrie_build::{ByteSliceWithIndices, build_ascending, build_given};
+use crate::zerotrie_core::{TrieKey, ZeroTrieBuildError, ZeroTrieWithOptions};
 
 /// Builds the bytes of the trie of a slice, whose keys must ascend strictly by their bytes, also if
 /// case is ignored. An empty slice gives no bytes.
@@ -26,12 +26,11 @@ pub fn bytes_from_slice<K: ZeroTrieWithOptions>(
     alloc: Global,
     items: &[(&[u8], usize)],
 ) -> Result<Vec<u8>, ZeroTrieBuildError> {
-    let builder: ZeroTrieBuilder<VecDeque<u8>> = ZeroTrieBuilder::from_sorted_tuple_slice(
-        alloc,
-        ByteSliceWithIndices::from_byte_slice(items),
-        ZeroTrieBuilderOptions::of::<K>(),
-    )?;
-    Ok(builder.data.into_vec())
+    if !ByteSliceWithIndices::from_byte_slice(items).is_sorted() {
+        return Err(ZeroTrieBuildError::Unsorted);
+    }
+    let data: VecDeque<u8> = build_ascending::<K, _, Global>(alloc, alloc, items)?;
+    Ok(data.into_vec())
 }
 
 /// Builds the bytes of the trie of a slice in any order. An empty slice gives no bytes. Copies the
@@ -49,16 +48,12 @@ pub fn bytes_from_unsorted_slice<K: ZeroTrieWithOptions>(
     alloc: Global,
     items: &[(&[u8], usize)],
 ) -> Result<Vec<u8>, ZeroTrieBuildError> {
-    let builder: ZeroTrieBuilder<VecDeque<u8>> = ZeroTrieBuilder::from_tuple_slice(
-        alloc,
-        items,
-        ZeroTrieBuilderOptions::of::<K>(),
-    )?;
-    Ok(builder.data.into_vec())
+    let data: VecDeque<u8> = build_given::<K, _, _, Global>(alloc, alloc, items)?;
+    Ok(data.into_vec())
 }
 
 /// Returns the entries of a map, each key as its bytes. Does not copy the keys.
-pub(in crate::zerotrie_any) fn items_of<Key: TrieKey + Ord>(
+pub(in crate::made::zerotrie_any) fn items_of<Key: TrieKey + Ord>(
     alloc: Global,
     entries: &BTreeMap<Key, usize>,
 ) -> Result<Vec<(&[u8], usize)>, AllocError> {
@@ -101,10 +96,8 @@ pub fn bytes_from_iter<
 >(alloc: Global, iter: U) -> Result<Vec<u8>, ZeroTrieBuildError>
 where
 {
-    let builder: ZeroTrieBuilder<VecDeque<u8>> = ZeroTrieBuilder::from_bytes_iter(
-        alloc,
-        iter,
-        ZeroTrieBuilderOptions::of::<K>(),
-    )?;
-    Ok(builder.data.into_vec())
+    let mut given: Vec<(Key, usize)> = iter.into_iter().collect_in(alloc)?;
+    given.shrink_to_fit();
+    let data: VecDeque<u8> = build_given::<K, _, _, Global>(alloc, alloc, given.as_slice())?;
+    Ok(data.into_vec())
 }

@@ -41,7 +41,7 @@ macro_rules! by_flavor {
     };
 }
 
-pub(in crate::zerotrie_any) use by_flavor;
+pub(in crate::made::zerotrie_any) use by_flavor;
 
 /// A kind that a `ZeroTrie` may have: `Simple`, `Hash` or `Ext`.
 pub trait HasFlavor: ZeroTrieWithOptions {

@@ -21,7 +21,7 @@ pub struct ZeroTrieStringIterator<'a> {
 
 impl<'a> ZeroTrieStringIterator<'a> {
     /// Returns an iterator over the pairs of the trie in these bytes.
-    pub(in crate::zerotrie_ascii) fn new<K: AsciiKind>(alloc: Global, bytes: &'a [u8]) -> Self {
+    pub(in crate::made::zerotrie_ascii) fn new<K: AsciiKind>(alloc: Global, bytes: &'a [u8]) -> Self {
         ZeroTrieStringIterator {
             inner: ZeroTrieIterator::new::<K>(alloc, bytes),
             ended: false,
@@ -30,7 +30,7 @@ impl<'a> ZeroTrieStringIterator<'a> {
 
     /// Returns an iterator over those pairs of the trie in these bytes whose keys begin with a
     /// prefix.
-    pub(in crate::zerotrie_ascii) fn with_prefix<K: AsciiKind>(
+    pub(in crate::made::zerotrie_ascii) fn with_prefix<K: AsciiKind>(
         alloc: Global,
         bytes: &'a [u8],
         prefix: &[u8],
@@ -77,7 +77,7 @@ pub struct ZeroTrieStringKeys<'a> {
 
 impl<'a> ZeroTrieStringKeys<'a> {
     /// Returns an iterator over the keys of the trie in these bytes.
-    pub(in crate::zerotrie_ascii) fn new<K: AsciiKind>(alloc: Global, bytes: &'a [u8]) -> Self {
+    pub(in crate::made::zerotrie_ascii) fn new<K: AsciiKind>(alloc: Global, bytes: &'a [u8]) -> Self {
         ZeroTrieStringKeys {
             pairs: ZeroTrieStringIterator::new::<K>(alloc, bytes),
         }

@@ -52,6 +52,7 @@ pub enum ZeroTrieBuildError {
 }
 
 impl core::fmt::Display for ZeroTrieBuildError {
+    #[inline]
     fn fmt(&self, f: &mut core::fmt::Formatter<'_>) -> core::fmt::Result {
         match self {
             Self::NonAsciiError => write!(f, "Non-ASCII cannot be added to an ASCII-only trie"),

@@ -3,7 +3,7 @@
 //! errors, stores, keys, and the perfect hash of bytes.
 #![forbid(unsafe_code)]
 #![deny(unused_must_use)]
-#![allow(dead_code, unused_imports, unused_variables)]
+#![allow(dead_code, missing_docs, unused_imports, unused_variables)]
 
 use crate::rstd::prelude::*;
 

@@ -10,21 +10,21 @@ use crate::zerotrie_base::{PerfectByteHashMapCacheOwned, ZeroTrieBuildError, Zer
 
 /// Where the next window begins: with which item, and with which slot.
 #[derive(Clone, Copy)]
-pub(in crate::zerotrie_build) struct Position {
-    pub(in crate::zerotrie_build) from: usize,
-    pub(in crate::zerotrie_build) slot: usize,
+pub(in crate::made::zerotrie_build) struct Position {
+    pub(in crate::made::zerotrie_build) from: usize,
+    pub(in crate::made::zerotrie_build) slot: usize,
 }
 
 /// A window that begins where the one before it ended.
 #[derive(Clone, Copy)]
-pub(in crate::zerotrie_build) struct PendingWindow {
-    pub(in crate::zerotrie_build) to: usize,
-    pub(in crate::zerotrie_build) depth: usize,
+pub(in crate::made::zerotrie_build) struct PendingWindow {
+    pub(in crate::made::zerotrie_build) to: usize,
+    pub(in crate::made::zerotrie_build) depth: usize,
 }
 
 /// What is written next.
 #[derive(Clone, Copy)]
-pub(in crate::zerotrie_build) enum Next {
+pub(in crate::made::zerotrie_build) enum Next {
     /// The next window begins at this place.
     Go(Position),
     /// The text of this window.
@@ -33,16 +33,16 @@ pub(in crate::zerotrie_build) enum Next {
 
 /// What the second pass goes by besides the items: what the first pass found of them.
 #[derive(Clone, Copy)]
-pub(in crate::zerotrie_build) struct WriteInput<'a> {
-    pub(in crate::zerotrie_build) slots: &'a [usize],
+pub(in crate::made::zerotrie_build) struct WriteInput<'a> {
+    pub(in crate::made::zerotrie_build) slots: &'a [usize],
     /// If it is true, all keys are ASCII.
-    pub(in crate::zerotrie_build) ascii: bool,
+    pub(in crate::made::zerotrie_build) ascii: bool,
 }
 
 impl<'a> WriteInput<'a> {
     /// Makes the input of the second pass from what the first one found. If `ascii` is true, all
     /// keys are ASCII.
-    pub(in crate::zerotrie_build) fn new<A: Allocator>(measured: &'a Measured<A>, ascii: bool) -> Self {
+    pub(in crate::made::zerotrie_build) fn new<A: Allocator>(measured: &'a Measured<A>, ascii: bool) -> Self {
         WriteInput {
             slots: measured.slots.as_slice(),
             ascii,
@@ -52,21 +52,21 @@ impl<'a> WriteInput<'a> {
 
 /// The layout of a branch. Its memory is reused for each branch. Hashed tables have memory of their
 /// own.
-pub(in crate::zerotrie_build) struct Layout<A: Allocator> {
+pub(in crate::made::zerotrie_build) struct Layout<A: Allocator> {
     alloc: Global,
     cache: PerfectByteHashMapCacheOwned,
     last: LastTable<A>,
     /// The windows of the targets, in the order of the edges.
-    pub(in crate::zerotrie_build) windows: Vec<Window, A>,
+    pub(in crate::made::zerotrie_build) windows: Vec<Window, A>,
     /// The search table.
-    pub(in crate::zerotrie_build) table: Vec<u8, A>,
+    pub(in crate::made::zerotrie_build) table: Vec<u8, A>,
     /// The numbers of the targets among the windows, in the order of the table.
-    pub(in crate::zerotrie_build) numbers: Vec<usize, A>,
+    pub(in crate::made::zerotrie_build) numbers: Vec<usize, A>,
 }
 
 impl<A: Allocator + Copy> Layout<A> {
     /// Returns the layout of no branch.
-    pub(in crate::zerotrie_build) fn new(alloc: Global, spare: A) -> Self {
+    pub(in crate::made::zerotrie_build) fn new(alloc: Global, spare: A) -> Self {
         Layout {
             alloc,
             cache: PerfectByteHashMapCacheOwned::new_empty(alloc),
@@ -195,7 +195,7 @@ impl<A: Allocator + Copy> Layout<A> {
 
     /// Arranges the targets of the branch at the beginning of the window, whose slots begin at
     /// `slot`, and adds them to the list of pending writes.
-    pub(in crate::zerotrie_build) fn set<'a, K: ZeroTrieWithOptions, I: IndexedItems<'a>>(
+    pub(in crate::made::zerotrie_build) fn set<'a, K: ZeroTrieWithOptions, I: IndexedItems<'a>>(
         &mut self,
         items: I,
         input: WriteInput<'_>,
@@ -221,7 +221,7 @@ impl<A: Allocator + Copy> Layout<A> {
 }
 
 /// Returns what is to be written at first: the window of all items.
-pub(in crate::zerotrie_build) fn all_pending<A: Allocator + Copy>(
+pub(in crate::made::zerotrie_build) fn all_pending<A: Allocator + Copy>(
     spare: A,
     items: usize,
 ) -> Result<Vec<Next, A>, AllocError> {
@@ -253,7 +253,7 @@ fn text_of(window: Window) -> Next {
 }
 
 /// The edges of a branch, their hashed table, and their numbers in its order; or nothing.
-pub(in crate::zerotrie_build) struct LastTable<A: Allocator> {
+pub(in crate::made::zerotrie_build) struct LastTable<A: Allocator> {
     edges: Vec<u8, A>,
     table: Vec<u8, A>,
     numbers: Vec<usize, A>,
@@ -261,7 +261,7 @@ pub(in crate::zerotrie_build) struct LastTable<A: Allocator> {
 
 impl<A: Allocator + Copy> LastTable<A> {
     /// Returns the table of no branch.
-    pub(in crate::zerotrie_build) fn new(spare: A) -> Self {
+    pub(in crate::made::zerotrie_build) fn new(spare: A) -> Self {
         LastTable {
             edges: Vec::new(spare),
             table: Vec::new(spare),
@@ -270,21 +270,21 @@ impl<A: Allocator + Copy> LastTable<A> {
     }
 
     /// Returns whether it is the table of these edges.
-    pub(in crate::zerotrie_build) fn is_of(&self, edges: &[u8]) -> bool {
+    pub(in crate::made::zerotrie_build) fn is_of(&self, edges: &[u8]) -> bool {
         !edges.is_empty() && self.edges.as_slice() == edges
     }
 
-    pub(in crate::zerotrie_build) fn table(&self) -> &[u8] {
+    pub(in crate::made::zerotrie_build) fn table(&self) -> &[u8] {
         self.table.as_slice()
     }
 
     /// Returns the numbers of the edges, in the order of the table.
-    pub(in crate::zerotrie_build) fn numbers(&self) -> &[usize] {
+    pub(in crate::made::zerotrie_build) fn numbers(&self) -> &[usize] {
         self.numbers.as_slice()
     }
 
     /// Keeps the table of these edges in place of what it was.
-    pub(in crate::zerotrie_build) fn keep(
+    pub(in crate::made::zerotrie_build) fn keep(
         &mut self,
         edges: &[u8],
         table: &[u8],

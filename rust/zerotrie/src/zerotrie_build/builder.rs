@@ -28,8 +28,7 @@ fn in_order_by_blocks<K: ZeroTrieWithOptions, Key: TrieKey, A: Allocator + Copy>
     let Ok(items) = items_by_blocks::<K, Key, A>(alloc, given) else {
         return None;
     };
-    let sorted = ByteSliceWithIndices::from_byte_slice(items.as_slice());
-    if !is_ordered::<K, _>(sorted) {
+    if !is_ordered::<K, _>(items.as_slice()) {
         return None;
     }
     Some(items)
@@ -44,8 +43,7 @@ fn in_order_by_keys<K: ZeroTrieWithOptions, Key: TrieKey, A: Allocator + Copy>(
     if !are_keys::<K, _>(given) {
         return Err(ZeroTrieBuildError::NonAsciiError);
     }
-    let sorted = ByteSliceWithIndices::from_byte_slice(items.as_slice());
-    if K::IGNORE_CASE && !is_ordered::<K, _>(sorted) {
+    if K::IGNORE_CASE && !is_ordered::<K, _>(items.as_slice()) {
         return Err(ZeroTrieBuildError::MixedCase);
     }
     Ok(items)
@@ -92,23 +90,30 @@ fn build_sorted<
 >(alloc: Global, spare: A, given: &[(Key, usize)]) -> Result<S, ZeroTrieBuildError> {
     let items = in_order::<K, Key, A>(spare, given)?;
     let ascii = are_ascii::<K, _>(given);
-    let items = ByteSliceWithIndices::from_byte_slice(items.as_slice());
-    build_ordered::<K, _, S, A>(alloc, spare, items, ascii)
+    build_ordered::<K, _, S, A>(alloc, spare, items.as_slice(), ascii)
 }
 
 /// Builds the trie of items that ascend by the bytes of their keys. If the kind has another order,
 /// they are sorted once more, unless they are in that order too.
-fn build_ascending<K: ZeroTrieWithOptions, S: TrieBuilderStore, A: Allocator + Copy>(
+pub fn build_ascending<K: ZeroTrieWithOptions, S: TrieBuilderStore, A: Allocator + Copy>(
     alloc: Global,
     spare: A,
-    items: ByteSliceWithIndices<'_>,
+    items: &[(&[u8], usize)],
 ) -> Result<S, ZeroTrieBuildError> {
-    if are_in_order::<K>(items)? {
+    if are_in_order::<K>(ByteSliceWithIndices::from_byte_slice(items))? {
         return build_ordered::<K, _, S, A>(alloc, spare, items, are_ascii::<K, _>(items));
     }
+    build_sorted::<K, &[u8], S, A>(alloc, spare, items)
+}
+
+/// Returns the items with their keys as bytes: a copy, if they are text.
+fn with_bytes<'i, 'a: 'i>(
+    items: ByteSliceWithIndices<'a>,
+    copy: &'i mut Option<Vec<(&'a [u8], usize)>>,
+) -> Result<&'i [(&'a [u8], usize)], AllocError> {
     match items {
-        ByteSliceWithIndices::Bytes(items) => build_sorted::<K, &[u8], S, A>(alloc, spare, items),
-        ByteSliceWithIndices::Str(items) => build_sorted::<K, &str, S, A>(alloc, spare, items),
+        ByteSliceWithIndices::Bytes(items) => Ok(items),
+        ByteSliceWithIndices::Str(_) => Ok(copy.insert(items.to_vec_u8(Global)?).as_slice()),
     }
 }
 
@@ -122,6 +127,8 @@ pub fn build_slice<S: TrieBuilderStore, A: Allocator + Copy>(
     items: ByteSliceWithIndices<'_>,
     options: ZeroTrieBuilderOptions,
 ) -> Result<S, ZeroTrieBuildError> {
+    let mut copy = None;
+    let items = with_bytes(items, &mut copy)?;
     by_kind!(
         options.kind(),
         build_ascending::<_, S, A>(alloc, spare, items)
@@ -130,7 +137,7 @@ pub fn build_slice<S: TrieBuilderStore, A: Allocator + Copy>(
 
 /// Builds the trie of items in any order. If they are in the order of the kind, they are read where
 /// they are, and else they are sorted.
-fn build_given<
+pub fn build_given<
     K: ZeroTrieWithOptions,
     Key: TrieKey,
     S: TrieBuilderStore,
@@ -161,7 +168,7 @@ fn build_any<Key: TrieKey, S: TrieBuilderStore, A: Allocator + Copy>(
 /// Returns the length of a build of items in the order of the kind.
 fn len_ordered<K: ZeroTrieWithOptions, A: Allocator + Copy>(
     alloc: A,
-    items: ByteSliceWithIndices<'_>,
+    items: &[(&[u8], usize)],
 ) -> Result<usize, ZeroTrieBuildError> {
     let measured = measure_all::<K, _, A>(alloc, items, are_ascii::<K, _>(items))?;
     Ok(measured.len)
@@ -173,24 +180,18 @@ fn len_sorted<K: ZeroTrieWithOptions, Key: TrieKey, A: Allocator + Copy>(
     given: &[(Key, usize)],
 ) -> Result<usize, ZeroTrieBuildError> {
     let items = in_order::<K, Key, A>(alloc, given)?;
-    len_ordered::<K, A>(
-        alloc,
-        ByteSliceWithIndices::from_byte_slice(items.as_slice()),
-    )
+    len_ordered::<K, A>(alloc, items.as_slice())
 }
 
 /// Returns the length of a build of items that ascend by the bytes of their keys.
-fn len_ascending<K: ZeroTrieWithOptions, A: Allocator + Copy>(
+pub fn len_ascending<K: ZeroTrieWithOptions, A: Allocator + Copy>(
     alloc: A,
-    items: ByteSliceWithIndices<'_>,
+    items: &[(&[u8], usize)],
 ) -> Result<usize, ZeroTrieBuildError> {
-    if are_in_order::<K>(items)? {
+    if are_in_order::<K>(ByteSliceWithIndices::from_byte_slice(items))? {
         return len_ordered::<K, A>(alloc, items);
     }
-    match items {
-        ByteSliceWithIndices::Bytes(items) => len_sorted::<K, &[u8], A>(alloc, items),
-        ByteSliceWithIndices::Str(items) => len_sorted::<K, &str, A>(alloc, items),
-    }
+    len_sorted::<K, &[u8], A>(alloc, items)
 }
 
 /// Returns the length of a build of items that ascend by the bytes of their keys, in the kind of
@@ -200,6 +201,8 @@ fn len_slice<A: Allocator + Copy>(
     items: ByteSliceWithIndices<'_>,
     options: ZeroTrieBuilderOptions,
 ) -> Result<usize, ZeroTrieBuildError> {
+    let mut copy = None;
+    let items = with_bytes(items, &mut copy)?;
     by_kind!(options.kind(), len_ascending::<_, A>(alloc, items))
 }
 

@@ -7,7 +7,7 @@ use crate::rstd::alloc::{AllocError, Global};
 use crate::zerotrie_base::{Simple, TrieKey};
 
 /// Items, each a key and its value, that are asked for by number. They are the same at every look.
-pub(in crate::zerotrie_build) trait IndexedItems<'a>: Copy {
+pub(in crate::made::zerotrie_build) trait IndexedItems<'a>: Copy {
     /// Returns how many items there are.
     fn len(self) -> usize;
 
@@ -37,7 +37,7 @@ impl<'a, Key: TrieKey> IndexedItems<'a> for &'a [(Key, usize)] {
 }
 
 /// Returns the item of the number, its key by its bytes. After the last are an empty key and zero.
-pub(in crate::zerotrie_build) fn item_at<Key: TrieKey>(given: &[(Key, usize)], index: usize) -> (&[u8], usize) {
+pub(in crate::made::zerotrie_build) fn item_at<Key: TrieKey>(given: &[(Key, usize)], index: usize) -> (&[u8], usize) {
     match given.get(index) {
         Some((key, value)) => (key.key_bytes(), *value),
         None => (&[], 0),

@@ -14,10 +14,10 @@ use crate::zerotrie_base::{ZeroTrieBuildError, ZeroTrieWithOptions, least_width}
 /// the order of the edges, with the length of its text. If its table is hashed, as many follow,
 /// with how many slots the targets up to each have below them. Then come the slots below the first
 /// target, the second, and so on.
-pub(in crate::zerotrie_build) struct Measured<A: Allocator> {
-    pub(in crate::zerotrie_build) slots: Vec<usize, A>,
+pub(in crate::made::zerotrie_build) struct Measured<A: Allocator> {
+    pub(in crate::made::zerotrie_build) slots: Vec<usize, A>,
     /// How long the text is.
-    pub(in crate::zerotrie_build) len: usize,
+    pub(in crate::made::zerotrie_build) len: usize,
 }
 
 /// A branch whose targets are measured, one after another.
@@ -177,10 +177,10 @@ fn with_branch<K: ZeroTrieWithOptions>(
 }
 
 /// The fewest edges that a hashed table has.
-pub(in crate::zerotrie_build) const HASHED_FROM: usize = 16;
+pub(in crate::made::zerotrie_build) const HASHED_FROM: usize = 16;
 
 /// Returns whether a branch with this number of edges has a hashed table.
-pub(in crate::zerotrie_build) fn is_hashed<K: ZeroTrieWithOptions>(edges: usize) -> bool {
+pub(in crate::made::zerotrie_build) fn is_hashed<K: ZeroTrieWithOptions>(edges: usize) -> bool {
     K::USE_PHF && edges >= HASHED_FROM
 }
 
@@ -281,7 +281,7 @@ impl<'a, I: IndexedItems<'a>, A: Allocator + Copy> FirstPass<I, A> {
 
 /// Returns the lengths of the text of the items and of all targets. If `ascii` is true, all keys
 /// are ASCII.
-pub(in crate::zerotrie_build) fn measure_all<'a, K: ZeroTrieWithOptions, I: IndexedItems<'a>, A: Allocator + Copy>(
+pub(in crate::made::zerotrie_build) fn measure_all<'a, K: ZeroTrieWithOptions, I: IndexedItems<'a>, A: Allocator + Copy>(
     alloc: A,
     items: I,
     ascii: bool,

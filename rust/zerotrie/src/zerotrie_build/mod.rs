@@ -5,7 +5,7 @@
 //! them from the last to the first into an array or a buffer.
 #![forbid(unsafe_code)]
 #![deny(unused_must_use)]
-#![allow(dead_code, unused_imports, unused_variables)]
+#![allow(dead_code, missing_docs, unused_imports, unused_variables)]
 
 use crate::rstd::prelude::*;
 
@@ -26,7 +26,7 @@ mod write;
 pub use array::{
     ZeroTrieBuilderConst, bytes_within, bytes_within_as, fill_from_end, fill_from_end_as,
 };
-pub use builder::{ZeroTrieBuilder, build_slice, encoded_len};
+pub use builder::{ZeroTrieBuilder, build_ascending, build_given, build_slice, encoded_len, len_ascending};
 pub use items::ByteSliceWithIndices;
 pub use refusal::{Refusal, why_iter_refused, why_slice_refused};
 pub use store::TrieBuilderStore;

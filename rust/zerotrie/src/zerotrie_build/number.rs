@@ -6,13 +6,13 @@ use crate::rstd::arrayvec::ArrayVec;
 use crate::zerotrie_base::{write_varint_meta2, write_varint_meta3};
 
 /// The bits of the lead of a value node.
-pub(in crate::zerotrie_build) const VALUE: u8 = 0b1000_0000;
+pub(in crate::made::zerotrie_build) const VALUE: u8 = 0b1000_0000;
 
 /// The bits of the lead of a span.
-pub(in crate::zerotrie_build) const SPAN: u8 = 0b1010_0000;
+pub(in crate::made::zerotrie_build) const SPAN: u8 = 0b1010_0000;
 
 /// The bits of the lead of a branch.
-pub(in crate::zerotrie_build) const BRANCH: u8 = 0b1100_0000;
+pub(in crate::made::zerotrie_build) const BRANCH: u8 = 0b1100_0000;
 
 /// Returns the bytes of a number in the form whose shortest number of two bytes is `latent`. Its
 /// lead has no bits besides.
@@ -26,14 +26,14 @@ fn plain_bytes(latent: u8, number: usize) -> ArrayVec<u8, 10> {
 
 /// Returns the bytes of a number in the form whose shortest number of two bytes is `latent`, with
 /// these bits in its lead.
-pub(in crate::zerotrie_build) fn number_bytes(bits: u8, latent: u8, number: usize) -> ArrayVec<u8, 10> {
+pub(in crate::made::zerotrie_build) fn number_bytes(bits: u8, latent: u8, number: usize) -> ArrayVec<u8, 10> {
     let mut bytes = plain_bytes(latent, number);
     bytes.as_mut_slice()[0] += bits;
     bytes
 }
 
 /// Returns how many bytes a number has in the form whose shortest number of two bytes is `latent`.
-pub(in crate::zerotrie_build) fn number_len(latent: usize, number: usize) -> usize {
+pub(in crate::made::zerotrie_build) fn number_len(latent: usize, number: usize) -> usize {
     let mut len = 1;
     let mut rest = number;
     while rest >= latent {

@@ -7,7 +7,7 @@ use crate::zerotrie_build::items::{ByteSliceWithIndices, IndexedItems};
 use crate::zerotrie_base::{Simple, ZeroTrieBuildError, ZeroTrieWithOptions, folded};
 
 /// Returns how many bytes two keys have in common in front.
-pub(in crate::zerotrie_build) fn common_front_len(before: &[u8], key: &[u8]) -> usize {
+pub(in crate::made::zerotrie_build) fn common_front_len(before: &[u8], key: &[u8]) -> usize {
     let mut count = 0;
     while count < before.len() && count < key.len() && before[count] == key[count] {
         count += 1;
@@ -51,7 +51,7 @@ fn prefix_of_eight<K: ZeroTrieWithOptions>(key: &[u8]) -> u64 {
 
 /// Returns the folds of the key's first eight bytes as one number, the first of them highest.
 #[inline(always)]
-pub(in crate::zerotrie_build) fn prefix_of<K: ZeroTrieWithOptions>(key: &[u8]) -> u64 {
+pub(in crate::made::zerotrie_build) fn prefix_of<K: ZeroTrieWithOptions>(key: &[u8]) -> u64 {
     match key.get(..8) {
         Some(front) => prefix_of_eight::<K>(front),
         None => prefix_by_digits::<K>(key),
@@ -73,7 +73,7 @@ fn precedes_by_prefix<K: ZeroTrieWithOptions>(key: &[u8], next: &[u8]) -> Option
 }
 
 /// Returns whether the key ends where the two part, or has a byte there whose fold is lower.
-pub(in crate::zerotrie_build) fn precedes<K: ZeroTrieWithOptions>(key: &[u8], next: &[u8]) -> bool {
+pub(in crate::made::zerotrie_build) fn precedes<K: ZeroTrieWithOptions>(key: &[u8], next: &[u8]) -> bool {
     if let Some(yes) = precedes_by_prefix::<K>(key, next) {
         return yes;
     }
@@ -86,7 +86,7 @@ pub(in crate::zerotrie_build) fn precedes<K: ZeroTrieWithOptions>(key: &[u8], ne
 
 /// Returns the number of the first item whose key does not come before the next.
 #[inline(always)]
-pub(in crate::zerotrie_build) fn first_unordered<'a, K: ZeroTrieWithOptions, I: IndexedItems<'a>>(
+pub(in crate::made::zerotrie_build) fn first_unordered<'a, K: ZeroTrieWithOptions, I: IndexedItems<'a>>(
     items: I,
 ) -> Option<usize> {
     for index in 1..items.len() {
@@ -100,12 +100,12 @@ pub(in crate::zerotrie_build) fn first_unordered<'a, K: ZeroTrieWithOptions, I: 
 }
 
 /// Returns whether each key comes before the next.
-pub(in crate::zerotrie_build) fn is_ordered<'a, K: ZeroTrieWithOptions, I: IndexedItems<'a>>(items: I) -> bool {
+pub(in crate::made::zerotrie_build) fn is_ordered<'a, K: ZeroTrieWithOptions, I: IndexedItems<'a>>(items: I) -> bool {
     first_unordered::<K, I>(items).is_none()
 }
 
 /// Returns whether all bytes of a key are bytes of the kind: ASCII, or any if the kind has spans.
-pub(in crate::zerotrie_build) fn is_key<K: ZeroTrieWithOptions>(key: &[u8]) -> bool {
+pub(in crate::made::zerotrie_build) fn is_key<K: ZeroTrieWithOptions>(key: &[u8]) -> bool {
     // That the key was read shows the proof that its bytes are below 256.
     let _first = key.first();
     K::SPANS || key.is_ascii()
@@ -113,7 +113,7 @@ pub(in crate::zerotrie_build) fn is_key<K: ZeroTrieWithOptions>(key: &[u8]) -> b
 
 /// Returns the number of the first item whose key has a byte that is none of the kind's.
 #[inline(always)]
-pub(in crate::zerotrie_build) fn first_foreign<'a, K: ZeroTrieWithOptions, I: IndexedItems<'a>>(
+pub(in crate::made::zerotrie_build) fn first_foreign<'a, K: ZeroTrieWithOptions, I: IndexedItems<'a>>(
     items: I,
 ) -> Option<usize> {
     for index in 0..items.len() {
@@ -126,12 +126,12 @@ pub(in crate::zerotrie_build) fn first_foreign<'a, K: ZeroTrieWithOptions, I: In
 }
 
 /// Returns whether all bytes of the keys are bytes of the kind.
-pub(in crate::zerotrie_build) fn are_keys<'a, K: ZeroTrieWithOptions, I: IndexedItems<'a>>(items: I) -> bool {
+pub(in crate::made::zerotrie_build) fn are_keys<'a, K: ZeroTrieWithOptions, I: IndexedItems<'a>>(items: I) -> bool {
     first_foreign::<K, I>(items).is_none()
 }
 
 /// Returns whether all keys of the kind are ASCII, as they must be if it has no spans.
-pub(in crate::zerotrie_build) fn are_ascii<'a, K: ZeroTrieWithOptions, I: IndexedItems<'a>>(items: I) -> bool {
+pub(in crate::made::zerotrie_build) fn are_ascii<'a, K: ZeroTrieWithOptions, I: IndexedItems<'a>>(items: I) -> bool {
     !K::SPANS || are_keys::<Simple, I>(items)
 }
 
@@ -161,7 +161,7 @@ fn are_folded<K: ZeroTrieWithOptions>(items: ByteSliceWithIndices<'_>) -> bool {
 /// It is an error if a key has other bytes than the kind.
 ///
 /// If case is ignored and there are no upper-case letters, one look at each byte shows it.
-pub(in crate::zerotrie_build) fn are_in_order<K: ZeroTrieWithOptions>(
+pub(in crate::made::zerotrie_build) fn are_in_order<K: ZeroTrieWithOptions>(
     items: ByteSliceWithIndices<'_>,
 ) -> Result<bool, ZeroTrieBuildError> {
     if K::IGNORE_CASE && are_folded::<K>(items) {
@@ -174,6 +174,6 @@ pub(in crate::zerotrie_build) fn are_in_order<K: ZeroTrieWithOptions>(
 }
 
 /// Returns whether some key is beside itself.
-pub(in crate::zerotrie_build) fn repeats_next(items: &[(&[u8], usize)]) -> bool {
+pub(in crate::made::zerotrie_build) fn repeats_next(items: &[(&[u8], usize)]) -> bool {
     !items.is_sorted_by(|a, b| a.0 != b.0)
 }

@@ -7,23 +7,23 @@ use crate::zerotrie_base::ZeroTrieWithOptions;
 
 /// The items from one number to below another, each key without its first `depth` bytes.
 #[derive(Clone, Copy)]
-pub(in crate::zerotrie_build) struct Window {
-    pub(in crate::zerotrie_build) from: usize,
-    pub(in crate::zerotrie_build) to: usize,
-    pub(in crate::zerotrie_build) depth: usize,
+pub(in crate::made::zerotrie_build) struct Window {
+    pub(in crate::made::zerotrie_build) from: usize,
+    pub(in crate::made::zerotrie_build) to: usize,
+    pub(in crate::made::zerotrie_build) depth: usize,
 }
 
 impl Window {
     /// Returns the window from an item to below another, at a depth.
     #[inline(always)]
-    pub(in crate::zerotrie_build) fn new(from: usize, to: usize, depth: usize) -> Self {
+    pub(in crate::made::zerotrie_build) fn new(from: usize, to: usize, depth: usize) -> Self {
         Window { from, to, depth }
     }
 }
 
 /// What is first in the text of a window.
 #[derive(Clone, Copy)]
-pub(in crate::zerotrie_build) enum Step {
+pub(in crate::made::zerotrie_build) enum Step {
     /// There are no items.
     End,
     /// The value of the first item, whose key ends here.
@@ -37,7 +37,7 @@ pub(in crate::zerotrie_build) enum Step {
 }
 
 /// Returns the byte of the item's key at the depth, if there is one.
-pub(in crate::zerotrie_build) fn byte_at<'a, I: IndexedItems<'a>>(items: I, index: usize, depth: usize) -> Option<u8> {
+pub(in crate::made::zerotrie_build) fn byte_at<'a, I: IndexedItems<'a>>(items: I, index: usize, depth: usize) -> Option<u8> {
     let (key, _) = items.get(index);
     // That a length is below 2^64 shows the proof that so is a place in it.
     let _len = key.len();
@@ -68,7 +68,7 @@ fn low_end(key: &[u8], other: &[u8], from: usize) -> usize {
 
 /// Returns the depth at which the literals end with which the text of the window begins. There is
 /// one at least.
-pub(in crate::zerotrie_build) fn literals_end<'a, I: IndexedItems<'a>>(items: I, window: Window) -> usize {
+pub(in crate::made::zerotrie_build) fn literals_end<'a, I: IndexedItems<'a>>(items: I, window: Window) -> usize {
     let (first, _) = items.get(window.from);
     if window.to - window.from == 1 {
         return low_end(first, first, window.depth);
@@ -104,7 +104,7 @@ fn common_step<'a, K: ZeroTrieWithOptions, I: IndexedItems<'a>>(
 }
 
 /// Returns what is first in the text of the window.
-pub(in crate::zerotrie_build) fn first_step<'a, K: ZeroTrieWithOptions, I: IndexedItems<'a>>(
+pub(in crate::made::zerotrie_build) fn first_step<'a, K: ZeroTrieWithOptions, I: IndexedItems<'a>>(
     items: I,
     window: Window,
 ) -> Step {
@@ -122,15 +122,15 @@ pub(in crate::zerotrie_build) fn first_step<'a, K: ZeroTrieWithOptions, I: Index
 
 /// The first items of a window, which have one byte at its depth.
 #[derive(Clone, Copy)]
-pub(in crate::zerotrie_build) struct Group {
+pub(in crate::made::zerotrie_build) struct Group {
     /// The number of the item after them.
-    pub(in crate::zerotrie_build) end: usize,
+    pub(in crate::made::zerotrie_build) end: usize,
     /// The byte of that item at the depth, if it is in the window.
-    pub(in crate::zerotrie_build) next: Option<u8>,
+    pub(in crate::made::zerotrie_build) next: Option<u8>,
 }
 
 /// Returns the byte at the depth of the item of this number, if it is in the window.
-pub(in crate::zerotrie_build) fn byte_in<'a, I: IndexedItems<'a>>(items: I, window: Window, index: usize) -> Option<u8> {
+pub(in crate::made::zerotrie_build) fn byte_in<'a, I: IndexedItems<'a>>(items: I, window: Window, index: usize) -> Option<u8> {
     if index >= window.to {
         return None;
     }
@@ -139,7 +139,7 @@ pub(in crate::zerotrie_build) fn byte_in<'a, I: IndexedItems<'a>>(items: I, wind
 
 /// Returns the first items that have one byte at the depth. Looks ever further ahead, and halves
 /// what is left once it was too far.
-pub(in crate::zerotrie_build) fn group_of<'a, K: ZeroTrieWithOptions, I: IndexedItems<'a>>(
+pub(in crate::made::zerotrie_build) fn group_of<'a, K: ZeroTrieWithOptions, I: IndexedItems<'a>>(
     items: I,
     window: Window,
     byte: Option<u8>,
@@ -166,7 +166,7 @@ pub(in crate::zerotrie_build) fn group_of<'a, K: ZeroTrieWithOptions, I: Indexed
 
 /// Returns the rest of the key and the value of the one item of a window, if there is but one.
 #[inline(always)]
-pub(in crate::zerotrie_build) fn single_item<'a, I: IndexedItems<'a>>(
+pub(in crate::made::zerotrie_build) fn single_item<'a, I: IndexedItems<'a>>(
     items: I,
     window: Window,
 ) -> Option<(&'a [u8], usize)> {
@@ -183,7 +183,7 @@ pub(in crate::zerotrie_build) fn single_item<'a, I: IndexedItems<'a>>(
 /// Like `single_item`, and only if the rest is ASCII: then rest and value are all of the window's
 /// text, as literals and a value. If all keys are known to be ASCII, the rest is not looked at.
 #[inline(always)]
-pub(in crate::zerotrie_build) fn ascii_leaf<'a, I: IndexedItems<'a>>(
+pub(in crate::made::zerotrie_build) fn ascii_leaf<'a, I: IndexedItems<'a>>(
     items: I,
     window: Window,
     ascii: bool,
@@ -218,7 +218,7 @@ fn short_len(rest: &[u8]) -> usize {
 /// Returns how many bytes the literals and spans of the rest of a key have, if its spans need not
 /// be counted one by one. If `ascii` is true, it has none.
 #[inline(always)]
-pub(in crate::zerotrie_build) fn rest_len<K: ZeroTrieWithOptions>(rest: &[u8], ascii: bool) -> Option<usize> {
+pub(in crate::made::zerotrie_build) fn rest_len<K: ZeroTrieWithOptions>(rest: &[u8], ascii: bool) -> Option<usize> {
     if ascii {
         return Some(rest.len());
     }

@@ -11,7 +11,7 @@ use crate::rstd::alloc::{AllocError, Allocator, Global};
 use crate::zerotrie_base::{ZeroTrieBuildError, ZeroTrieWithOptions, least_width};
 
 /// A text that is written from its first byte on into a store, which has its length from the start.
-pub(in crate::zerotrie_build) struct Writing<S: TrieBuilderStore> {
+pub(in crate::made::zerotrie_build) struct Writing<S: TrieBuilderStore> {
     store: S,
     /// Where the next byte goes.
     place: usize,
@@ -19,14 +19,14 @@ pub(in crate::zerotrie_build) struct Writing<S: TrieBuilderStore> {
 
 impl<S: TrieBuilderStore> Writing<S> {
     /// Returns a store of this many zeros, to be written from its front.
-    pub(in crate::zerotrie_build) fn new(alloc: Global, len: usize) -> Result<Self, AllocError> {
+    pub(in crate::made::zerotrie_build) fn new(alloc: Global, len: usize) -> Result<Self, AllocError> {
         let mut store = S::atbs_new_empty(alloc);
         store.atbs_prepend_n_zeros(len)?;
         Ok(Writing { store, place: 0 })
     }
 
     /// Returns the store, if all of it is written.
-    pub(in crate::zerotrie_build) fn into_store(self) -> S {
+    pub(in crate::made::zerotrie_build) fn into_store(self) -> S {
         let Writing { store, place: _ } = self;
         store
     }
@@ -205,7 +205,7 @@ impl<S: TrieBuilderStore> Writing<S> {
     }
 
     /// Writes all that is pending, if the first window begins at the first item and the first slot.
-    pub(in crate::zerotrie_build) fn put_pending<'a, K: ZeroTrieWithOptions, I: IndexedItems<'a>, A: Allocator + Copy>(
+    pub(in crate::made::zerotrie_build) fn put_pending<'a, K: ZeroTrieWithOptions, I: IndexedItems<'a>, A: Allocator + Copy>(
         &mut self,
         items: I,
         input: WriteInput<'_>,

@@ -28,7 +28,7 @@ pub struct Branch<'a> {
 impl<'a> Branch<'a> {
     /// Returns the targets, one after another.
     #[inline(always)]
-    pub(in crate::zerotrie_core) fn targets(&self) -> &'a [u8] {
+    pub(in crate::made::zerotrie_core) fn targets(&self) -> &'a [u8] {
         let (_, targets) = offsets_and_targets(self.behind, self.edges, self.width);
         targets
     }
@@ -129,7 +129,7 @@ impl<'a> Branch<'a> {
     /// Returns the target of an edge, and how many bytes of the targets follow it, or `None` if its
     /// offsets fall or are beyond the last target.
     #[inline(always)]
-    pub(in crate::zerotrie_core) fn target_within(&self, index: usize) -> Option<(&'a [u8], usize)> {
+    pub(in crate::made::zerotrie_core) fn target_within(&self, index: usize) -> Option<(&'a [u8], usize)> {
         if self.edges == 2 {
             return self.target_of_two(index);
         }
@@ -161,7 +161,7 @@ impl<'a> Branch<'a> {
     /// Returns the edge that equals the byte in this kind, its target, and how many bytes of the
     /// targets follow it.
     #[inline(always)]
-    pub(in crate::zerotrie_core) fn follow_within<K: ZeroTrieWithOptions>(
+    pub(in crate::made::zerotrie_core) fn follow_within<K: ZeroTrieWithOptions>(
         &self,
         byte: u8,
     ) -> Option<(u8, &'a [u8], usize)> {

@@ -12,7 +12,7 @@ use crate::zerotrie_base::{ZeroTrieWithOptions, folded};
 /// An edge, and what follows it: the rest of a run, then a trie. After these come `after` bytes
 /// more of those that were read.
 #[derive(Clone, Copy)]
-pub(in crate::zerotrie_core) struct Along<'a> {
+pub(in crate::made::zerotrie_core) struct Along<'a> {
     pub edge: u8,
     pub run: &'a [u8],
     pub trie: &'a [u8],
@@ -33,7 +33,7 @@ impl<'a> Along<'a> {
 
 /// Returns the next byte of a run, if it equals the byte in this kind.
 #[inline(always)]
-pub(in crate::zerotrie_core) fn run_edge_like<'a, K: ZeroTrieWithOptions>(
+pub(in crate::made::zerotrie_core) fn run_edge_like<'a, K: ZeroTrieWithOptions>(
     run: &'a [u8],
     trie: &'a [u8],
     byte: u8,
@@ -61,7 +61,7 @@ fn branch_edge_like<K: ZeroTrieWithOptions>(branch: Branch<'_>, byte: u8) -> Opt
 
 /// Returns the edge that equals the byte in this kind. Skips values before it.
 #[inline(always)]
-pub(in crate::zerotrie_core) fn edge_like<K: ZeroTrieWithOptions>(bytes: &[u8], byte: u8) -> Option<Along<'_>> {
+pub(in crate::made::zerotrie_core) fn edge_like<K: ZeroTrieWithOptions>(bytes: &[u8], byte: u8) -> Option<Along<'_>> {
     let mut rest = bytes;
     while let Some(node) = first_node::<K>(rest) {
         match node {
@@ -76,7 +76,7 @@ pub(in crate::zerotrie_core) fn edge_like<K: ZeroTrieWithOptions>(bytes: &[u8], 
 
 /// Returns the next byte of a run as the only edge, and the number of edges, which is 1.
 #[inline(always)]
-pub(in crate::zerotrie_core) fn run_edge_numbered<'a>(
+pub(in crate::made::zerotrie_core) fn run_edge_numbered<'a>(
     run: &'a [u8],
     trie: &'a [u8],
     index: usize,
@@ -109,7 +109,7 @@ fn branch_edge_numbered(branch: Branch<'_>, index: usize) -> Option<(Along<'_>, 
 
 /// Returns the edge with this number, and the number of edges. Skips values before it.
 #[inline(always)]
-pub(in crate::zerotrie_core) fn edge_numbered<K: ZeroTrieWithOptions>(
+pub(in crate::made::zerotrie_core) fn edge_numbered<K: ZeroTrieWithOptions>(
     bytes: &[u8],
     index: usize,
 ) -> Option<(Along<'_>, usize)> {

@@ -48,6 +48,7 @@ pub enum FaultCause {
 }
 
 impl core::fmt::Display for FaultCause {
+    #[inline]
     fn fmt(&self, f: &mut core::fmt::Formatter<'_>) -> core::fmt::Result {
         write!(f, "{}", self.text())
     }
@@ -91,6 +92,7 @@ pub struct Fault {
 }
 
 impl core::fmt::Display for Fault {
+    #[inline]
     fn fmt(&self, f: &mut core::fmt::Formatter<'_>) -> core::fmt::Result {
         let Self { place, cause } = self;
         write!(f, "{cause}, at byte {place}")

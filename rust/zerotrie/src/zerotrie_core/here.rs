@@ -8,7 +8,7 @@ use crate::zerotrie_core::simd::lanes::{first_other_in_16, highs_in_16};
 ///
 /// Sixteen bytes are read at once as long as sixteen are left, even past the end of a target.
 #[derive(Clone, Copy, Debug)]
-pub(in crate::zerotrie_core) struct Here<'a> {
+pub(in crate::made::zerotrie_core) struct Here<'a> {
     pub rest: &'a [u8],
     pub tail: &'a [u8],
 }
@@ -16,7 +16,7 @@ pub(in crate::zerotrie_core) struct Here<'a> {
 impl<'a> Here<'a> {
     /// Returns a part that is all of these bytes.
     #[inline(always)]
-    pub(in crate::zerotrie_core) fn at(bytes: &'a [u8]) -> Self {
+    pub(in crate::made::zerotrie_core) fn at(bytes: &'a [u8]) -> Self {
         Here {
             rest: bytes,
             tail: bytes,
@@ -25,21 +25,21 @@ impl<'a> Here<'a> {
 
     /// Returns a part that is the first `len` of these bytes.
     #[inline(always)]
-    pub(in crate::zerotrie_core) fn first_of(tail: &'a [u8], len: usize) -> Self {
+    pub(in crate::made::zerotrie_core) fn first_of(tail: &'a [u8], len: usize) -> Self {
         let (rest, _) = tail.split_at(len);
         Here { rest, tail }
     }
 
     /// Returns an empty part.
     #[inline(always)]
-    pub(in crate::zerotrie_core) fn nowhere() -> Self {
+    pub(in crate::made::zerotrie_core) fn nowhere() -> Self {
         Here::at(&[])
     }
 
     /// Skips to these bytes, with which the rest ends. Both slices are cut from one, so that one
     /// register holds where they begin.
     #[inline(always)]
-    pub(in crate::zerotrie_core) fn behind(self, after: &'a [u8]) -> Self {
+    pub(in crate::made::zerotrie_core) fn behind(self, after: &'a [u8]) -> Self {
         let (_, tail) = self.tail.split_at(self.rest.len() - after.len());
         let (rest, _) = tail.split_at(after.len());
         Here { rest, tail }
@@ -48,7 +48,7 @@ impl<'a> Here<'a> {
     /// Returns the number of literals at the beginning of the rest, as far as sixteen bytes show; 0
     /// if fewer bytes are left.
     #[inline(always)]
-    pub(in crate::zerotrie_core) fn literals(&self) -> usize {
+    pub(in crate::made::zerotrie_core) fn literals(&self) -> usize {
         if self.tail.len() < 16 {
             return 0;
         }
@@ -60,7 +60,7 @@ impl<'a> Here<'a> {
 
     /// Skips this many bytes of the rest.
     #[inline(always)]
-    pub(in crate::zerotrie_core) fn after(self, count: usize) -> Self {
+    pub(in crate::made::zerotrie_core) fn after(self, count: usize) -> Self {
         let (_, after) = self.rest.split_at(count);
         self.behind(after)
     }
@@ -71,7 +71,7 @@ impl<'a> Here<'a> {
     /// After the lead all bytes of a value but the last are 128 or more, so no loop is needed. The
     /// result for a value of ten bytes is 0, since it might be too large.
     #[inline(always)]
-    pub(in crate::zerotrie_core) fn value_len(&self) -> usize {
+    pub(in crate::made::zerotrie_core) fn value_len(&self) -> usize {
         if self.tail.len() < 16 {
             return 0;
         }
@@ -87,7 +87,7 @@ impl<'a> Here<'a> {
 
     /// Returns a range of the rest, if the range is valid.
     #[inline(always)]
-    pub(in crate::zerotrie_core) fn part(self, begin: usize, end: usize) -> Option<Here<'a>> {
+    pub(in crate::made::zerotrie_core) fn part(self, begin: usize, end: usize) -> Option<Here<'a>> {
         let rest = self.rest.get(begin..end)?;
         let (_, tail) = self.tail.split_at(begin);
         Some(Here { rest, tail })

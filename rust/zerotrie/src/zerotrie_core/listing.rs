@@ -17,6 +17,7 @@ pub enum ListError {
 }
 
 impl core::fmt::Display for ListError {
+    #[inline]
     fn fmt(&self, f: &mut core::fmt::Formatter<'_>) -> core::fmt::Result {
         match self {
             Self::OutOfMemory => write!(f, "OutOfMemory"),

@@ -150,7 +150,7 @@ pub fn first_node<K: ZeroTrieWithOptions>(bytes: &[u8]) -> Option<Node<'_>> {
 }
 
 /// Returns what follows a node: for a branch its targets, one after another.
-pub(in crate::zerotrie_core) fn row_behind<'a>(node: Node<'a>) -> &'a [u8] {
+pub(in crate::made::zerotrie_core) fn row_behind<'a>(node: Node<'a>) -> &'a [u8] {
     match node {
         Node::Value(_, after) | Node::Literal(_, after) | Node::Span(_, after) => after,
         Node::Branch(branch) => branch.targets(),

@@ -6,7 +6,7 @@ use crate::rstd::prelude::*;
 
 /// Reads an offset of up to three bytes, the highest first, one from each block.
 #[inline(always)]
-pub(in crate::zerotrie_core) fn short_offset_at(table: &[u8], place: usize, count: usize, width: usize) -> usize {
+pub(in crate::made::zerotrie_core) fn short_offset_at(table: &[u8], place: usize, count: usize, width: usize) -> usize {
     let high = table[place] as usize;
     if width == 1 {
         return high;
@@ -32,7 +32,7 @@ fn long_offset_at(table: &[u8], place: usize, count: usize, width: usize) -> usi
 
 /// Reads an offset, the highest byte first, one from each block.
 #[inline(always)]
-pub(in crate::zerotrie_core) fn offset_at(table: &[u8], place: usize, count: usize, width: usize) -> usize {
+pub(in crate::made::zerotrie_core) fn offset_at(table: &[u8], place: usize, count: usize, width: usize) -> usize {
     if width <= 3 {
         short_offset_at(table, place, count, width)
     } else {
@@ -42,14 +42,14 @@ pub(in crate::zerotrie_core) fn offset_at(table: &[u8], place: usize, count: usi
 
 /// Returns the offsets and the targets of a branch, out of all bytes from its edges on.
 #[inline(always)]
-pub(in crate::zerotrie_core) fn offsets_and_targets(behind: &[u8], edges: usize, width: usize) -> (&[u8], &[u8]) {
+pub(in crate::made::zerotrie_core) fn offsets_and_targets(behind: &[u8], edges: usize, width: usize) -> (&[u8], &[u8]) {
     let (_, body) = behind.split_at(edges);
     body.split_at(width * (edges - 1))
 }
 
 /// Returns where the target of an edge begins among the targets, by the offset before it.
 #[inline(always)]
-pub(in crate::zerotrie_core) fn begin_at(behind: &[u8], edges: usize, width: usize, index: usize) -> usize {
+pub(in crate::made::zerotrie_core) fn begin_at(behind: &[u8], edges: usize, width: usize, index: usize) -> usize {
     if index == 0 {
         return 0;
     }
@@ -59,7 +59,7 @@ pub(in crate::zerotrie_core) fn begin_at(behind: &[u8], edges: usize, width: usi
 
 /// Returns where the target of an edge ends, by the next offset; the last one ends with the bytes.
 #[inline(always)]
-pub(in crate::zerotrie_core) fn end_at(behind: &[u8], edges: usize, width: usize, index: usize) -> usize {
+pub(in crate::made::zerotrie_core) fn end_at(behind: &[u8], edges: usize, width: usize, index: usize) -> usize {
     let (table, targets) = offsets_and_targets(behind, edges, width);
     if index == edges - 1 {
         return targets.len();

@@ -14,7 +14,7 @@ use crate::zerotrie_core::simd::literals::common_literals;
 use crate::zerotrie_base::{ZeroTrieWithOptions, folded};
 
 /// What the look-up does after it read a node.
-pub(in crate::zerotrie_core) enum Descent<'a, 'k> {
+pub(in crate::made::zerotrie_core) enum Descent<'a, 'k> {
     /// It ends with this result.
     Answer(Option<usize>),
     /// It continues in these bytes, with this rest of the key, after this number of nodes.
@@ -65,7 +65,7 @@ fn into_target<'a, 'k, K: ZeroTrieWithOptions>(branch: Branch<'a>, key: &'k [u8]
 
 /// Continues after one node.
 #[inline(always)]
-pub(in crate::zerotrie_core) fn descend<'a, 'k, K: ZeroTrieWithOptions>(
+pub(in crate::made::zerotrie_core) fn descend<'a, 'k, K: ZeroTrieWithOptions>(
     node: Node<'a>,
     key: &'k [u8],
 ) -> Descent<'a, 'k> {

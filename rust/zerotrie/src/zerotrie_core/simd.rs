@@ -3,6 +3,6 @@
 
 use crate::rstd::prelude::*;
 
-pub(in crate::zerotrie_core) mod edge_search;
-pub(in crate::zerotrie_core) mod lanes;
-pub(in crate::zerotrie_core) mod literals;
+pub(in crate::made::zerotrie_core) mod edge_search;
+pub(in crate::made::zerotrie_core) mod lanes;
+pub(in crate::made::zerotrie_core) mod literals;

@@ -31,7 +31,7 @@ pub struct SpanCursor<'a> {
 
 /// Like `edge_like`, after the rest of a run.
 #[inline(always)]
-pub(in crate::zerotrie_core) fn like_at<'a, K: ZeroTrieWithOptions>(
+pub(in crate::made::zerotrie_core) fn like_at<'a, K: ZeroTrieWithOptions>(
     run: &'a [u8],
     trie: &'a [u8],
     byte: u8,
@@ -45,7 +45,7 @@ pub(in crate::zerotrie_core) fn like_at<'a, K: ZeroTrieWithOptions>(
 
 /// Like `edge_numbered`, after the rest of a run.
 #[inline(always)]
-pub(in crate::zerotrie_core) fn numbered_at<'a, K: ZeroTrieWithOptions>(
+pub(in crate::made::zerotrie_core) fn numbered_at<'a, K: ZeroTrieWithOptions>(
     run: &'a [u8],
     trie: &'a [u8],
     index: usize,

@@ -207,7 +207,7 @@ impl<'a, A: Allocator + Copy> ZeroTrieStream<'a, A> {
     }
 
     /// Returns a copy of the key.
-    pub(in crate::zerotrie_core) fn key_copy(&self) -> Result<Vec<u8, A>, AllocError> {
+    pub(in crate::made::zerotrie_core) fn key_copy(&self) -> Result<Vec<u8, A>, AllocError> {
         Vec::from_slice(*self.key.allocator(), self.key.as_slice())
     }
 

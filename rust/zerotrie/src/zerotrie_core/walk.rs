@@ -64,7 +64,7 @@ fn reverse_from<T, A: Allocator>(parts: &mut Vec<T, A>, len: usize) {
 
 /// Adds the parts that follow the node at the beginning of a part. The next one is added last.
 #[inline(always)]
-pub(in crate::zerotrie_core) fn push_behind<'a, A: Allocator>(
+pub(in crate::made::zerotrie_core) fn push_behind<'a, A: Allocator>(
     parts: &mut Vec<Part<'a>, A>,
     at: Part<'a>,
     node: Node<'a>,

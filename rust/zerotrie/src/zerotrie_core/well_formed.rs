@@ -8,8 +8,8 @@
 
 use crate::rstd::prelude::*;
 
-pub(in crate::zerotrie_core) mod branches;
-pub(in crate::zerotrie_core) mod known_table;
+pub(in crate::made::zerotrie_core) mod branches;
+pub(in crate::made::zerotrie_core) mod known_table;
 
 use crate::zerotrie_core::branch::Branch;
 use crate::zerotrie_core::here::Here;
@@ -20,7 +20,7 @@ use crate::zerotrie_base::ZeroTrieWithOptions;
 
 /// What may come next.
 #[derive(Clone, Copy)]
-pub(in crate::zerotrie_core) enum Expected {
+pub(in crate::made::zerotrie_core) enum Expected {
     /// Anything, also the end.
     Anything,
     /// Anything but a value, since one came before it.
@@ -32,22 +32,22 @@ pub(in crate::zerotrie_core) enum Expected {
 }
 
 impl Expected {
-    pub(in crate::zerotrie_core) fn takes_value(self) -> bool {
+    pub(in crate::made::zerotrie_core) fn takes_value(self) -> bool {
         !matches!(self, Expected::NoValue)
     }
 
-    pub(in crate::zerotrie_core) fn takes_span(self) -> bool {
+    pub(in crate::made::zerotrie_core) fn takes_span(self) -> bool {
         !matches!(self, Expected::NoSpan)
     }
 
-    pub(in crate::zerotrie_core) fn takes_end(self) -> bool {
+    pub(in crate::made::zerotrie_core) fn takes_end(self) -> bool {
         matches!(self, Expected::Anything | Expected::NoValue)
     }
 }
 
 /// The next step of validation.
 #[derive(Clone, Copy)]
-pub(in crate::zerotrie_core) enum Step<'a> {
+pub(in crate::made::zerotrie_core) enum Step<'a> {
     /// The node may not be there.
     Wrong,
     /// Skip literals, at least one.
@@ -59,7 +59,7 @@ pub(in crate::zerotrie_core) enum Step<'a> {
 }
 
 /// Returns whether the bytes can be the run of a span.
-pub(in crate::zerotrie_core) fn is_run(run: &[u8]) -> bool {
+pub(in crate::made::zerotrie_core) fn is_run(run: &[u8]) -> bool {
     if run.is_empty() {
         return false;
     }

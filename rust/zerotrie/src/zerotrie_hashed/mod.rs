@@ -2,7 +2,7 @@
 //! Tries over keys of any bytes, whose wide branches have perfect hashes.
 #![forbid(unsafe_code)]
 #![deny(unused_must_use)]
-#![allow(dead_code, unused_imports, unused_variables)]
+#![allow(dead_code, missing_docs, unused_imports, unused_variables)]
 
 use crate::rstd::prelude::*;
 

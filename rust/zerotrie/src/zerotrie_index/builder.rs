@@ -19,13 +19,14 @@ pub const SEEDS_TRIED: u64 = 8;
 
 /// A pair, and the hash of its key.
 #[derive(Clone, Copy)]
-pub(in crate::zerotrie_index) struct Hashed<'a> {
+pub(in crate::made::zerotrie_index) struct Hashed<'a> {
     hash: u64,
     key: &'a [u8],
     value: usize,
 }
 
 /// Whether the key of a pair is below that of the first of others.
+#[inline]
 fn precedes<K: TrieKey>(pair: &(K, usize), others: &[(K, usize)]) -> bool {
     match others.first() {
         Some(next) => pair.0.key_bytes() < next.0.key_bytes(),
@@ -34,6 +35,7 @@ fn precedes<K: TrieKey>(pair: &(K, usize), others: &[(K, usize)]) -> bool {
 }
 
 /// Whether the keys strictly ascend by their bytes.
+#[inline]
 fn is_ascending<K: TrieKey>(items: &[(K, usize)]) -> bool {
     let mut left = items;
     while let Some((first, rest)) = left.split_first() {
@@ -46,6 +48,7 @@ fn is_ascending<K: TrieKey>(items: &[(K, usize)]) -> bool {
 }
 
 /// Returns the pairs with the hashes of their keys, in the order of the hashes.
+#[inline]
 fn hashed_of<K: TrieKey, A: Allocator>(
     alloc: A,
     seed: u64,
@@ -64,6 +67,7 @@ fn hashed_of<K: TrieKey, A: Allocator>(
 }
 
 /// Returns how many pairs in front belong into the bucket of this number.
+#[inline]
 fn bucket_len(count: u32, number: u32, hashed: &[Hashed<'_>]) -> usize {
     let mut len = 0;
     while len < hashed.len() && bucket_of(count, hashed[len].hash) == number {
@@ -73,6 +77,7 @@ fn bucket_len(count: u32, number: u32, hashed: &[Hashed<'_>]) -> usize {
 }
 
 /// Returns the marks of the hashes of a bucket.
+#[inline]
 fn marks_of(bucket: &[Hashed<'_>]) -> u32 {
     let mut marks = 0;
     for pair in bucket {
@@ -82,17 +87,20 @@ fn marks_of(bucket: &[Hashed<'_>]) -> u32 {
 }
 
 /// Returns the entry of a bucket.
+#[inline]
 fn entry_of(start: u32, bucket: &[Hashed<'_>]) -> u64 {
     (u64::from(start) << 32) + u64::from(marks_of(bucket))
 }
 
 /// Appends a word.
+#[inline]
 fn put_word<A: Allocator>(bytes: &mut Vec<u8, A>, n: u64) -> Result<(), AllocError> {
     bytes.extend_from_slice(&n.to_le_bytes())?;
     Ok(())
 }
 
 /// Appends the record of a pair.
+#[inline]
 fn put_record<A: Allocator>(
     pool: &mut Vec<u8, A>,
     key: &[u8],
@@ -105,6 +113,7 @@ fn put_record<A: Allocator>(
 }
 
 /// Appends the records of a bucket.
+#[inline]
 fn put_records<A: Allocator>(
     pool: &mut Vec<u8, A>,
     bucket: &[Hashed<'_>],
@@ -119,6 +128,7 @@ fn put_records<A: Allocator>(
 }
 
 /// Whether the key of a pair is among those of others.
+#[inline]
 fn repeats_in(pair: &Hashed<'_>, others: &[Hashed<'_>]) -> bool {
     for other in others {
         if other.key == pair.key {
@@ -129,6 +139,7 @@ fn repeats_in(pair: &Hashed<'_>, others: &[Hashed<'_>]) -> bool {
 }
 
 /// Whether a bucket has a key twice. Calls itself as often as it has pairs.
+#[inline]
 fn repeats_key(bucket: &[Hashed<'_>]) -> bool {
     match bucket.split_first() {
         Some((first, rest)) => repeats_in(first, rest) || repeats_key(rest),
@@ -137,6 +148,7 @@ fn repeats_key(bucket: &[Hashed<'_>]) -> bool {
 }
 
 /// Tests that a bucket is not too long and has no key twice. Compares a bounded number of keys.
+#[inline]
 fn test_bucket(bucket: &[Hashed<'_>]) -> Result<(), ZeroIndexBuildError> {
     let some = &bucket[..bucket.len().min(BUCKET_LIMIT + 1)];
     if repeats_key(some) {
@@ -149,6 +161,7 @@ fn test_bucket(bucket: &[Hashed<'_>]) -> Result<(), ZeroIndexBuildError> {
 }
 
 /// Appends the entries of the buckets of pairs to the table, and their records to the empty pool.
+#[inline]
 fn put_buckets<A: Allocator>(
     table: &mut Vec<u8, A>,
     pool: &mut Vec<u8, A>,
@@ -170,6 +183,7 @@ fn put_buckets<A: Allocator>(
 }
 
 /// Returns the bytes of the index of pairs in this many buckets.
+#[inline]
 fn write_index<A: Allocator + Copy>(
     alloc: A,
     seed: u64,
@@ -186,6 +200,7 @@ fn write_index<A: Allocator + Copy>(
 }
 
 /// Returns the bytes of an index of a slice under one seed, in this many buckets.
+#[inline]
 fn build_under<K: TrieKey, A: Allocator + Copy>(
     alloc: A,
     seed: u64,
@@ -212,6 +227,7 @@ fn build_under<K: TrieKey, A: Allocator + Copy>(
 /// assert_eq!(pool, b"\x02\x16\0\0\0\0\0\0\0ad\x04\x21\0\0\0\0\0\0\0adef");
 /// # Ok::<(), Fail>(())
 /// ```
+#[inline]
 pub fn build<K: TrieKey, A: Allocator + Copy>(
     alloc: A,
     seed: u64,
@@ -235,6 +251,7 @@ pub fn build<K: TrieKey, A: Allocator + Copy>(
 }
 
 /// Returns the bytes of an index of a slice, whose keys must strictly ascend by their bytes.
+#[inline]
 pub fn build_sorted<K: TrieKey, A: Allocator + Copy>(
     alloc: A,
     seed: u64,
@@ -247,6 +264,7 @@ pub fn build_sorted<K: TrieKey, A: Allocator + Copy>(
 }
 
 /// Returns the bytes of an index of all pairs of an iterator, in any order.
+#[inline]
 pub fn build_all<K: TrieKey, U: IntoIterator<Item = (K, usize)>>(
     alloc: Global,
     seed: u64,

@@ -21,6 +21,7 @@ pub enum ZeroIndexBuildError {
 }
 
 impl core::fmt::Display for ZeroIndexBuildError {
+    #[inline]
     fn fmt(&self, f: &mut core::fmt::Formatter<'_>) -> core::fmt::Result {
         match self {
             Self::Unsorted => write!(f, "the keys do not ascend: sort them by their bytes, each once"),
@@ -39,6 +40,7 @@ impl core::error::Error for ZeroIndexBuildError {}
 pub struct NotAnIndex;
 
 impl core::fmt::Display for NotAnIndex {
+    #[inline]
     fn fmt(&self, f: &mut core::fmt::Formatter<'_>) -> core::fmt::Result {
         write!(f, "the bytes are not an index")
     }

@@ -7,7 +7,7 @@ use crate::rstd::prelude::*;
 const PI: u64 = 0x243F_6A88_85A3_08D3;
 
 /// The first 64 bits of the fraction of the golden ratio.
-pub(in crate::zerotrie_index) const GOLDEN: u64 = 0x9E37_79B9_7F4A_7C15;
+pub(in crate::made::zerotrie_index) const GOLDEN: u64 = 0x9E37_79B9_7F4A_7C15;
 
 /// Returns the two halves of a product of 128 bits, joined by exclusive or.
 #[inline(always)]
@@ -18,7 +18,7 @@ fn fold(a: u64, b: u64) -> u64 {
 
 /// Returns the number in the eight bytes from a place on, the lowest first.
 #[inline(always)]
-pub(in crate::zerotrie_index) fn eight_at(bytes: &[u8], place: usize) -> u64 {
+pub(in crate::made::zerotrie_index) fn eight_at(bytes: &[u8], place: usize) -> u64 {
     match bytes[place..].first_chunk::<8>() {
         Some(eight) => u64::from_le_bytes(*eight),
         None => 0,

@@ -15,6 +15,7 @@ struct Mark {
 }
 
 /// Appends a key to the text, and its mark to the marks.
+#[inline]
 fn put(
     text: &mut Vec<u8>,
     marks: &mut Vec<Mark>,
@@ -32,6 +33,7 @@ fn put(
 }
 
 /// Returns the pairs of a text.
+#[inline]
 fn items_of<'a>(
     alloc: Global,
     text: &'a [u8],
@@ -63,6 +65,7 @@ pub struct ZeroIndexBuilder {
 
 impl ZeroIndexBuilder {
     /// Returns a builder of no pairs. Does not allocate.
+    #[inline]
     pub fn new(alloc: Global) -> Self {
         ZeroIndexBuilder {
             text: Vec::new(alloc),
@@ -73,6 +76,7 @@ impl ZeroIndexBuilder {
     /// Appends a pair.
     ///
     /// An error means that an allocation failed. The pairs are then the same as before.
+    #[inline]
     pub fn push(&mut self, key: &[u8], value: usize) -> Result<(), AllocError> {
         put(&mut self.text, &mut self.marks, key, value)
     }
@@ -80,6 +84,7 @@ impl ZeroIndexBuilder {
     /// Builds the index of the pairs, and tries seeds from this one on.
     ///
     /// The errors are those of `ZeroIndex::try_from_seed`.
+    #[inline]
     pub fn build(&self, alloc: Global, seed: u64) -> Result<ZeroIndex<Vec<u8>>, ZeroIndexBuildError> {
         let items = items_of(alloc, self.text.as_slice(), self.marks.as_slice())?;
         ZeroIndex::try_from_seed(alloc, seed, items.as_slice())

@@ -2,7 +2,7 @@
 //! An index: flat bytes that answer exact look-ups in a map from byte strings to numbers.
 #![forbid(unsafe_code)]
 #![deny(unused_must_use)]
-#![allow(dead_code, unused_imports, unused_variables)]
+#![allow(dead_code, missing_docs, unused_imports, unused_variables)]
 
 use crate::rstd::prelude::*;
 

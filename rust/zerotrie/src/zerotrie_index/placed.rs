@@ -43,7 +43,7 @@ where
 }
 
 /// Reads as many bytes from this place on. Its memory grows with those that are there.
-pub(in crate::zerotrie_index) fn read_part<S: ReadAt>(
+pub(in crate::made::zerotrie_index) fn read_part<S: ReadAt>(
     alloc: Global,
     source: &mut S,
     place: u64,

@@ -7,13 +7,13 @@ use crate::zerotrie_base::read_varint_meta2;
 
 /// Returns the number of a hash's bucket.
 #[inline(always)]
-pub(in crate::zerotrie_index) fn bucket_of(count: u32, hash: u64) -> u32 {
+pub(in crate::made::zerotrie_index) fn bucket_of(count: u32, hash: u64) -> u32 {
     ((hash >> 32) * u64::from(count) >> 32) as u32
 }
 
 /// Reads the word that the bytes begin with. Returns it and the bytes after it.
 #[inline(always)]
-pub(in crate::zerotrie_index) fn read_word(bytes: &[u8]) -> Option<(u64, &[u8])> {
+pub(in crate::made::zerotrie_index) fn read_word(bytes: &[u8]) -> Option<(u64, &[u8])> {
     let (front, rest) = bytes.split_first_chunk::<8>()?;
     Some((u64::from_le_bytes(*front), rest))
 }
@@ -30,7 +30,7 @@ fn read_number(bytes: &[u8]) -> Option<(usize, &[u8])> {
 
 /// A record, and the bytes after it.
 #[derive(Clone, Copy)]
-pub(in crate::zerotrie_index) struct Record<'a> {
+pub(in crate::made::zerotrie_index) struct Record<'a> {
     pub key: &'a [u8],
     pub value: usize,
     pub rest: &'a [u8],
@@ -38,7 +38,7 @@ pub(in crate::zerotrie_index) struct Record<'a> {
 
 /// Reads the record that the bytes begin with.
 #[inline(always)]
-pub(in crate::zerotrie_index) fn read_record(bytes: &[u8]) -> Option<Record<'_>> {
+pub(in crate::made::zerotrie_index) fn read_record(bytes: &[u8]) -> Option<Record<'_>> {
     let (len, rest) = read_number(bytes)?;
     let (value, rest) = read_word(rest)?;
     let (key, rest) = rest.split_at_checked(len)?;
@@ -51,7 +51,7 @@ pub(in crate::zerotrie_index) fn read_record(bytes: &[u8]) -> Option<Record<'_>>
 
 /// Finds the value of a key among records.
 #[inline(always)]
-pub(in crate::zerotrie_index) fn find_in(records: &[u8], key: &[u8]) -> Option<usize> {
+pub(in crate::made::zerotrie_index) fn find_in(records: &[u8], key: &[u8]) -> Option<usize> {
     let mut rest = records;
     while let Some(record) = read_record(rest) {
         if record.key == key {
@@ -64,7 +64,7 @@ pub(in crate::zerotrie_index) fn find_in(records: &[u8], key: &[u8]) -> Option<u
 
 /// The parts of an index.
 #[derive(Clone, Copy)]
-pub(in crate::zerotrie_index) struct Parts<'a> {
+pub(in crate::made::zerotrie_index) struct Parts<'a> {
     pub seed: u64,
     pub count: u32,
     pub table: &'a [u8],
@@ -73,7 +73,7 @@ pub(in crate::zerotrie_index) struct Parts<'a> {
 
 /// Takes an index apart.
 #[inline(always)]
-pub(in crate::zerotrie_index) fn parts_of(bytes: &[u8]) -> Option<Parts<'_>> {
+pub(in crate::made::zerotrie_index) fn parts_of(bytes: &[u8]) -> Option<Parts<'_>> {
     let (seed, rest) = read_word(bytes)?;
     let (count, rest) = read_word(rest)?;
     let count = u32::try_from(count).ok()?;

@@ -53,6 +53,7 @@ fn branch_after<K: ZeroTrieWithOptions>(lead: u8, rest: &[u8]) -> Option<Branch<
 }
 
 /// Returns the number of the edge whose target has the byte this far into the targets.
+#[inline]
 fn edge_over(branch: Branch<'_>, to: usize) -> usize {
     for index in 0..branch.edges - 1 {
         if to < branch.end_at(index) {
@@ -141,7 +142,8 @@ fn from_place(bytes: &[u8], place: usize) -> &[u8] {
 /// Writes the key that a descent to this place reads.
 ///
 /// It is a key of the trie if the place is that of the key's value, and unspecified if it is not.
-pub(in crate::zerotrie_reverse) fn read_key_at<K: ZeroTrieWithOptions, A: Allocator>(
+#[inline]
+pub(in crate::made::zerotrie_reverse) fn read_key_at<K: ZeroTrieWithOptions, A: Allocator>(
     bytes: &[u8],
     place: usize,
     key: &mut Vec<u8, A>,
@@ -180,6 +182,6 @@ fn value_of(from: &[u8]) -> usize {
 
 /// Returns the value at this place, or 0 if no number begins there.
 #[inline(always)]
-pub(in crate::zerotrie_reverse) fn value_at(bytes: &[u8], place: usize) -> usize {
+pub(in crate::made::zerotrie_reverse) fn value_at(bytes: &[u8], place: usize) -> usize {
     value_of(from_place(bytes, place))
 }

@@ -2,7 +2,7 @@
 //! Reverse look-ups: the first key that has a value, by a table of four bytes for each pair.
 #![forbid(unsafe_code)]
 #![deny(unused_must_use)]
-#![allow(dead_code, unused_imports, unused_variables)]
+#![allow(dead_code, missing_docs, unused_imports, unused_variables)]
 
 use crate::rstd::prelude::*;
 

@@ -13,6 +13,7 @@ fn with_digit(latent: u8, value: usize, byte: u8) -> Option<usize> {
 
 /// Reads the trail bytes of a number that begins with a digit. Returns the number and what follows
 /// it.
+#[inline]
 fn number_from(latent: u8, digit: usize, trail: &[u8]) -> Option<(usize, &[u8])> {
     let mut value = digit;
     let mut rest = trail;
@@ -28,7 +29,7 @@ fn number_from(latent: u8, digit: usize, trail: &[u8]) -> Option<(usize, &[u8])>
 
 /// Reads a number by its lead and the bytes after it.
 #[inline(always)]
-pub(in crate::zerotrie_reverse) fn number_after(latent: u8, lead: u8, rest: &[u8]) -> Option<(usize, &[u8])> {
+pub(in crate::made::zerotrie_reverse) fn number_after(latent: u8, lead: u8, rest: &[u8]) -> Option<(usize, &[u8])> {
     let digit = (lead % latent) as usize;
     if lead / latent % 2 == 0 {
         return Some((digit, rest));

@@ -7,6 +7,7 @@ use crate::rstd::alloc::{AllocError, Global};
 use crate::zerotrie_core::{CursorPlace, ZeroTrieStream, ZeroTrieWithOptions, count_pairs};
 
 /// Returns where the value of a key is. If the trie has no such key, the result is unspecified.
+#[inline]
 fn place_of<K: ZeroTrieWithOptions>(bytes: &[u8], key: &[u8]) -> usize {
     let mut place = CursorPlace::new(bytes);
     for byte in key {
@@ -16,6 +17,7 @@ fn place_of<K: ZeroTrieWithOptions>(bytes: &[u8], key: &[u8]) -> usize {
 }
 
 /// Returns whether a descent to a place reads this pair. Writes the key that it reads.
+#[inline]
 fn has_pair<K: ZeroTrieWithOptions>(
     bytes: &[u8],
     place: u32,
@@ -30,7 +32,8 @@ fn has_pair<K: ZeroTrieWithOptions>(
 /// Returns the place of the value of each pair, in the order of the pairs. Returns `None` if a
 /// descent to a place reads another pair than the one whose value is there, or if a place is 2^32 or
 /// more.
-pub(in crate::zerotrie_reverse) fn places_of<K: ZeroTrieWithOptions>(
+#[inline]
+pub(in crate::made::zerotrie_reverse) fn places_of<K: ZeroTrieWithOptions>(
     alloc: Global,
     bytes: &[u8],
 ) -> Result<Option<Vec<u32>>, AllocError> {
@@ -50,14 +53,16 @@ pub(in crate::zerotrie_reverse) fn places_of<K: ZeroTrieWithOptions>(
 }
 
 /// Puts places into the order of their values. Places of one value keep their order.
-pub(in crate::zerotrie_reverse) fn sort_by_value(bytes: &[u8], places: &mut Vec<u32>) -> Result<(), AllocError> {
+#[inline]
+pub(in crate::made::zerotrie_reverse) fn sort_by_value(bytes: &[u8], places: &mut Vec<u32>) -> Result<(), AllocError> {
     places.sort_by_key(|place| value_at(bytes, *place as usize));
     Ok(())
 }
 
 /// Returns the places of the values of a trie in the order of the values. Returns `None` as
 /// `places_of` does.
-pub(in crate::zerotrie_reverse) fn sorted_places<K: ZeroTrieWithOptions>(
+#[inline]
+pub(in crate::made::zerotrie_reverse) fn sorted_places<K: ZeroTrieWithOptions>(
     alloc: Global,
     bytes: &[u8],
 ) -> Result<Option<Vec<u32>>, AllocError> {
@@ -70,13 +75,15 @@ pub(in crate::zerotrie_reverse) fn sorted_places<K: ZeroTrieWithOptions>(
 
 /// Returns how many places have lower values, of places in the order of their values. Of other
 /// places the result is unspecified.
+#[inline]
 fn first_from(bytes: &[u8], places: &[u32], value: usize) -> usize {
     places.partition_point(|place| value_at(bytes, *place as usize) < value)
 }
 
 /// Returns the first place that has this value, of places in the order of their values. Of other
 /// places the result is unspecified.
-pub(in crate::zerotrie_reverse) fn first_place_of(bytes: &[u8], places: &[u32], value: usize) -> Option<u32> {
+#[inline]
+pub(in crate::made::zerotrie_reverse) fn first_place_of(bytes: &[u8], places: &[u32], value: usize) -> Option<u32> {
     let place = places.get(first_from(bytes, places, value))?;
     if value_at(bytes, *place as usize) == value {
         Some(*place)

@@ -35,6 +35,7 @@ pub struct KeysByValue<'a> {
 }
 
 /// Returns the key of the trie whose value is at this place.
+#[inline]
 fn key_at<K: ZeroTrieWithOptions>(
     alloc: Global,
     bytes: &[u8],
@@ -46,6 +47,7 @@ fn key_at<K: ZeroTrieWithOptions>(
 }
 
 /// Returns the first key that has a value, by a scan of the pairs.
+#[inline]
 fn scanned<K: ZeroTrieWithOptions>(
     alloc: Global,
     bytes: &[u8],
@@ -58,6 +60,7 @@ fn scanned<K: ZeroTrieWithOptions>(
 }
 
 /// Like `key_at`, by the options of the kind.
+#[inline]
 fn key_with(
     options: ZeroTrieBuilderOptions,
     alloc: Global,
@@ -68,6 +71,7 @@ fn key_with(
 }
 
 /// Like `scanned`, by the options of the kind.
+#[inline]
 fn scanned_with(
     options: ZeroTrieBuilderOptions,
     alloc: Global,
@@ -78,6 +82,7 @@ fn scanned_with(
 }
 
 /// Returns the first key that has a value, by the places of a table.
+#[inline]
 fn found(
     options: ZeroTrieBuilderOptions,
     alloc: Global,
@@ -109,6 +114,7 @@ fn found(
 ///
 /// Places that are no table of these bytes do no harm, but the result is unspecified. The only error
 /// is a failed allocation.
+#[inline]
 pub fn first_key_by_places<K: ZeroTrieWithOptions>(
     alloc: Global,
     bytes: &[u8],
@@ -128,6 +134,7 @@ impl<'a> KeysByValue<'a> {
     /// Builds the table of a trie.
     ///
     /// It has a place for each pair, or none at all. The only error is a failed allocation.
+    #[inline]
     pub fn new<K: ZeroTrieWithOptions>(alloc: Global, bytes: &'a [u8]) -> Result<Self, AllocError> {
         let places = sorted_places::<K>(alloc, bytes)?;
         Ok(KeysByValue {
@@ -151,6 +158,7 @@ impl<'a> KeysByValue<'a> {
     /// ```
     ///
     /// On malformed bytes the result is unspecified. The only error is a failed allocation.
+    #[inline]
     pub fn first_key_of(&self, alloc: Global, value: usize) -> Result<Option<Vec<u8>>, AllocError> {
         match &self.places {
             None => scanned_with(self.options, alloc, self.bytes, value),
@@ -159,12 +167,14 @@ impl<'a> KeysByValue<'a> {
     }
 
     /// Returns the bytes of the trie.
+    #[inline]
     pub fn bytes(&self) -> &'a [u8] {
         self.bytes
     }
 
     /// Returns the places, in the order of their values, by which `first_key_by_places` finds keys.
     /// Returns `None` if look-ups read the pairs.
+    #[inline]
     pub fn places(&self) -> Option<&[u32]> {
         match &self.places {
             Some(places) => Some(places.as_slice()),
@@ -181,6 +191,7 @@ impl<'a> KeysByValue<'a> {
     /// assert_eq!(table.len(), 2);
     /// # Ok::<(), Fail>(())
     /// ```
+    #[inline]
     pub fn len(&self) -> usize {
         match &self.places {
             Some(places) => places.len(),

@@ -20,6 +20,7 @@ pub trait Reverse: Trie {
     /// Builds the table that finds the first key that has a value.
     ///
     /// The only error is a failed allocation.
+    #[inline]
     fn keys_by_value(&self, alloc: Global) -> Result<KeysByValue<'_>, AllocError> {
         by_kind!(
             self.trie_kind(),

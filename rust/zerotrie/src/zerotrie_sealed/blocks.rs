@@ -9,7 +9,7 @@ use crate::rstd::alloc::AllocError;
 pub const BLOCK_LEN: usize = 1 << 16;
 
 /// Returns the number of blocks of an index with as many bytes.
-pub(in crate::zerotrie_sealed) fn block_count(len: usize) -> usize {
+pub(in crate::made::zerotrie_sealed) fn block_count(len: usize) -> usize {
     len.div_ceil(BLOCK_LEN)
 }
 
@@ -19,7 +19,7 @@ fn first_block(bytes: &[u8]) -> (&[u8], &[u8]) {
 }
 
 /// Appends the checksum of each block of the bytes.
-pub(in crate::zerotrie_sealed) fn add_sums(bytes: &[u8], sums: &mut Vec<u8>) -> Result<(), AllocError> {
+pub(in crate::made::zerotrie_sealed) fn add_sums(bytes: &[u8], sums: &mut Vec<u8>) -> Result<(), AllocError> {
     let mut rest = bytes;
     while !rest.is_empty() {
         let (block, behind) = first_block(rest);
@@ -35,7 +35,7 @@ fn behind_sum<'a>(sums: &'a [u8], block: &[u8]) -> Option<&'a [u8]> {
 }
 
 /// Returns whether these are the checksums of all blocks of the bytes.
-pub(in crate::zerotrie_sealed) fn are_sums(sums: &[u8], bytes: &[u8]) -> bool {
+pub(in crate::made::zerotrie_sealed) fn are_sums(sums: &[u8], bytes: &[u8]) -> bool {
     let mut left = sums;
     let mut rest = bytes;
     while !rest.is_empty() {

@@ -18,7 +18,7 @@ pub fn crc32c(bytes: &[u8]) -> u32 {
 }
 
 /// Returns the CRC-32C of bytes in two parts, one after the other.
-pub(in crate::zerotrie_sealed) fn crc32c_of_both(front: &[u8], behind: &[u8]) -> u32 {
+pub(in crate::made::zerotrie_sealed) fn crc32c_of_both(front: &[u8], behind: &[u8]) -> u32 {
     after(after(u32::MAX, front), behind) ^ u32::MAX
 }
 

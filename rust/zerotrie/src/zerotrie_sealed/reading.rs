@@ -29,6 +29,7 @@ pub enum SealError {
 }
 
 impl core::fmt::Display for SealError {
+    #[inline]
     fn fmt(&self, f: &mut core::fmt::Formatter<'_>) -> core::fmt::Result {
         match self {
             Self::NoMagic => write!(f, "the file does not begin as a sealed one"),
@@ -92,7 +93,7 @@ pub fn begins_magic(bytes: &[u8]) -> bool {
 
 /// Returns the number in the header of a file, if it begins as a sealed one and its version is
 /// known.
-pub(in crate::zerotrie_sealed) fn number_in(file: &[u8]) -> Result<u16, SealError> {
+pub(in crate::made::zerotrie_sealed) fn number_in(file: &[u8]) -> Result<u16, SealError> {
     if !begins_sealed(file) {
         return Err(SealError::NoMagic);
     }
@@ -118,7 +119,7 @@ fn kind_of(number: u16) -> Option<TrieKind> {
 }
 
 /// Returns the length in the header of a file.
-pub(in crate::zerotrie_sealed) fn length_in(file: &[u8]) -> usize {
+pub(in crate::made::zerotrie_sealed) fn length_in(file: &[u8]) -> usize {
     let (_, numbers) = file.split_at(12);
     usize::from_le_bytes([
         numbers[0], numbers[1], numbers[2], numbers[3], numbers[4], numbers[5], numbers[6],
@@ -141,14 +142,14 @@ fn bytes_in(file: &[u8]) -> Result<&[u8], SealError> {
 
 /// Returns whether the checksum in the header of a file is that of the rest of the header and of
 /// these bytes.
-pub(in crate::zerotrie_sealed) fn has_checksum(file: &[u8], bytes: &[u8]) -> bool {
+pub(in crate::made::zerotrie_sealed) fn has_checksum(file: &[u8], bytes: &[u8]) -> bool {
     let (front, numbers) = file.split_at(FRONT_LEN);
     let checksum = u32::from_le_bytes([numbers[0], numbers[1], numbers[2], numbers[3]]);
     checksum == crc32c_of_both(front, bytes)
 }
 
 /// Returns the bytes behind the header of a file, if its length and its checksum are right.
-pub(in crate::zerotrie_sealed) fn whole_in(file: &[u8]) -> Result<&[u8], SealError> {
+pub(in crate::made::zerotrie_sealed) fn whole_in(file: &[u8]) -> Result<&[u8], SealError> {
     let bytes = bytes_in(file)?;
     if !has_checksum(file, bytes) {
         return Err(SealError::Checksum);

@@ -4,7 +4,7 @@
 use crate::rstd::prelude::*;
 
 /// The byte b times x^(8 (k + 1)) at the place 256 k + b.
-pub(in crate::zerotrie_sealed) static POWERS: [u32; 4096] = [
+pub(in crate::made::zerotrie_sealed) static POWERS: [u32; 4096] = [
     0x00000000, 0xF26B8303, 0xE13B70F7, 0x1350F3F4, 0xC79A971F, 0x35F1141C, 0x26A1E7E8, 0xD4CA64EB,
     0x8AD958CF, 0x78B2DBCC, 0x6BE22838, 0x9989AB3B, 0x4D43CFD0, 0xBF284CD3, 0xAC78BF27, 0x5E133C24,
     0x105EC76F, 0xE235446C, 0xF165B798, 0x030E349B, 0xD7C45070, 0x25AFD373, 0x36FF2087, 0xC494A384,

@@ -8,13 +8,13 @@ use crate::rstd::alloc::{AllocError, Global};
 use crate::zerotrie_base::TrieKind;
 
 /// What each sealed file begins with.
-pub(in crate::zerotrie_sealed) const MAGIC: [u8; 8] = [0x7A, 0x74, 0x72, 0x69, 0x89, 0x8A, 0x0D, 0x0A];
+pub(in crate::made::zerotrie_sealed) const MAGIC: [u8; 8] = [0x7A, 0x74, 0x72, 0x69, 0x89, 0x8A, 0x0D, 0x0A];
 
 /// The version of the format.
-pub(in crate::zerotrie_sealed) const VERSION: u16 = 1;
+pub(in crate::made::zerotrie_sealed) const VERSION: u16 = 1;
 
 /// The number of bytes in front of the checksum.
-pub(in crate::zerotrie_sealed) const FRONT_LEN: usize = 20;
+pub(in crate::made::zerotrie_sealed) const FRONT_LEN: usize = 20;
 
 /// The number of bytes in front of the trie or of the table of an index in a sealed file.
 pub const HEADER_LEN: usize = 24;

@@ -45,7 +45,7 @@ pub fn fold_word(kind: TrieKind, by: SearchBy, word: &mut [u8]) {
 }
 
 /// Returns whether a kind ignores case.
-pub(in crate::zerotrie_search) fn ignores_case(kind: TrieKind) -> bool {
+pub(in crate::made::zerotrie_search) fn ignores_case(kind: TrieKind) -> bool {
     match kind {
         TrieKind::Ignore => true,
         TrieKind::Simple | TrieKind::Hash | TrieKind::Ext => false,

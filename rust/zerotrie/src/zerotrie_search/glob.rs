@@ -27,6 +27,7 @@ pub enum GlobError {
 }
 
 impl core::fmt::Display for GlobError {
+    #[inline]
     fn fmt(&self, f: &mut core::fmt::Formatter<'_>) -> core::fmt::Result {
         match self {
             Self::Malformed => write!(f, "the pattern is malformed"),
@@ -102,7 +103,7 @@ impl<'p> Glob<'p> {
     }
 
     /// Accepts the keys that the pattern matches, in any case or as they are.
-    pub(in crate::zerotrie_search) fn of(pattern: &'p [u8], any_case: bool) -> Result<Self, GlobError> {
+    pub(in crate::made::zerotrie_search) fn of(pattern: &'p [u8], any_case: bool) -> Result<Self, GlobError> {
         let masks = Masks::of(Text::Bytes(pattern), any_case)?;
         Ok(Glob {
             pattern,

@@ -2,7 +2,7 @@
 //! Searches: the pairs of a trie whose keys an automaton accepts.
 #![forbid(unsafe_code)]
 #![deny(unused_must_use)]
-#![allow(dead_code, unused_imports, unused_variables)]
+#![allow(dead_code, missing_docs, unused_imports, unused_variables)]
 
 use crate::rstd::prelude::*;
 

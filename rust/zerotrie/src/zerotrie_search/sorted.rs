@@ -12,7 +12,7 @@ mod search;
 mod seek;
 mod walk;
 
-pub(in crate::zerotrie_search) use back::last_between;
+pub(in crate::made::zerotrie_search) use back::last_between;
 use fork::Fork;
 pub use iterator::ZeroTrieSortedIterator;
 pub use search::ZeroTrieSortedSearch;
@@ -111,7 +111,7 @@ impl<'a, 'p, A: Allocator + Copy> ZeroTrieSorted<'a, 'p, A> {
     }
 
     /// Lists what `new` does, for the kind that the options name.
-    pub(in crate::zerotrie_search) fn with_options(
+    pub(in crate::made::zerotrie_search) fn with_options(
         alloc: A,
         options: ZeroTrieBuilderOptions,
         bytes: &'a [u8],
@@ -244,7 +244,7 @@ impl<'a, 'p, A: Allocator> ZeroTrieSorted<'a, 'p, A> {
     }
 
     /// Returns the next pair alone.
-    pub(in crate::zerotrie_search) fn first(self) -> Result<Option<(Vec<u8, A>, usize)>, AllocError> {
+    pub(in crate::made::zerotrie_search) fn first(self) -> Result<Option<(Vec<u8, A>, usize)>, AllocError> {
         let mut sorted = self;
         if !sorted.advance()? {
             return Ok(None);

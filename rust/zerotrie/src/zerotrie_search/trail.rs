@@ -7,7 +7,7 @@ use crate::rstd::alloc::Allocator;
 
 /// What an automaton says of the first bytes of keys.
 #[derive(Clone, Copy, Debug)]
-pub(in crate::zerotrie_search) enum Verdict<S> {
+pub(in crate::made::zerotrie_search) enum Verdict<S> {
     /// It is in this state after them.
     Alive(S),
     /// It accepts no key that begins with this many of them.
@@ -16,7 +16,7 @@ pub(in crate::zerotrie_search) enum Verdict<S> {
 
 /// Returns the state after all bytes of a trail.
 #[inline]
-pub(in crate::zerotrie_search) fn last_state<T: Automaton>(automaton: &T, trail: &[(u8, T::State)]) -> T::State {
+pub(in crate::made::zerotrie_search) fn last_state<T: Automaton>(automaton: &T, trail: &[(u8, T::State)]) -> T::State {
     match trail.split_last() {
         None => automaton.start(),
         Some((last, _front)) => last.1,
@@ -34,7 +34,7 @@ fn keep<S: Copy, A: Allocator>(trail: &mut Vec<(u8, S), A>, count: usize, byte: 
 /// Returns what an automaton says of the first bytes of keys. The first `kept` bytes of the trail
 /// are bytes of the key. The trail gets the states after the other bytes, as many as there is
 /// memory for.
-pub(in crate::zerotrie_search) fn read<T: Automaton, A: Allocator>(
+pub(in crate::made::zerotrie_search) fn read<T: Automaton, A: Allocator>(
     automaton: &T,
     key: &[u8],
     kept: usize,

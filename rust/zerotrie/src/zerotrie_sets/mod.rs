@@ -2,7 +2,7 @@
 //! Streams of pairs in the order of bytes, merged: unions, intersections, differences and changes.
 #![forbid(unsafe_code)]
 #![deny(unused_must_use)]
-#![allow(dead_code, unused_imports, unused_variables)]
+#![allow(dead_code, missing_docs, unused_imports, unused_variables)]
 
 use crate::rstd::prelude::*;
 

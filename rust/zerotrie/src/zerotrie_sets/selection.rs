@@ -47,6 +47,7 @@ pub enum RuleError {
 }
 
 impl core::fmt::Display for RuleError {
+    #[inline]
     fn fmt(&self, f: &mut core::fmt::Formatter<'_>) -> core::fmt::Result {
         match self {
             Self::SeveralValues => write!(f, "more than one stream has the key"),
@@ -60,7 +61,7 @@ impl core::error::Error for RuleError {}
 
 impl Selection {
     /// Returns whether a key is taken that `some` of `all` streams have, and the first one or not.
-    pub(in crate::zerotrie_sets) fn takes(self, first: bool, some: usize, all: usize) -> bool {
+    pub(in crate::made::zerotrie_sets) fn takes(self, first: bool, some: usize, all: usize) -> bool {
         match self {
             Selection::Union => true,
             Selection::Intersection => some == all,
@@ -86,7 +87,7 @@ impl Rule {
     }
 
     /// Returns what is made of the values before, and the next one, if there is one.
-    pub(in crate::zerotrie_sets) fn one_more(
+    pub(in crate::made::zerotrie_sets) fn one_more(
         self,
         one: Option<usize>,
         next: Option<usize>,

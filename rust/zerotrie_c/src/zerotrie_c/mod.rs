@@ -4,7 +4,7 @@
 //! Each export is a call of the library, with the clauses of that call. `bindings/c/zerotrie.h`
 //! declares the exports, and says what a caller must keep to: nothing checks it.
 #![deny(unused_must_use)]
-#![allow(dead_code, unused_imports, unused_variables)]
+#![allow(dead_code, missing_docs, unused_imports, unused_variables)]
 
 use crate::rstd::prelude::*;
 

@@ -223,6 +223,7 @@ pub enum BadLine {
 }
 
 impl core::fmt::Display for BadLine {
+    #[inline]
     fn fmt(&self, f: &mut core::fmt::Formatter<'_>) -> core::fmt::Result {
         match self {
             Self::CarriageReturn => write!(f, "it ends in a carriage return: end lines in a line feed alone"),

@@ -20,6 +20,7 @@ pub enum RunError {
 }
 
 impl core::fmt::Display for RunError {
+    #[inline]
     fn fmt(&self, f: &mut core::fmt::Formatter<'_>) -> core::fmt::Result {
         match self {
             Self::Read => write!(f, "Read"),

@@ -13,6 +13,7 @@ use crate::zerotrie_core::ZeroTrieBuildError;
 type Pair = (Vec<u8>, usize);
 
 /// Returns an error if a string is not ASCII or has the delimiter.
+#[inline]
 fn check_text(text: &str, delimiter: u8) -> Result<(), ZeroTrieBuildError> {
     if !text.is_ascii() {
         return Err(ZeroTrieBuildError::NonAsciiError);
@@ -24,9 +25,11 @@ fn check_text(text: &str, delimiter: u8) -> Result<(), ZeroTrieBuildError> {
 }
 
 /// States that a value is a number of eight bytes. Does nothing.
+#[inline]
 fn fits_eight_bytes(value: usize) {}
 
 /// Checks the suffixes of a row.
+#[inline]
 fn check_row(entries: &BTreeMap<&str, usize>, delimiter: u8) -> Result<(), ZeroTrieBuildError> {
     for (suffix, value) in entries {
         fits_eight_bytes(*value);
@@ -36,6 +39,7 @@ fn check_row(entries: &BTreeMap<&str, usize>, delimiter: u8) -> Result<(), ZeroT
 }
 
 /// Checks the delimiter and all prefixes and suffixes of a table.
+#[inline]
 fn check_texts(
     entries: &BTreeMap<&str, BTreeMap<&str, usize>>,
     delimiter: u8,
@@ -51,6 +55,7 @@ fn check_texts(
 }
 
 /// Adds the suffixes of a row to those of other rows.
+#[inline]
 fn put_suffixes<'s>(
     entries: &BTreeMap<&'s str, usize>,
     suffixes: &mut BTreeSet<&'s str>,
@@ -62,6 +67,7 @@ fn put_suffixes<'s>(
 }
 
 /// Returns the suffixes of all rows, each once.
+#[inline]
 fn suffixes_of<'s>(
     alloc: Global,
     entries: &BTreeMap<&str, BTreeMap<&'s str, usize>>,
@@ -74,6 +80,7 @@ fn suffixes_of<'s>(
 }
 
 /// Returns each suffix with its column.
+#[inline]
 fn columns_of<'s>(
     alloc: Global,
     suffixes: &BTreeSet<&'s str>,
@@ -87,6 +94,7 @@ fn columns_of<'s>(
 }
 
 /// Returns a prefix, the delimiter and a suffix, one after another.
+#[inline]
 fn key_of(alloc: Global, prefix: &str, delimiter: u8, suffix: &str) -> Result<Vec<u8>, AllocError> {
     let mut key = Vec::from_slice(alloc, prefix.as_bytes())?;
     key.push(delimiter)?;
@@ -95,6 +103,7 @@ fn key_of(alloc: Global, prefix: &str, delimiter: u8, suffix: &str) -> Result<Ve
 }
 
 /// Adds the prefix of each dense row, with the row's number.
+#[inline]
 fn push_numbers(
     alloc: Global,
     rows: &[Row<'_, '_>],
@@ -111,6 +120,7 @@ fn push_numbers(
 }
 
 /// Adds the prefix of each dense row and the delimiter, with the row's offset.
+#[inline]
 fn push_offsets(
     alloc: Global,
     rows: &[Row<'_, '_>],
@@ -126,6 +136,7 @@ fn push_offsets(
 }
 
 /// Adds the values of a row that are not in the matrix.
+#[inline]
 fn push_others_of(
     alloc: Global,
     row: &Row<'_, '_>,
@@ -141,6 +152,7 @@ fn push_others_of(
 }
 
 /// Adds the values of all rows that are not in the matrix.
+#[inline]
 fn push_others(
     alloc: Global,
     rows: &[Row<'_, '_>],
@@ -154,6 +166,7 @@ fn push_others(
 }
 
 /// Returns the pairs of the primary trie.
+#[inline]
 fn primary_of(
     alloc: Global,
     rows: &[Row<'_, '_>],
@@ -167,6 +180,7 @@ fn primary_of(
 }
 
 /// Returns the cell of a suffix: the value in the row's window minus the row's offset, or 65,535.
+#[inline]
 fn cell_in(row: &Row<'_, '_>, suffix: &str) -> u16 {
     match row.entries.get(suffix) {
         Some(value) => {
@@ -181,6 +195,7 @@ fn cell_in(row: &Row<'_, '_>, suffix: &str) -> u16 {
 }
 
 /// Adds the cells of a row.
+#[inline]
 fn push_cells(
     row: &Row<'_, '_>,
     suffixes: &BTreeSet<&str>,
@@ -194,6 +209,7 @@ fn push_cells(
 }
 
 /// Returns the cells of the dense rows.
+#[inline]
 fn matrix_of(
     alloc: Global,
     rows: &[Row<'_, '_>],
@@ -233,6 +249,7 @@ impl ZeroAsciiDenseSparse2dTrieOwned {
     /// - `CapacityExceeded` if there are more than 65,535 suffixes, or the primary trie, the trie
     ///   of the suffixes or the trie of a row's window would exceed the capacity of its kind,
     /// - `OutOfMemory` if an allocation fails.
+    #[inline]
     pub fn try_from_btree_map_str(
         alloc: Global,
         entries: &BTreeMap<&str, BTreeMap<&str, usize>>,

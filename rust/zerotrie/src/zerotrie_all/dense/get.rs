@@ -7,6 +7,7 @@ use crate::zerotrie_all::dense::table::ZeroAsciiDenseSparse2dTrieBorrowed;
 use crate::zerotrie_core::{Simple, laws, step, take_value};
 
 /// Steps by each byte of a key, as long as anything remains.
+#[inline]
 fn follow(trie: &mut &[u8], key: &[u8]) {
     for byte in key {
         if trie.is_empty() {
@@ -17,6 +18,7 @@ fn follow(trie: &mut &[u8], key: &[u8]) {
 }
 
 /// Returns the value of a key in a trie.
+#[inline]
 fn value_after(trie: &[u8], key: &[u8]) -> Option<usize> {
     let mut left = trie;
     follow(&mut left, key);
@@ -24,6 +26,7 @@ fn value_after(trie: &[u8], key: &[u8]) -> Option<usize> {
 }
 
 /// Returns the value of a key in a trie, and for the empty key `None`.
+#[inline]
 fn value_beside(trie: &[u8], key: &[u8]) -> Option<usize> {
     if key.is_empty() {
         return None;
@@ -52,6 +55,7 @@ impl<'a> ZeroAsciiDenseSparse2dTrieBorrowed<'a> {
     ///
     /// A string that has the delimiter or is not ASCII is in no table. On a table from a malformed
     /// record the result is unspecified; it never panics or reads outside the record.
+    #[inline]
     pub fn get(&self, prefix: &str, suffix: &str) -> Option<usize> {
         self.get_bytes(prefix.as_bytes(), suffix.as_bytes())
     }
@@ -71,6 +75,7 @@ impl<'a> ZeroAsciiDenseSparse2dTrieBorrowed<'a> {
     /// assert_eq!(table.as_borrowed().get_bytes(b"en", b"\xFF"), None);
     /// # Ok::<(), Fail>(())
     /// ```
+    #[inline]
     pub fn get_bytes(&self, prefix: &[u8], suffix: &[u8]) -> Option<usize> {
         laws::canonical_exactly();
         answer_is_entry();
@@ -78,6 +83,7 @@ impl<'a> ZeroAsciiDenseSparse2dTrieBorrowed<'a> {
     }
 
     /// Returns the value by the two tries and the matrix.
+    #[inline]
     fn answer(&self, prefix: &[u8], suffix: &[u8]) -> Option<usize> {
         if prefix.contains(&self.delimiter) || suffix.contains(&self.delimiter) {
             return None;
@@ -94,6 +100,7 @@ impl<'a> ZeroAsciiDenseSparse2dTrieBorrowed<'a> {
 
     /// Returns the value of a suffix in a dense row. `trie` is what the primary trie has after the
     /// prefix and the delimiter.
+    #[inline]
     fn answer_in_row(&self, trie: &[u8], row: usize, suffix: &[u8]) -> Option<usize> {
         let mut left = trie;
         let offset = take_value(&mut left);
@@ -104,6 +111,7 @@ impl<'a> ZeroAsciiDenseSparse2dTrieBorrowed<'a> {
     }
 
     /// Returns the value in the matrix for a row, its offset and a column, if these exist.
+    #[inline]
     fn in_matrix(&self, row: usize, offset: Option<usize>, column: Option<usize>) -> Option<usize> {
         let offset = offset?;
         let column = column?;

@@ -5,13 +5,16 @@ use crate::rstd::prelude::*;
 use crate::zerotrie_core::laws;
 
 /// States that no 65,535 consecutive numbers have more of a row's values than its window.
+#[inline]
 pub fn fullest_window() {}
 
 /// States that a record says its own length, and that different tables have different records.
+#[inline]
 pub fn one_record() {}
 
 /// States that the tries and the matrix of a table give the entry of its rows, for every prefix and
 /// suffix.
+#[inline]
 pub fn answer_is_entry() {
     laws::one_meaning();
     laws::canonical_exactly();

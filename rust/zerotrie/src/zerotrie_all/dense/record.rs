@@ -16,6 +16,7 @@ pub enum RecordError {
 }
 
 impl core::fmt::Display for RecordError {
+    #[inline]
     fn fmt(&self, f: &mut core::fmt::Formatter<'_>) -> core::fmt::Result {
         match self {
             Self::Truncated => write!(f, "Truncated"),
@@ -28,6 +29,7 @@ impl core::error::Error for RecordError {}
 
 impl RecordError {
     /// Returns what the error means, and what to do about it.
+    #[inline]
     pub fn advice(&self) -> &'static str {
         match self {
             RecordError::Truncated => "the record is cut: give all of its bytes",
@@ -37,6 +39,7 @@ impl RecordError {
 }
 
 /// Returns the little-endian number in the eight bytes at `place`.
+#[inline]
 fn number_in(bytes: &[u8], place: usize) -> usize {
     let (_, rest) = bytes.split_at(place);
     usize::from_le_bytes([
@@ -52,6 +55,7 @@ impl<'a> ZeroAsciiDenseSparse2dTrieBorrowed<'a> {
     /// tries, and the cells of the matrix in two bytes each.
     ///
     /// An error means that an allocation failed.
+    #[inline]
     pub fn to_record_bytes(&self, alloc: Global) -> Result<Vec<u8>, AllocError> {
         let primary = self.primary.as_bytes();
         let suffixes = self.suffixes.as_bytes();
@@ -86,6 +90,7 @@ impl<'a> ZeroAsciiDenseSparse2dTrieBorrowed<'a> {
     ///
     /// The first 27 bytes of a record say how many it has. With fewer the error is `Truncated`,
     /// with more it is `TrailingBytes`. Does not validate the tries and the matrix.
+    #[inline]
     pub fn try_from_record_bytes(bytes: &'a [u8]) -> Result<Self, RecordError> {
         if bytes.len() < 27 {
             return Err(RecordError::Truncated);

@@ -9,18 +9,19 @@ use crate::zerotrie_core::{Simple, ZeroTrieBuildError, ZeroTrieBuilderOptions};
 
 /// A row of a table.
 #[derive(Debug)]
-pub(in crate::zerotrie_all) struct Row<'m, 's> {
+pub(in crate::made::zerotrie_all) struct Row<'m, 's> {
     /// The prefix that names the row.
-    pub(in crate::zerotrie_all) prefix: &'m str,
+    pub(in crate::made::zerotrie_all) prefix: &'m str,
     /// Its suffixes and their values.
-    pub(in crate::zerotrie_all) entries: &'m BTreeMap<&'s str, usize>,
+    pub(in crate::made::zerotrie_all) entries: &'m BTreeMap<&'s str, usize>,
     /// The first number of its window.
-    pub(in crate::zerotrie_all) offset: usize,
+    pub(in crate::made::zerotrie_all) offset: usize,
     /// Whether its window is in the matrix.
-    pub(in crate::zerotrie_all) is_dense: bool,
+    pub(in crate::made::zerotrie_all) is_dense: bool,
 }
 
 /// Returns the values of a row.
+#[inline]
 fn values_of(alloc: Global, entries: &BTreeMap<&str, usize>) -> Result<Vec<usize>, AllocError> {
     let mut values = Vec::new(alloc);
     for (_, value) in entries {
@@ -30,6 +31,7 @@ fn values_of(alloc: Global, entries: &BTreeMap<&str, usize>) -> Result<Vec<usize
 }
 
 /// Returns the least start of a window that has the most of the values of a row.
+#[inline]
 fn offset_of(alloc: Global, entries: &BTreeMap<&str, usize>) -> Result<usize, AllocError> {
     let mut values = values_of(alloc, entries)?;
     values.sort_unstable();
@@ -37,6 +39,7 @@ fn offset_of(alloc: Global, entries: &BTreeMap<&str, usize>) -> Result<usize, Al
 }
 
 /// Returns the pairs of a row whose values are in the window that begins at `start`.
+#[inline]
 fn pairs_inside<'s>(
     alloc: Global,
     entries: &BTreeMap<&'s str, usize>,
@@ -53,6 +56,7 @@ fn pairs_inside<'s>(
 
 /// Returns whether the row has the empty suffix with a value outside the window that begins at
 /// `start`.
+#[inline]
 fn has_empty_outside(entries: &BTreeMap<&str, usize>, start: usize) -> bool {
     match entries.get("") {
         Some(value) => !is_in_window(start, *value),
@@ -61,6 +65,7 @@ fn has_empty_outside(entries: &BTreeMap<&str, usize>, start: usize) -> bool {
 }
 
 /// Returns the length that the trie of the window of a row would have.
+#[inline]
 fn window_len(
     alloc: Global,
     entries: &BTreeMap<&str, usize>,
@@ -74,6 +79,7 @@ fn window_len(
 
 /// Returns whether a row is in the matrix of a table with this number of suffixes: its window would
 /// be longer as a trie, and the empty suffix is not outside the window.
+#[inline]
 fn is_dense_row(
     alloc: Global,
     entries: &BTreeMap<&str, usize>,
@@ -85,6 +91,7 @@ fn is_dense_row(
 }
 
 /// Returns a row of a table with this number of suffixes.
+#[inline]
 fn row_of<'m, 's>(
     alloc: Global,
     prefix: &'m str,
@@ -102,7 +109,8 @@ fn row_of<'m, 's>(
 }
 
 /// Returns the rows of a table with this number of suffixes, in their order.
-pub(in crate::zerotrie_all) fn rows_of<'m, 's>(
+#[inline]
+pub(in crate::made::zerotrie_all) fn rows_of<'m, 's>(
     alloc: Global,
     entries: &'m BTreeMap<&str, BTreeMap<&'s str, usize>>,
     columns: usize,
@@ -118,7 +126,8 @@ pub(in crate::zerotrie_all) fn rows_of<'m, 's>(
 const WINDOW: usize = 65_535;
 
 /// Returns whether the value is in the window that begins at `start`.
-pub(in crate::zerotrie_all) fn is_in_window(start: usize, value: usize) -> bool {
+#[inline]
+pub(in crate::made::zerotrie_all) fn is_in_window(start: usize, value: usize) -> bool {
     start <= value && value - start < WINDOW
 }
 
@@ -127,7 +136,8 @@ pub(in crate::zerotrie_all) fn is_in_window(start: usize, value: usize) -> bool 
 ///
 /// A range of neighbours moves along the values. It grows while it fits a window, and otherwise
 /// moves on by one, so in the end it is as long as the longest that fits.
-pub(in crate::zerotrie_all) fn fullest_in(values: &[usize]) -> usize {
+#[inline]
+pub(in crate::made::zerotrie_all) fn fullest_in(values: &[usize]) -> usize {
     let mut fullest = 0;
     let mut first = 0;
     for last in 0..values.len() {

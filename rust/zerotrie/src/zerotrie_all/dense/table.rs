@@ -23,26 +23,27 @@ use crate::zerotrie_ascii::ZeroTrieSimpleAscii;
 /// a matrix, of two bytes for each suffix, and the others in a trie.
 #[derive(Debug)]
 pub struct ZeroAsciiDenseSparse2dTrieOwned {
-    pub(in crate::zerotrie_all) primary: ZeroTrieSimpleAscii<Vec<u8>>,
-    pub(in crate::zerotrie_all) suffixes: ZeroTrieSimpleAscii<Vec<u8>>,
-    pub(in crate::zerotrie_all) matrix: Vec<u8>,
-    pub(in crate::zerotrie_all) suffix_count: u16,
-    pub(in crate::zerotrie_all) delimiter: u8,
+    pub(in crate::made::zerotrie_all) primary: ZeroTrieSimpleAscii<Vec<u8>>,
+    pub(in crate::made::zerotrie_all) suffixes: ZeroTrieSimpleAscii<Vec<u8>>,
+    pub(in crate::made::zerotrie_all) matrix: Vec<u8>,
+    pub(in crate::made::zerotrie_all) suffix_count: u16,
+    pub(in crate::made::zerotrie_all) delimiter: u8,
 }
 
 /// A table from a prefix and a suffix to a number, over borrowed bytes: a
 /// `ZeroAsciiDenseSparse2dTrieOwned` that borrows.
 #[derive(Debug)]
 pub struct ZeroAsciiDenseSparse2dTrieBorrowed<'a> {
-    pub(in crate::zerotrie_all) primary: ZeroTrieSimpleAscii<&'a [u8]>,
-    pub(in crate::zerotrie_all) suffixes: ZeroTrieSimpleAscii<&'a [u8]>,
-    pub(in crate::zerotrie_all) matrix: &'a [u8],
-    pub(in crate::zerotrie_all) suffix_count: u16,
-    pub(in crate::zerotrie_all) delimiter: u8,
+    pub(in crate::made::zerotrie_all) primary: ZeroTrieSimpleAscii<&'a [u8]>,
+    pub(in crate::made::zerotrie_all) suffixes: ZeroTrieSimpleAscii<&'a [u8]>,
+    pub(in crate::made::zerotrie_all) matrix: &'a [u8],
+    pub(in crate::made::zerotrie_all) suffix_count: u16,
+    pub(in crate::made::zerotrie_all) delimiter: u8,
 }
 
 impl ZeroAsciiDenseSparse2dTrieOwned {
     /// Returns the same table, which borrows these bytes. Does not allocate.
+    #[inline]
     pub fn as_borrowed(&self) -> ZeroAsciiDenseSparse2dTrieBorrowed<'_> {
         ZeroAsciiDenseSparse2dTrieBorrowed {
             primary: self.primary.as_borrowed(),
@@ -55,6 +56,7 @@ impl ZeroAsciiDenseSparse2dTrieOwned {
 }
 
 impl PartialEq for ZeroAsciiDenseSparse2dTrieBorrowed<'_> {
+    #[inline]
     fn eq(&self, other: &Self) -> bool {
         self.suffix_count == other.suffix_count
             && self.delimiter == other.delimiter
@@ -67,6 +69,7 @@ impl PartialEq for ZeroAsciiDenseSparse2dTrieBorrowed<'_> {
 impl Eq for ZeroAsciiDenseSparse2dTrieBorrowed<'_> {}
 
 impl PartialEq for ZeroAsciiDenseSparse2dTrieOwned {
+    #[inline]
     fn eq(&self, other: &Self) -> bool {
         self.as_borrowed() == other.as_borrowed()
     }

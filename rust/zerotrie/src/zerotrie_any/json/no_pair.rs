@@ -16,6 +16,7 @@ pub enum NoPair<'a> {
 }
 
 impl core::fmt::Display for NoPair<'_> {
+    #[inline]
     fn fmt(&self, f: &mut core::fmt::Formatter<'_>) -> core::fmt::Result {
         match self {
             Self::Member(field) => write!(f, "the value of {field:?} is no whole number from 0 to 18446744073709551615"),

@@ -13,12 +13,12 @@ use crate::zerotrie_core::ZeroTrieWithOptions;
 type OwnedPairs = Vec<(Vec<u8>, usize)>;
 
 /// Returns the whole number in a value.
-pub(in crate::zerotrie_any) fn number_of(value: &Value) -> Option<usize> {
+pub(in crate::made::zerotrie_any) fn number_of(value: &Value) -> Option<usize> {
     value.as_u64().map(|number| number as usize)
 }
 
 /// Returns the byte in a value.
-pub(in crate::zerotrie_any) fn byte_of(value: &Value) -> Option<u8> {
+pub(in crate::made::zerotrie_any) fn byte_of(value: &Value) -> Option<u8> {
     let number = value.as_u64()?;
     if number < 256 {
         Some(number as u8)

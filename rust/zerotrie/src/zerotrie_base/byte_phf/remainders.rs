@@ -5,14 +5,14 @@ use crate::rstd::prelude::*;
 use super::{f1, mixed, turned};
 
 /// The remainders of all bytes by a number, each computed once.
-pub(in crate::zerotrie_base) struct Remainders {
+pub(in crate::made::zerotrie_base) struct Remainders {
     n: u8,
     of: [u8; 256],
 }
 
 impl Remainders {
     /// Computes the remainders by `n`. If `n` is 0, they are the bytes themselves.
-    pub(in crate::zerotrie_base) fn by(n: u8) -> Self {
+    pub(in crate::made::zerotrie_base) fn by(n: u8) -> Self {
         let mut of = [0; 256];
         for byte in 0..=255u8 {
             of[byte as usize] = f1(byte, 0, n);
@@ -22,7 +22,7 @@ impl Remainders {
 
     /// Like [`f1`].
     #[inline]
-    pub(in crate::zerotrie_base) fn bucket(&self, byte: u8, p: u8) -> u8 {
+    pub(in crate::made::zerotrie_base) fn bucket(&self, byte: u8, p: u8) -> u8 {
         if self.n == 0 {
             byte
         } else {
@@ -32,7 +32,7 @@ impl Remainders {
 
     /// Like [`super::f2`].
     #[inline]
-    pub(in crate::zerotrie_base) fn place(&self, byte: u8, q: u8) -> u8 {
+    pub(in crate::made::zerotrie_base) fn place(&self, byte: u8, q: u8) -> u8 {
         if self.n == 0 {
             byte
         } else {
@@ -67,7 +67,7 @@ fn quotient(n: u8) -> u16 {
 
 /// Returns `byte % n`. The upper bits of the product are the quotient.
 #[inline]
-pub(in crate::zerotrie_base) fn remainder(byte: u8, n: u8) -> u8 {
+pub(in crate::made::zerotrie_base) fn remainder(byte: u8, n: u8) -> u8 {
     let whole = (byte as u32 * (quotient(n) as u32 + 1)) >> 16;
     (byte as u32 - whole * n as u32) as u8
 }

@@ -7,28 +7,28 @@ use crate::zerotrie_base::least_width;
 
 /// A target of a branch that is not written yet.
 #[derive(Clone, Copy, Debug, Default)]
-pub(in crate::zerotrie_build) struct Sibling {
+pub(in crate::made::zerotrie_build) struct Sibling {
     /// How many bytes lead to the branch.
-    pub(in crate::zerotrie_build) depth: usize,
+    pub(in crate::made::zerotrie_build) depth: usize,
     /// The edge byte.
-    pub(in crate::zerotrie_build) byte: u8,
+    pub(in crate::made::zerotrie_build) byte: u8,
     /// How many bytes the target has.
-    pub(in crate::zerotrie_build) len: usize,
+    pub(in crate::made::zerotrie_build) len: usize,
 }
 
 /// A text at the end of a buffer. Bytes for which the buffer has no room are counted and lost, so
 /// that a text is known to be too long only once all of it was written.
-pub(in crate::zerotrie_build) struct Text<'a> {
-    pub(in crate::zerotrie_build) buffer: &'a mut [u8],
+pub(in crate::made::zerotrie_build) struct Text<'a> {
+    pub(in crate::made::zerotrie_build) buffer: &'a mut [u8],
     /// How many bytes the text has, those that were lost too.
-    pub(in crate::zerotrie_build) len: usize,
+    pub(in crate::made::zerotrie_build) len: usize,
     /// How many bytes are in front of the siblings.
-    pub(in crate::zerotrie_build) front: usize,
+    pub(in crate::made::zerotrie_build) front: usize,
 }
 
 impl Text<'_> {
     /// Puts a byte in front: a literal is its byte.
-    pub(in crate::zerotrie_build) fn put(&mut self, byte: u8) {
+    pub(in crate::made::zerotrie_build) fn put(&mut self, byte: u8) {
         self.len = self.len.saturating_add(1);
         if let Some(place) = self.buffer.len().checked_sub(self.len) {
             self.buffer[place] = byte;
@@ -44,7 +44,7 @@ impl Text<'_> {
     }
 
     /// Puts a value node in front.
-    pub(in crate::zerotrie_build) fn put_value(&mut self, value: usize) {
+    pub(in crate::made::zerotrie_build) fn put_value(&mut self, value: usize) {
         self.put_all(&number_bytes(VALUE, 16, value));
     }
 
@@ -73,7 +73,7 @@ impl Text<'_> {
 
     /// Puts the head, the edges and the offsets of a branch to these targets in front. Together the
     /// targets have `total` bytes.
-    pub(in crate::zerotrie_build) fn put_branch(&mut self, siblings: &[Sibling], total: usize) {
+    pub(in crate::made::zerotrie_build) fn put_branch(&mut self, siblings: &[Sibling], total: usize) {
         let width = least_width(total);
         self.put_offsets(siblings, total, width + 1);
         self.put_edges(siblings);
@@ -82,7 +82,7 @@ impl Text<'_> {
 }
 
 /// Returns how many bytes the targets have together, or the greatest number if they have more.
-pub(in crate::zerotrie_build) fn total(siblings: &[Sibling]) -> usize {
+pub(in crate::made::zerotrie_build) fn total(siblings: &[Sibling]) -> usize {
     let mut total: usize = 0;
     for sibling in siblings {
         total = total.saturating_add(sibling.len);

@@ -127,7 +127,7 @@ fn add<K: ZeroTrieWithOptions, const STACK: usize>(
 /// Writes the text of the trie of the items at the end of the buffer, if it has room for it, and
 /// returns how many bytes the text has, or the greatest number if it has more. What lies before the
 /// text stays.
-pub(in crate::zerotrie_build) fn build_text<K: ZeroTrieWithOptions, const STACK: usize>(
+pub(in crate::made::zerotrie_build) fn build_text<K: ZeroTrieWithOptions, const STACK: usize>(
     buffer: &mut [u8],
     items: ByteSliceWithIndices<'_>,
 ) -> Result<usize, ZeroTrieBuildError> {

@@ -35,7 +35,7 @@ fn place_in_window<K: ZeroTrieWithOptions>(
 /// As each byte is above the one before it, the first and the last bound the place. Then the search
 /// halves what is left, without jumps that depend on the bytes: they can't be predicted.
 #[inline(always)]
-pub(in crate::zerotrie_core) fn place_in<K: ZeroTrieWithOptions>(table: &[u8], byte: u8) -> Option<usize> {
+pub(in crate::made::zerotrie_core) fn place_in<K: ZeroTrieWithOptions>(table: &[u8], byte: u8) -> Option<usize> {
     let end = table.len().checked_sub(1)?;
     let sought = folded::<K>(byte);
     let first = folded::<K>(table[0]);
@@ -54,6 +54,6 @@ pub(in crate::zerotrie_core) fn place_in<K: ZeroTrieWithOptions>(table: &[u8], b
 
 /// Returns the place if it is before the end.
 #[inline(always)]
-pub(in crate::zerotrie_core) fn before_end(place: usize, end: usize) -> Option<usize> {
+pub(in crate::made::zerotrie_core) fn before_end(place: usize, end: usize) -> Option<usize> {
     if place < end { Some(place) } else { None }
 }

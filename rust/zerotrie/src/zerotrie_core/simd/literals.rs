@@ -109,7 +109,7 @@ fn common_one_by_one<K: ZeroTrieWithOptions>(bytes: &[u8], key: &[u8]) -> usize 
 /// comparison respects case. If case is ignored and the first bytes do not match, they are compared
 /// one by one.
 #[inline(always)]
-pub(in crate::zerotrie_core) fn common_literals<K: ZeroTrieWithOptions>(bytes: &[u8], key: &[u8]) -> usize {
+pub(in crate::made::zerotrie_core) fn common_literals<K: ZeroTrieWithOptions>(bytes: &[u8], key: &[u8]) -> usize {
     if bytes.len() >= 16 && key.len() >= 16 {
         let more = common_in_long::<K>(bytes, key);
         if !K::IGNORE_CASE || more > 0 {

@@ -9,14 +9,14 @@ use crate::rstd::alloc::{AllocError, Allocator};
 
 /// The open branches, the innermost beside the others. Only the innermost may have no target left.
 #[derive(Debug)]
-pub(in crate::zerotrie_core) struct OpenBranches<'a, A: Allocator> {
+pub(in crate::made::zerotrie_core) struct OpenBranches<'a, A: Allocator> {
     top: OpenBranch<'a>,
     outer: Vec<OpenBranch<'a>, A>,
 }
 
 impl<'a, A: Allocator> OpenBranches<'a, A> {
     /// Returns no open branch.
-    pub(in crate::zerotrie_core) fn closed(alloc: A) -> Self {
+    pub(in crate::made::zerotrie_core) fn closed(alloc: A) -> Self {
         OpenBranches {
             top: OpenBranch::closed(),
             outer: Vec::new(alloc),
@@ -25,14 +25,14 @@ impl<'a, A: Allocator> OpenBranches<'a, A> {
 
     /// Returns after how many bytes of the key the innermost branch is.
     #[inline(always)]
-    pub(in crate::zerotrie_core) fn depth(&self) -> usize {
+    pub(in crate::made::zerotrie_core) fn depth(&self) -> usize {
         self.top.depth
     }
 
     /// Leaves the innermost branch if none of its targets is left, and returns whether any branch
     /// has one.
     #[inline(always)]
-    pub(in crate::zerotrie_core) fn has_target(&mut self) -> bool {
+    pub(in crate::made::zerotrie_core) fn has_target(&mut self) -> bool {
         if self.top.has_next() {
             return true;
         }
@@ -47,7 +47,7 @@ impl<'a, A: Allocator> OpenBranches<'a, A> {
 
     /// Returns after how many bytes of the key the innermost branch is that has a target left.
     #[inline(always)]
-    pub(in crate::zerotrie_core) fn next_depth(&self) -> Option<usize> {
+    pub(in crate::made::zerotrie_core) fn next_depth(&self) -> Option<usize> {
         if self.top.has_next() {
             return Some(self.top.depth);
         }
@@ -60,7 +60,7 @@ impl<'a, A: Allocator> OpenBranches<'a, A> {
     /// Passes the next targets whose edges are not in the set, of the innermost branch that has one
     /// left, if that is after this many bytes of the key.
     #[inline(always)]
-    pub(in crate::zerotrie_core) fn pass(&mut self, depth: usize, wanted: &ByteSet) {
+    pub(in crate::made::zerotrie_core) fn pass(&mut self, depth: usize, wanted: &ByteSet) {
         if self.has_target() && self.top.depth == depth {
             self.top.pass(wanted);
         }
@@ -68,7 +68,7 @@ impl<'a, A: Allocator> OpenBranches<'a, A> {
 
     /// Opens a branch inside the others. Keeps the one around it only if that has targets left.
     #[inline(always)]
-    pub(in crate::zerotrie_core) fn open(&mut self, inner: OpenBranch<'a>) -> Result<(), AllocError> {
+    pub(in crate::made::zerotrie_core) fn open(&mut self, inner: OpenBranch<'a>) -> Result<(), AllocError> {
         if self.top.has_next() {
             self.outer.push(self.top)?;
         }
@@ -77,7 +77,7 @@ impl<'a, A: Allocator> OpenBranches<'a, A> {
     }
 
     /// Leaves the branches that stand after this many bytes of the key or more.
-    pub(in crate::zerotrie_core) fn leave(&mut self, depth: usize) {
+    pub(in crate::made::zerotrie_core) fn leave(&mut self, depth: usize) {
         while depth <= self.top.depth {
             let Some(outer) = self.outer.pop() else {
                 self.top = OpenBranch::closed();
@@ -90,7 +90,7 @@ impl<'a, A: Allocator> OpenBranches<'a, A> {
     /// Enters the next target of the innermost branch: writes its edge to the key, and returns its
     /// bytes. If its offsets fall, the rest of the branch is skipped, so no byte is read twice.
     #[inline(always)]
-    pub(in crate::zerotrie_core) fn enter(&mut self, key: &mut Vec<u8, A>) -> Result<Here<'a>, AllocError> {
+    pub(in crate::made::zerotrie_core) fn enter(&mut self, key: &mut Vec<u8, A>) -> Result<Here<'a>, AllocError> {
         key.truncate(self.top.depth);
         let Some(target) = self.top.target() else {
             self.top.next = self.top.edges;

@@ -9,7 +9,7 @@ use crate::zerotrie_core::offsets::{begin_at, end_at, offsets_and_targets};
 
 /// A branch of which some targets have been entered.
 #[derive(Clone, Copy, Debug)]
-pub(in crate::zerotrie_core) struct OpenBranch<'a> {
+pub(in crate::made::zerotrie_core) struct OpenBranch<'a> {
     /// The bytes of the branch from its edges on.
     pub behind: &'a [u8],
     /// The bytes of the whole trie from the first target on.
@@ -28,7 +28,7 @@ pub(in crate::zerotrie_core) struct OpenBranch<'a> {
 
 impl<'a> OpenBranch<'a> {
     /// Returns a branch without edges.
-    pub(in crate::zerotrie_core) fn closed() -> Self {
+    pub(in crate::made::zerotrie_core) fn closed() -> Self {
         OpenBranch {
             behind: &[],
             tail: &[],
@@ -42,7 +42,7 @@ impl<'a> OpenBranch<'a> {
 
     /// Opens a branch with which the rest begins, before its first target.
     #[inline(always)]
-    pub(in crate::zerotrie_core) fn new(here: Here<'a>, branch: Branch<'a>, depth: usize) -> Self {
+    pub(in crate::made::zerotrie_core) fn new(here: Here<'a>, branch: Branch<'a>, depth: usize) -> Self {
         OpenBranch {
             behind: branch.behind,
             tail: here.behind(branch.targets()).tail,
@@ -55,7 +55,7 @@ impl<'a> OpenBranch<'a> {
     }
 
     /// Returns the same branch before the target of this number.
-    pub(in crate::zerotrie_core) fn at_edge(self, place: usize) -> Self {
+    pub(in crate::made::zerotrie_core) fn at_edge(self, place: usize) -> Self {
         let mut at = self;
         at.next = place;
         at.begin = begin_at(self.behind, self.edges, self.width, place);
@@ -64,13 +64,13 @@ impl<'a> OpenBranch<'a> {
 
     /// Returns whether targets are left.
     #[inline(always)]
-    pub(in crate::zerotrie_core) fn has_next(&self) -> bool {
+    pub(in crate::made::zerotrie_core) fn has_next(&self) -> bool {
         self.next < self.edges
     }
 
     /// Returns the next target, or `None` if its offsets are not ascending.
     #[inline(always)]
-    pub(in crate::zerotrie_core) fn target(&self) -> Option<Here<'a>> {
+    pub(in crate::made::zerotrie_core) fn target(&self) -> Option<Here<'a>> {
         let (_, rest) = offsets_and_targets(self.behind, self.edges, self.width);
         let end = end_at(self.behind, self.edges, self.width, self.next);
         let targets = Here {
@@ -83,7 +83,7 @@ impl<'a> OpenBranch<'a> {
     /// Passes the next targets whose edges are not in the set. If the offsets of one fall, none is
     /// left.
     #[inline(always)]
-    pub(in crate::zerotrie_core) fn pass(&mut self, wanted: &ByteSet) {
+    pub(in crate::made::zerotrie_core) fn pass(&mut self, wanted: &ByteSet) {
         while self.next < self.edges && !wanted.has(self.behind[self.next]) {
             let Some(target) = self.target() else {
                 self.next = self.edges;

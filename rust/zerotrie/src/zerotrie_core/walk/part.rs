@@ -20,7 +20,7 @@ pub struct Part<'a> {
 
 impl<'a> Part<'a> {
     /// Returns the part that is all of these bytes.
-    pub(in crate::zerotrie_core) fn whole(bytes: &'a [u8]) -> Self {
+    pub(in crate::made::zerotrie_core) fn whole(bytes: &'a [u8]) -> Self {
         Part {
             place: 0,
             depth: 0,
@@ -31,7 +31,7 @@ impl<'a> Part<'a> {
     }
 
     /// Returns the part after the first node, which is `rest`.
-    pub(in crate::zerotrie_core) fn after(self, rest: &'a [u8]) -> Self {
+    pub(in crate::made::zerotrie_core) fn after(self, rest: &'a [u8]) -> Self {
         Part {
             place: self.place + (self.bytes.len() - rest.len()),
             depth: self.depth,
@@ -42,7 +42,7 @@ impl<'a> Part<'a> {
     }
 
     /// Returns the target of an edge of the branch at the beginning of this part.
-    pub(in crate::zerotrie_core) fn below_edge(self, place: usize, edge: u8, bytes: &'a [u8]) -> Self {
+    pub(in crate::made::zerotrie_core) fn below_edge(self, place: usize, edge: u8, bytes: &'a [u8]) -> Self {
         Part {
             place,
             depth: self.depth + 1,

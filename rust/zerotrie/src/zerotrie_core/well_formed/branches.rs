@@ -31,7 +31,7 @@ fn front_rises<K: ZeroTrieWithOptions>(bytes: &[u8], count: usize) -> bool {
 /// Returns whether the search table is one of the kind, and its edges are bytes of the kind. `tail`
 /// is all bytes from the first edge on. If edges rise and the last is ASCII, all are. A hashed
 /// table that passes is known from then on.
-pub(in crate::zerotrie_core) fn has_table<'a, K: ZeroTrieWithOptions>(
+pub(in crate::made::zerotrie_core) fn has_table<'a, K: ZeroTrieWithOptions>(
     branch: &Branch<'a>,
     tail: &[u8],
     known: &mut KnownTable<'a>,
@@ -47,7 +47,7 @@ pub(in crate::zerotrie_core) fn has_table<'a, K: ZeroTrieWithOptions>(
 }
 
 /// Returns whether the offsets have the width that the targets after them need.
-pub(in crate::zerotrie_core) fn has_width(body: &[u8], offsets: usize, width: usize) -> bool {
+pub(in crate::made::zerotrie_core) fn has_width(body: &[u8], offsets: usize, width: usize) -> bool {
     let (_, targets) = body.split_at(offsets);
     width - 1 == least_width(targets.len())
 }

@@ -16,14 +16,14 @@ fn is_perfect(table: &[u8], edges: &[u8]) -> bool {
 }
 
 /// The last valid hashed table, and the number of edges at its end. At first it is empty.
-pub(in crate::zerotrie_core) struct KnownTable<'a> {
+pub(in crate::made::zerotrie_core) struct KnownTable<'a> {
     table: &'a [u8],
     edges: usize,
 }
 
 impl<'a> KnownTable<'a> {
     #[inline(always)]
-    pub(in crate::zerotrie_core) fn none() -> Self {
+    pub(in crate::made::zerotrie_core) fn none() -> Self {
         KnownTable {
             table: &[],
             edges: 0,
@@ -33,7 +33,7 @@ impl<'a> KnownTable<'a> {
     /// Returns whether a hashed table that ends with the edges has each of them at its place. A
     /// table that equals the last valid one is valid.
     #[inline(always)]
-    pub(in crate::zerotrie_core) fn is_perfect(&mut self, table: &'a [u8], edges: &[u8]) -> bool {
+    pub(in crate::made::zerotrie_core) fn is_perfect(&mut self, table: &'a [u8], edges: &[u8]) -> bool {
         if edges.len() == self.edges && table == self.table {
             return true;
         }

@@ -75,7 +75,7 @@ impl<'p> GlobChars<'p> {
     }
 
     /// Accepts the text that the pattern matches, in any case or as it is.
-    pub(in crate::zerotrie_search) fn of(pattern: &'p str, any_case: bool) -> Result<Self, GlobError> {
+    pub(in crate::made::zerotrie_search) fn of(pattern: &'p str, any_case: bool) -> Result<Self, GlobError> {
         let masks = Masks::of(Text::Chars(pattern), any_case)?;
         Ok(GlobChars {
             pattern,

@@ -8,7 +8,7 @@ use crate::zerotrie_search::WORD_LIMIT;
 
 /// The masks of a pattern.
 #[derive(Clone, Copy, Debug)]
-pub(in crate::zerotrie_search) struct Masks {
+pub(in crate::made::zerotrie_search) struct Masks {
     /// The items that take each letter below 256.
     takers: [u64; 256],
     /// The places that may be next after each item.
@@ -65,7 +65,7 @@ fn roles_of(pattern: Text<'_>) -> Result<([Role; 64], u32), GlobError> {
 }
 
 /// Returns the marks of the items that take the letter.
-pub(in crate::zerotrie_search) fn takers_of(pattern: Text<'_>, any_case: bool, letter: u32) -> u64 {
+pub(in crate::made::zerotrie_search) fn takers_of(pattern: Text<'_>, any_case: bool, letter: u32) -> u64 {
     let letters = cases(any_case, letter);
     let mut left = pattern;
     let mut in_group = false;
@@ -156,7 +156,7 @@ fn followers_of(roles: [Role; 64], last: u32) -> ([u64; 64], u64) {
 
 impl Masks {
     /// Returns the masks of a pattern. With `any_case`, its letters are taken in both cases.
-    pub(in crate::zerotrie_search) fn of(pattern: Text<'_>, any_case: bool) -> Result<Self, GlobError> {
+    pub(in crate::made::zerotrie_search) fn of(pattern: Text<'_>, any_case: bool) -> Result<Self, GlobError> {
         let (roles, last) = roles_of(pattern)?;
         let (followers, first) = followers_of(roles, last);
         Ok(Masks {
@@ -168,19 +168,19 @@ impl Masks {
     }
 
     /// Returns the places before the first letter.
-    pub(in crate::zerotrie_search) fn first(&self) -> u64 {
+    pub(in crate::made::zerotrie_search) fn first(&self) -> u64 {
         self.first
     }
 
     /// Returns the marks of the items that take a letter below 256.
     #[inline(always)]
-    pub(in crate::zerotrie_search) fn takers(&self, letter: u8) -> u64 {
+    pub(in crate::made::zerotrie_search) fn takers(&self, letter: u8) -> u64 {
         self.takers[letter as usize]
     }
 
     /// Returns the places after one more letter, which these items take.
     #[inline]
-    pub(in crate::zerotrie_search) fn step(&self, marks: u64, takers: u64) -> u64 {
+    pub(in crate::made::zerotrie_search) fn step(&self, marks: u64, takers: u64) -> u64 {
         let mut left = marks & takers;
         let mut next: u64 = 0;
         while left != 0 {
@@ -193,13 +193,13 @@ impl Masks {
 
     /// Returns whether the end is marked.
     #[inline]
-    pub(in crate::zerotrie_search) fn is_match(&self, marks: u64) -> bool {
+    pub(in crate::made::zerotrie_search) fn is_match(&self, marks: u64) -> bool {
         (marks >> self.last) & 1 == 1
     }
 
     /// Returns whether nothing but the end is marked.
     #[inline]
-    pub(in crate::zerotrie_search) fn is_over(&self, marks: u64) -> bool {
+    pub(in crate::made::zerotrie_search) fn is_over(&self, marks: u64) -> bool {
         marks & !(1 << self.last) == 0
     }
 }

@@ -27,7 +27,7 @@ const OPEN: u32 = b'[' as u32;
 
 /// A text of letters.
 #[derive(Clone, Copy, Debug)]
-pub(in crate::zerotrie_search) enum Text<'p> {
+pub(in crate::made::zerotrie_search) enum Text<'p> {
     /// Each byte is a letter.
     Bytes(&'p [u8]),
     /// Each character is a letter.
@@ -43,7 +43,7 @@ fn first_char(text: &str) -> Option<(u32, &str)> {
 
 impl<'p> Text<'p> {
     /// Returns the first letter, and what is left after it.
-    pub(in crate::zerotrie_search) fn first(self) -> Option<(u32, Text<'p>)> {
+    pub(in crate::made::zerotrie_search) fn first(self) -> Option<(u32, Text<'p>)> {
         match self {
             Text::Bytes(bytes) => {
                 let (first, rest) = bytes.split_first()?;
@@ -76,7 +76,7 @@ fn upper(letter: u32) -> u32 {
 }
 
 /// Returns a letter in its two cases, or twice if its case counts.
-pub(in crate::zerotrie_search) fn cases(any_case: bool, letter: u32) -> (u32, u32) {
+pub(in crate::made::zerotrie_search) fn cases(any_case: bool, letter: u32) -> (u32, u32) {
     if any_case {
         (lower(letter), upper(letter))
     } else {
@@ -96,7 +96,7 @@ fn has_case(from: u32, to: u32, cases: (u32, u32)) -> bool {
 
 /// What an item of a pattern is.
 #[derive(Clone, Copy, Debug)]
-pub(in crate::zerotrie_search) enum Role {
+pub(in crate::made::zerotrie_search) enum Role {
     /// One letter.
     Letter,
     /// Any number of letters.
@@ -112,7 +112,7 @@ pub(in crate::zerotrie_search) enum Role {
 impl Role {
     /// Returns whether what is behind an item with this role is in a group. `in_group` says whether the
     /// item is.
-    pub(in crate::zerotrie_search) fn stays_in(self, in_group: bool) -> bool {
+    pub(in crate::made::zerotrie_search) fn stays_in(self, in_group: bool) -> bool {
         match self {
             Role::Group => true,
             Role::End => false,
@@ -123,11 +123,11 @@ impl Role {
 
 /// An item of a pattern, beside a letter.
 #[derive(Clone, Copy, Debug)]
-pub(in crate::zerotrie_search) struct Item {
+pub(in crate::made::zerotrie_search) struct Item {
     /// What it is.
-    pub(in crate::zerotrie_search) role: Role,
+    pub(in crate::made::zerotrie_search) role: Role,
     /// It takes the letter.
-    pub(in crate::zerotrie_search) takes: bool,
+    pub(in crate::made::zerotrie_search) takes: bool,
 }
 
 /// Returns the first letter of a class with whether it is escaped, and what is left after it, or
@@ -235,7 +235,7 @@ fn item_of(first: u32, in_group: bool, letter: (u32, u32)) -> Option<Item> {
 
 /// Returns the first item of a pattern, or of what is left of it in a group, beside a letter with these
 /// cases, and what is left after it.
-pub(in crate::zerotrie_search) fn first_item(
+pub(in crate::made::zerotrie_search) fn first_item(
     pattern: Text<'_>,
     in_group: bool,
     letter: (u32, u32),

@@ -116,7 +116,7 @@ fn is_down_to(from: Bound<&[u8]>, key: &[u8]) -> bool {
 }
 
 /// Returns the last pair between two bounds, or `None` if there is none.
-pub(in crate::zerotrie_search) fn last_between<A: Allocator + Copy>(
+pub(in crate::made::zerotrie_search) fn last_between<A: Allocator + Copy>(
     alloc: A,
     options: ZeroTrieBuilderOptions,
     bytes: &[u8],

@@ -49,7 +49,7 @@ fn greatest_under<K: ZeroTrieWithOptions>(
 }
 
 /// Calls `greatest_under` for the kind that the options name.
-pub(in crate::zerotrie_search) fn edge_under(
+pub(in crate::made::zerotrie_search) fn edge_under(
     options: ZeroTrieBuilderOptions,
     bytes: &[u8],
     place: CursorPlace,
@@ -69,7 +69,7 @@ fn exact<K: ZeroTrieWithOptions>(bytes: &[u8], place: CursorPlace, byte: u8) -> 
 }
 
 /// Calls `exact` for the kind that the options name.
-pub(in crate::zerotrie_search) fn step_exact(
+pub(in crate::made::zerotrie_search) fn step_exact(
     options: ZeroTrieBuilderOptions,
     bytes: &[u8],
     place: CursorPlace,

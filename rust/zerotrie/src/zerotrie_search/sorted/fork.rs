@@ -8,7 +8,7 @@ use crate::zerotrie_core::{Branch, ByteSet, ZeroTrieWithOptions};
 
 /// A branch of which some edges are left.
 #[derive(Clone, Copy, Debug)]
-pub(in crate::zerotrie_search) struct Fork<'a> {
+pub(in crate::made::zerotrie_search) struct Fork<'a> {
     /// The branch.
     branch: Branch<'a>,
     /// The edges that were not entered.
@@ -32,7 +32,7 @@ fn edges_from(branch: &Branch<'_>, from: usize) -> ByteSet {
 
 /// Returns the target of an edge of just this byte.
 #[inline(always)]
-pub(in crate::zerotrie_search) fn target_of<'a, K: ZeroTrieWithOptions>(
+pub(in crate::made::zerotrie_search) fn target_of<'a, K: ZeroTrieWithOptions>(
     branch: Branch<'a>,
     byte: u8,
 ) -> Option<&'a [u8]> {
@@ -44,7 +44,7 @@ pub(in crate::zerotrie_search) fn target_of<'a, K: ZeroTrieWithOptions>(
 impl<'a> Fork<'a> {
     /// Opens a branch at the edges that are at least `from`.
     #[inline(always)]
-    pub(in crate::zerotrie_search) fn open(branch: Branch<'a>, from: usize, depth: usize) -> Self {
+    pub(in crate::made::zerotrie_search) fn open(branch: Branch<'a>, from: usize, depth: usize) -> Self {
         let left = edges_from(&branch, from);
         Fork {
             branch,
@@ -55,13 +55,13 @@ impl<'a> Fork<'a> {
 
     /// Returns whether no edge is left.
     #[inline(always)]
-    pub(in crate::zerotrie_search) fn is_over(&self) -> bool {
+    pub(in crate::made::zerotrie_search) fn is_over(&self) -> bool {
         self.left.least().is_none()
     }
 
     /// Takes the least edge that is left, and returns it with its target.
     #[inline(always)]
-    pub(in crate::zerotrie_search) fn next<K: ZeroTrieWithOptions>(&mut self) -> Option<(u8, &'a [u8])> {
+    pub(in crate::made::zerotrie_search) fn next<K: ZeroTrieWithOptions>(&mut self) -> Option<(u8, &'a [u8])> {
         let edge = self.left.least()?;
         self.left.remove(edge);
         let target = target_of::<K>(self.branch, edge)?;
@@ -71,7 +71,7 @@ impl<'a> Fork<'a> {
 
 /// Adds an edge to a key, and keeps the branch that it is from if other edges are left.
 #[inline(always)]
-pub(in crate::zerotrie_search) fn push<'a, A: Allocator>(
+pub(in crate::made::zerotrie_search) fn push<'a, A: Allocator>(
     edge: u8,
     fork: Fork<'a>,
     key: &mut Vec<u8, A>,
@@ -87,7 +87,7 @@ pub(in crate::zerotrie_search) fn push<'a, A: Allocator>(
 /// Enters the target of the least edge that is left of a branch. Returns its bytes, or `None` if no
 /// edge is left.
 #[inline(always)]
-pub(in crate::zerotrie_search) fn enter<'a, K: ZeroTrieWithOptions, A: Allocator>(
+pub(in crate::made::zerotrie_search) fn enter<'a, K: ZeroTrieWithOptions, A: Allocator>(
     fork: Fork<'a>,
     key: &mut Vec<u8, A>,
     forks: &mut Vec<Fork<'a>, A>,
@@ -103,7 +103,7 @@ pub(in crate::zerotrie_search) fn enter<'a, K: ZeroTrieWithOptions, A: Allocator
 /// Goes back to the innermost branch with an edge left, and enters the least. Returns the target's
 /// bytes, or `None` if no branch has one.
 #[inline(always)]
-pub(in crate::zerotrie_search) fn climb<'a, K: ZeroTrieWithOptions, A: Allocator>(
+pub(in crate::made::zerotrie_search) fn climb<'a, K: ZeroTrieWithOptions, A: Allocator>(
     key: &mut Vec<u8, A>,
     forks: &mut Vec<Fork<'a>, A>,
 ) -> Result<Option<&'a [u8]>, AllocError> {
@@ -116,7 +116,7 @@ pub(in crate::zerotrie_search) fn climb<'a, K: ZeroTrieWithOptions, A: Allocator
 }
 
 /// Drops the branches that are at least this deep.
-pub(in crate::zerotrie_search) fn drop_inner<'a, A: Allocator>(forks: &mut Vec<Fork<'a>, A>, depth: usize) {
+pub(in crate::made::zerotrie_search) fn drop_inner<'a, A: Allocator>(forks: &mut Vec<Fork<'a>, A>, depth: usize) {
     let mut count = forks.len();
     while count > 0 && depth <= forks[count - 1].depth {
         count -= 1;

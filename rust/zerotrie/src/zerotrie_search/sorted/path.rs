@@ -22,7 +22,7 @@ fn push<A: Allocator>(
 
 /// Goes down along a key as far as the trie has its bytes. Returns the first byte that it does not
 /// have, or `None` if it has all.
-pub(in crate::zerotrie_search) fn follow<A: Allocator>(
+pub(in crate::made::zerotrie_search) fn follow<A: Allocator>(
     options: ZeroTrieBuilderOptions,
     bytes: &[u8],
     sought: &[u8],

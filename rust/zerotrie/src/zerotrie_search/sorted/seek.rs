@@ -138,7 +138,7 @@ fn seek<'a, K: ZeroTrieWithOptions, A: Allocator>(
 }
 
 /// Calls `seek` for the kind that the options name, if there is a lower bound.
-pub(in crate::zerotrie_search) fn seek_of<'a, A: Allocator>(
+pub(in crate::made::zerotrie_search) fn seek_of<'a, A: Allocator>(
     options: ZeroTrieBuilderOptions,
     bytes: &'a [u8],
     from: Bound<&[u8]>,

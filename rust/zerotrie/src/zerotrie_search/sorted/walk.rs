@@ -70,7 +70,7 @@ fn next_pair<'a, K: ZeroTrieWithOptions, A: Allocator>(
 }
 
 /// Calls `next_pair` for the kind that the options name.
-pub(in crate::zerotrie_search) fn next_pair_of<'a, A: Allocator>(
+pub(in crate::made::zerotrie_search) fn next_pair_of<'a, A: Allocator>(
     options: ZeroTrieBuilderOptions,
     rest: &mut &'a [u8],
     key: &mut Vec<u8, A>,
@@ -97,7 +97,7 @@ fn go_past<'a, K: ZeroTrieWithOptions, A: Allocator>(
 }
 
 /// Calls `go_past` for the kind that the options name.
-pub(in crate::zerotrie_search) fn go_past_of<'a, A: Allocator>(
+pub(in crate::made::zerotrie_search) fn go_past_of<'a, A: Allocator>(
     options: ZeroTrieBuilderOptions,
     depth: usize,
     rest: &mut &'a [u8],
