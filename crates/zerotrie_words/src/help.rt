@@ -122,7 +122,7 @@ fn add_tip(text: &mut String, apart: Option<(&str, &str)>) -> Result<(), AllocEr
     text.push_str(option)?;
     text.push_str(if option.starts_with("--") { "=" } else { "" })?;
     text.push_str(word)?;
-    text.push_str(" for a text that begins with a hyphen\n\n")
+    text.push_str(" for a text that begins with a hyphen\n")
 }
 
 /// Returns an error of clap as the program says it, of words with such an option. Words that are
@@ -133,9 +133,6 @@ fn error_of(alloc: Global, error: &str, apart: Option<(&str, &str)>) -> Result<S
     let mut was_empty = false;
     for line in error.lines() {
         let is_empty = line.is_empty();
-        if line.starts_with("Usage: ") {
-            add_tip(&mut text, apart)?;
-        }
         if is_said(line) && !(is_empty && was_empty) {
             text.push_str(line)?;
             if line.starts_with("  <") && line.ends_with(">...") {
@@ -145,6 +142,7 @@ fn error_of(alloc: Global, error: &str, apart: Option<(&str, &str)>) -> Result<S
             was_empty = is_empty;
         }
     }
+    add_tip(&mut text, apart)?;
     Ok(text)
 }
 
