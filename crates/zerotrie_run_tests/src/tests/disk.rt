@@ -105,7 +105,11 @@ fn removes(rt: &HostRuntime, path: &str) -> Result<usize, Fail> {
 
 #[test]
 fn files_of_killed_builds_are_removed(rt: HostRuntime) -> Result<(), Fail> {
-    fs::write(&rt, ".killed.zerotrie-9892-1387828229", b"ztri\x89\x8a\r\n and more")?;
+    fs::write(
+        &rt,
+        ".killed.zerotrie-9892-1387828229",
+        b"ztri\x89\x8a\r\n and more",
+    )?;
     fs::write(&rt, ".killed.zerotrie-1-2", b"ztri\x89")?;
     fs::write(&rt, ".killed.zerotrie-0-4294967295", b"")?;
     fs::write(&rt, "killed", b"old")?;
@@ -158,13 +162,23 @@ fn files_of_others_are_spared(rt: HostRuntime) -> Result<(), Fail> {
 #[test]
 fn a_file_that_is_written_is_spared(rt: HostRuntime) -> Result<(), Fail> {
     fs::write(&rt, ".busy.zerotrie-1-1", b"")?;
-    let other = OpenOptions::new().write(true).open(&rt, ".busy.zerotrie-1-1")?;
+    let other = OpenOptions::new()
+        .write(true)
+        .open(&rt, ".busy.zerotrie-1-1")?;
     other.lock()?;
     assert!(rt; removes(&rt, "busy")? == 0);
     assert!(rt; holds(&rt, ".busy.zerotrie-1-1", b""));
     other.unlock()?;
     assert!(rt; removes(&rt, "busy")? == 1);
     assert!(rt; count_of(&rt, ".", ".busy")? == 0);
+    Ok(())
+}
+
+#[test]
+fn new_files_have_other_numbers(rt: HostRuntime) -> Result<(), Fail> {
+    let disk = disk_of(&rt);
+    // two of them are equal once in four billion times
+    assert!(rt; disk.draw(0) != disk.draw(0) || disk.draw(0) != disk.draw(0));
     Ok(())
 }
 
