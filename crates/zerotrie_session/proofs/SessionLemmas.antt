@@ -1,6 +1,7 @@
 -- What a session holds.
 use Rattle.std.proofs.Common.{◌≡◌, ◌≢◌, ℕ, List, [], ◌∷◌, ◌++◌, Option, Some, None, Result, Ok, Err, IfOk, inr, refl, sym, ◌∙◌, ap, subst, arith}
 use Rattle.std.specs.Borrow.{Bor}
+use Rattle.std.specs.Prelude.{MatchResult, IsOkAnd}
 use Rattle.std.proofs.lemmas.List.{map-append, append-nil}
 use Rattle.zerotrie.specs.Kind.{Kind}
 use Rattle.zerotrie.specs.Items.{Items, pairs_of}
@@ -18,6 +19,7 @@ use Rattle.zerotrie.specs.declared.ZeroTrieBuildError.{ZeroTrieBuildError}
 use Rattle.zerotrie_session.specs.Replies.{ok_line, refused_line, number_line, list_lines, walk_line}
 use Rattle.zerotrie_session.specs.declared.command.Choice.{Choice}
 use Rattle.zerotrie_session.specs.declared.answer.Session.{Session}
+use Rattle.zerotrie_session.specs.declared.trie.ChosenTrie.{ChosenTrie}
 use Rattle.zerotrie_session.specs.Commands.{kind_of, choose, add, build, query, list, walk, Command, IsCommand}
 use Rattle.zerotrie_session.specs.Answers.{State, CanDo, in_order, without_trie, with_trie}
 use Rattle.zerotrie_session.specs.Answers.Does.{chosen, added, ok, refused, asked, listed, walked}
@@ -58,6 +60,14 @@ holds_built session choice pairs c p of kind built = record {
   text = refl;
   means = built.means;
 }
+
+-- A build of a type of trie is one of the variant that holds such a trie.
+pub build_within : {B : Type 0} (kind : Kind) (trie_of : B → ChosenTrie) (bytes : B → List ℕ) (pairs : Pairs) (r : Result B ZeroTrieBuildError) (within : Result ChosenTrie ZeroTrieBuildError)
+    → ((b : B) → trie_bytes (trie_of b) ≡ bytes b) → MatchResult r (λ b. IsOkAnd within (λ t. t ≡ trie_of b)) (λ e. within ≡ Err e) → IsBuild any_order kind bytes pairs r → IsBuild any_order kind trie_bytes pairs within
+build_within kind trie_of bytes pairs (Ok b) (Ok t) same cases h =
+    (h.0, subst (IsBuilt kind pairs) (sym (ap trie_bytes cases ∙ same b)) h.1)
+build_within kind trie_of bytes pairs (Ok b) (Err e) same cases h = absurd cases
+build_within kind trie_of bytes pairs (Err e) within same cases h = subst (IsBuild any_order kind trie_bytes pairs) (sym cases) h
 
 pub performed_ok : (after : Session) (s : State) (old new text : List ℕ) → Takes any_order s.pairs → IsBuilt (kind_of s.choice s.pairs) s.pairs (trie_bytes after.trie) → HasState after (with_trie s.choice s.pairs (trie_bytes after.trie)) → text ≡ trie_bytes after.trie → new ≡ old ++ ok_line text → Performed build (Some s) (Some after) old new 0
 performed_ok after s old new text takes built h e output = record {

@@ -1,8 +1,8 @@
 -- Which lines are commands.
 use Rattle.std.specs.Prelude.{◌≡◌, ℕ, ◌⊎◌, List, [], ◌∷◌, ◌++◌, codes}
 use Rattle.zerotrie.specs.Kind.{Kind}
-use Rattle.zerotrie_base.specs.Kinds as kinds
-use Rattle.zerotrie_base.specs.Kinds.{kind_name}
+use Rattle.zerotrie.specs.Kinds as kinds
+use Rattle.zerotrie.specs.Kinds.{kind_name}
 use Rattle.zerotrie.specs.Maps.{Pairs}
 use Rattle.zerotrie.specs.Auto.{auto_kind}
 use Rattle.zerotrie.specs.Machine.{Op}

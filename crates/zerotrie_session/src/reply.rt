@@ -6,11 +6,10 @@ ghost use Rattle.zerotrie.specs.Walks.{answer_of, answers_of};
 ghost use Rattle.zerotrie.specs.Items.{keyed};
 ghost use Rattle.zerotrie.specs.Maps.{Pairs};
 ghost use Rattle.zerotrie.specs.Texts.{Lists};
-ghost use Rattle.zerotrie_base.specs.Kinds.{kind_of};
 
 use std::alloc::{AllocError, Global};
 use std::collections::BTreeMap;
-use zerotrie::{CursorAnswer, Trie, TrieRef, ZeroTrieBuildError};
+use zerotrie::{CursorAnswer, Trie, ZeroTrieBuildError};
 
 /// Writes bytes in hexadecimal, or a dash if there are none.
 fn write_hex(output: &mut String, bytes: &[u8]) -> Result<(), AllocError>
@@ -130,8 +129,8 @@ pub fn write_bad(output: &mut String, line_number: usize) -> Result<(), AllocErr
 }
 
 /// Writes the pairs of a trie, in the order of its nodes.
-pub fn write_pairs(alloc: Global, trie: &TrieRef<'_>, output: &mut String) -> Result<(), AllocError>
-    ensures { OnOk result ((pairs : Pairs) → Lists (kind_of trie.now.kind) trie.now.bytes.now pairs
+pub fn write_pairs<T: Trie>(alloc: Global, trie: &T, output: &mut String) -> Result<(), AllocError>
+    ensures { OnOk result ((pairs : Pairs) → Lists (T.kind trie.now) (T.bytes trie.now) pairs
         → string_bytes output.new ≡ string_bytes output.old ++ list_lines pairs) }
 {
     let mut pairs = trie.stream(alloc);

@@ -57,6 +57,8 @@ fn read_all<R: Read>(alloc: Global, reader: &mut Noted<R>) -> Result<Vec<u8>, Ru
     ensures ok { IfOk result (λ input.
         IfSome (R.remaining reader.old.inner) (λ known. input.items ≡ known)) }
     ensures err { IfErr result (λ e. e ≢ RunError.Write) }
+    ensures endless { reader.new.ended ≡ false → reader.new.failed ≡ false
+        → IsErrOf result RunError.OutOfMemory }
 {
     let mut input: Vec<u8> = Vec::new(alloc);
     let mut chunk = [0u8; 1024];
@@ -100,7 +102,8 @@ pub struct Ended {
 ///   line N` ends the run; `run_explained` returns why.
 /// - The status is 2 after a bad line, else 1 if a build failed, else 0.
 ///
-/// Before any error but `Write`, nothing was written.
+/// Before any error but `Write`, nothing was written. If the reader neither ends nor fails, the error
+/// is `OutOfMemory`.
 pub fn run<R: Read, W: Write>(
     alloc: Global,
     reader: &mut Noted<R>,
@@ -114,6 +117,8 @@ pub fn run<R: Read, W: Write>(
         (output : List ℕ) × Answers input output status
         × Appends (W.contents writer.old.inner) (W.contents writer.new.inner) output)) }
     ensures unwritten { IfErr result (λ e. e ≢ RunError.Write → writer.new ≡ writer.old) }
+    ensures endless { reader.new.ended ≡ false → reader.new.failed ≡ false
+        → IsErrOf result RunError.OutOfMemory }
 {
     Ok(run_explained(alloc, reader, writer)?.status)
 }
@@ -135,6 +140,8 @@ pub fn run_explained<R: Read, W: Write>(
     ensures why { IfOk result (λ ended. IfSome (R.remaining reader.old.inner) (λ input.
         IfSome ended.bad (λ bad. HasBadLine input bad.0 bad.1))) }
     ensures unwritten { IfErr result (λ e. e ≢ RunError.Write → writer.new ≡ writer.old) }
+    ensures endless { reader.new.ended ≡ false → reader.new.failed ≡ false
+        → IsErrOf result RunError.OutOfMemory }
 {
     let input = read_all(alloc, reader)?;
     let answered = answer_all(alloc, input.as_slice())?;

@@ -1,13 +1,11 @@
-//! A trie, and the choice of its kind.
+//! A trie of the kind that was chosen.
 
 ghost use Rattle.std.specs.Prelude.{◌≡◌, ◌≢◌, ◌↔◌, ◌++◌, [], IfOk, OnOk, IfSome, IsSome, string_bytes};
 ghost use Rattle.zerotrie.specs.Items.{pairs_of};
-ghost use Rattle.zerotrie.specs.Listed.{IsListed};
 ghost use Rattle.zerotrie.specs.Maps.{Map, Pairs, look};
 ghost use Rattle.zerotrie.specs.Texts.{Lists, Means};
 ghost use Rattle.zerotrie.specs.Routes.{any_order, IsBuild};
 ghost use Rattle.zerotrie.specs.Walks.{IsWalk};
-ghost use Rattle.zerotrie_base.specs.Kinds as kinds;
 ghost use Rattle.zerotrie_session.specs.Commands.{kind_of};
 ghost use Rattle.zerotrie_session.specs.Answers.{in_order};
 ghost use Rattle.zerotrie_session.specs.Replies.{list_lines};
@@ -17,31 +15,19 @@ ghost use Rattle.zerotrie_session.specs.declared.command.Choice.TheVariants.{Aut
 use crate::command::Choice;
 use crate::reply::{write_pairs, write_sorted};
 use std::alloc::{AllocError, Global};
-use std::collections::BTreeMap;
-use zerotrie::bytes::{bytes_from_unsorted_slice, map_of, walk};
 use zerotrie::{
-    CursorAnswer, CursorOp, ListError, Trie, TrieKind, TrieRef, ZeroTrie, ZeroTrieBuildError,
+    CursorAnswer, CursorOp, Simple, Trie, TrieKind, ZeroAsciiIgnoreCaseTrie, ZeroTrie,
+    ZeroTrieBuildError, ZeroTrieExtendedCapacity, ZeroTriePerfectHash, ZeroTrieSimpleAscii,
 };
-use zerotrie_base::by_kind;
 
-/// Builds the bytes of the trie of the pairs.
-fn bytes_of(
-    alloc: Global,
-    kind: TrieKind,
-    pairs: &[(&[u8], usize)],
-) -> Result<Vec<u8>, ZeroTrieBuildError>
-    ensures { IsBuild any_order (kinds.kind_of kind) (λ bytes. bytes.items) (pairs_of pairs.now)
-        result }
-{
-    by_kind!(kind, bytes_from_unsorted_slice::<_>(alloc, pairs))
-}
-
-/// A trie, and the choice of its kind.
+/// A trie of the kind that was chosen.
 #[derive(Debug, Drop)]
-pub struct ChosenTrie {
-    choice: Choice,
-    kind: TrieKind,
-    bytes: Vec<u8>,
+pub enum ChosenTrie {
+    Simple(ZeroTrieSimpleAscii<Vec<u8>>),
+    Ignore(ZeroAsciiIgnoreCaseTrie<Vec<u8>>),
+    Hash(ZeroTriePerfectHash<Vec<u8>>),
+    Ext(ZeroTrieExtendedCapacity<Vec<u8>>),
+    Auto(ZeroTrie<Vec<u8>>),
 }
 
 impl ChosenTrie {
@@ -51,14 +37,21 @@ impl ChosenTrie {
         ensures kind { trie_kind result ≡ kind_of choice [] }
         ensures bytes { trie_bytes result ≡ [] }
     {
-        let kind = match choice {
-            Choice::Named(kind) => kind,
-            Choice::Auto => TrieKind::Simple,
-        };
-        ChosenTrie {
-            choice,
-            kind,
-            bytes: Vec::new(alloc),
+        let store = Vec::new(alloc);
+        match choice {
+            Choice::Named(TrieKind::Simple) => {
+                ChosenTrie::Simple(ZeroTrieSimpleAscii::from_store(store))
+            }
+            Choice::Named(TrieKind::Ignore) => {
+                ChosenTrie::Ignore(ZeroAsciiIgnoreCaseTrie::from_store(store))
+            }
+            Choice::Named(TrieKind::Hash) => {
+                ChosenTrie::Hash(ZeroTriePerfectHash::from_store(store))
+            }
+            Choice::Named(TrieKind::Ext) => {
+                ChosenTrie::Ext(ZeroTrieExtendedCapacity::from_store(store))
+            }
+            Choice::Auto => ChosenTrie::Auto(ZeroTrie::of_kind::<Simple>(store)),
         }
     }
 
@@ -73,34 +66,21 @@ impl ChosenTrie {
         ensures build { let added = pairs_of pairs.now in
             IsBuild any_order (kind_of choice added) trie_bytes added result }
     {
+        let pairs = pairs.iter().copied();
         match choice {
-            Choice::Named(kind) => {
-                let bytes = bytes_of(alloc, kind, pairs)?;
-                Ok(ChosenTrie {
-                    choice,
-                    kind,
-                    bytes,
-                })
+            Choice::Named(TrieKind::Simple) => {
+                ZeroTrieSimpleAscii::try_from_iter(alloc, pairs).map(ChosenTrie::Simple)
             }
-            Choice::Auto => {
-                let trie = ZeroTrie::try_from_iter(alloc, pairs.iter().copied())?;
-                Ok(ChosenTrie {
-                    choice,
-                    kind: trie.trie_kind(),
-                    bytes: trie.into_store(),
-                })
+            Choice::Named(TrieKind::Ignore) => {
+                ZeroAsciiIgnoreCaseTrie::try_from_iter(alloc, pairs).map(ChosenTrie::Ignore)
             }
-        }
-    }
-
-    /// Returns the trie over the bytes that it holds.
-    fn as_trie(&self) -> TrieRef<'_>
-        ensures kind { kinds.kind_of result.kind ≡ trie_kind self.now }
-        ensures bytes { result.bytes.now ≡ trie_bytes self.now }
-    {
-        TrieRef {
-            kind: self.kind,
-            bytes: self.bytes.as_slice(),
+            Choice::Named(TrieKind::Hash) => {
+                ZeroTriePerfectHash::try_from_iter(alloc, pairs).map(ChosenTrie::Hash)
+            }
+            Choice::Named(TrieKind::Ext) => {
+                ZeroTrieExtendedCapacity::try_from_iter(alloc, pairs).map(ChosenTrie::Ext)
+            }
+            Choice::Auto => ZeroTrie::try_from_iter(alloc, pairs).map(ChosenTrie::Auto),
         }
     }
 
@@ -108,7 +88,13 @@ impl ChosenTrie {
     pub fn as_bytes(&self) -> &[u8]
         ensures { result.now ≡ trie_bytes self.now }
     {
-        self.bytes.as_slice()
+        match self {
+            ChosenTrie::Simple(trie) => trie.as_bytes(),
+            ChosenTrie::Ignore(trie) => trie.as_bytes(),
+            ChosenTrie::Hash(trie) => trie.as_bytes(),
+            ChosenTrie::Ext(trie) => trie.as_bytes(),
+            ChosenTrie::Auto(trie) => trie.as_bytes(),
+        }
     }
 
     /// Returns the number of the key.
@@ -116,7 +102,13 @@ impl ChosenTrie {
         ensures { let kind = trie_kind self.now in
             (m : Map) → Means kind (trie_bytes self.now) m → result ≡ look kind m key.now }
     {
-        self.as_trie().get(key)
+        match self {
+            ChosenTrie::Simple(trie) => trie.get(key),
+            ChosenTrie::Ignore(trie) => trie.get(key),
+            ChosenTrie::Hash(trie) => trie.get(key),
+            ChosenTrie::Ext(trie) => trie.get(key),
+            ChosenTrie::Auto(trie) => trie.get(key),
+        }
     }
 
     /// Returns the results of a walk, or `None` if the kind is `auto`.
@@ -129,21 +121,14 @@ impl ChosenTrie {
         ensures walk { IfOk result (λ r. IfSome r (λ answers.
             IsWalk (trie_kind self.now) (trie_bytes self.now) ops.now answers.items)) }
     {
-        match self.choice {
-            Choice::Named(_) => {
-                let answers = by_kind!(self.kind, walk::<_>(alloc, self.as_bytes(), ops))?;
-                Ok(Some(answers))
-            }
-            Choice::Auto => Ok(None),
-        }
-    }
-
-    /// Returns the map of the pairs.
-    fn to_map(&self, alloc: Global) -> Result<BTreeMap<Vec<u8>, usize>, ListError>
-        ensures { (m : Map) → Means (trie_kind self.now) (trie_bytes self.now) m
-            → IsListed (λ key. key.items) m result }
-    {
-        by_kind!(self.kind, map_of::<_>(alloc, self.as_bytes()))
+        let answers = match self {
+            ChosenTrie::Simple(trie) => trie.walk(alloc, ops)?,
+            ChosenTrie::Ignore(trie) => trie.walk(alloc, ops)?,
+            ChosenTrie::Hash(trie) => trie.walk(alloc, ops)?,
+            ChosenTrie::Ext(trie) => trie.walk(alloc, ops)?,
+            ChosenTrie::Auto(_) => return Ok(None),
+        };
+        Ok(Some(answers))
     }
 
     /// Writes the pairs of the trie, in the order of its nodes, or of the bytes of their keys if
@@ -154,10 +139,13 @@ impl ChosenTrie {
             → string_bytes output.new
             ≡ string_bytes output.old ++ list_lines (in_order (trie_choice self.now) pairs)) }
     {
-        match self.choice {
-            Choice::Named(_) => write_pairs(alloc, &self.as_trie(), output),
-            Choice::Auto => {
-                let Ok(map) = self.to_map(alloc) else {
+        match self {
+            ChosenTrie::Simple(trie) => write_pairs(alloc, trie, output),
+            ChosenTrie::Ignore(trie) => write_pairs(alloc, trie, output),
+            ChosenTrie::Hash(trie) => write_pairs(alloc, trie, output),
+            ChosenTrie::Ext(trie) => write_pairs(alloc, trie, output),
+            ChosenTrie::Auto(trie) => {
+                let Ok(map) = trie.to_btreemap(alloc) else {
                     return Err(AllocError);
                 };
                 write_sorted(&map, output)

@@ -6,7 +6,7 @@
 mod rstd;
 mod zerotrie_session;
 
-use ::zerotrie::{zerotrie_all, zerotrie_base};
+use ::zerotrie::zerotrie_all;
 use crate::rstd::prelude::*;
 use crate::rstd::process::ExitCode;
 pub use crate::zerotrie_session::{Noted, RunError, run};

@@ -4,7 +4,7 @@
 use crate::rstd::prelude::*;
 use crate::rstd::alloc::{AllocError, Global};
 use crate::rstd::collections::BTreeMap;
-use crate::zerotrie_all::{CursorAnswer, Trie, TrieRef, ZeroTrieBuildError};
+use crate::zerotrie_all::{CursorAnswer, Trie, ZeroTrieBuildError};
 
 /// Writes bytes in hexadecimal, or a dash if there are none.
 fn write_hex(output: &mut String, bytes: &[u8]) -> Result<(), AllocError> {
@@ -100,7 +100,7 @@ pub fn write_bad(output: &mut String, line_number: usize) -> Result<(), AllocErr
 }
 
 /// Writes the pairs of a trie, in the order of its nodes.
-pub fn write_pairs(alloc: Global, trie: &TrieRef<'_>, output: &mut String) -> Result<(), AllocError> {
+pub fn write_pairs<T: Trie>(alloc: Global, trie: &T, output: &mut String) -> Result<(), AllocError> {
     let mut pairs = trie.stream(alloc);
     while pairs.advance()? {
         write_pair(output, pairs.key(), pairs.value())?;

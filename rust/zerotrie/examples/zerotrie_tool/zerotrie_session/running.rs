@@ -93,7 +93,8 @@ pub struct Ended {
 ///   line N` ends the run; `run_explained` returns why.
 /// - The status is 2 after a bad line, else 1 if a build failed, else 0.
 ///
-/// Before any error but `Write`, nothing was written.
+/// Before any error but `Write`, nothing was written. If the reader neither ends nor fails, the error
+/// is `OutOfMemory`.
 pub fn run<R: Read, W: Write>(
     alloc: Global,
     reader: &mut Noted<R>,

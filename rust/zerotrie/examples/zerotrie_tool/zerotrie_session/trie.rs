@@ -1,45 +1,43 @@
 // Made from crates/zerotrie_session/src/trie.rt by rust/make: edit that.
-//! A trie, and the choice of its kind.
+//! A trie of the kind that was chosen.
 
 use crate::rstd::prelude::*;
 use crate::zerotrie_session::command::Choice;
 use crate::zerotrie_session::reply::{write_pairs, write_sorted};
 use crate::rstd::alloc::{AllocError, Global};
-use crate::rstd::collections::BTreeMap;
-use crate::zerotrie_all::bytes::{bytes_from_unsorted_slice, map_of, walk};
 use crate::zerotrie_all::{
-    CursorAnswer, CursorOp, ListError, Trie, TrieKind, TrieRef, ZeroTrie, ZeroTrieBuildError,
+    CursorAnswer, CursorOp, Simple, Trie, TrieKind, ZeroAsciiIgnoreCaseTrie, ZeroTrie,
+    ZeroTrieBuildError, ZeroTrieExtendedCapacity, ZeroTriePerfectHash, ZeroTrieSimpleAscii,
 };
-use crate::zerotrie_base::by_kind;
 
-/// Builds the bytes of the trie of the pairs.
-fn bytes_of(
-    alloc: Global,
-    kind: TrieKind,
-    pairs: &[(&[u8], usize)],
-) -> Result<Vec<u8>, ZeroTrieBuildError> {
-    by_kind!(kind, bytes_from_unsorted_slice::<_>(alloc, pairs))
-}
-
-/// A trie, and the choice of its kind.
+/// A trie of the kind that was chosen.
 #[derive(Debug)]
-pub struct ChosenTrie {
-    choice: Choice,
-    kind: TrieKind,
-    bytes: Vec<u8>,
+pub enum ChosenTrie {
+    Simple(ZeroTrieSimpleAscii<Vec<u8>>),
+    Ignore(ZeroAsciiIgnoreCaseTrie<Vec<u8>>),
+    Hash(ZeroTriePerfectHash<Vec<u8>>),
+    Ext(ZeroTrieExtendedCapacity<Vec<u8>>),
+    Auto(ZeroTrie<Vec<u8>>),
 }
 
 impl ChosenTrie {
     /// Returns the trie without pairs.
     pub fn empty(alloc: Global, choice: Choice) -> Self {
-        let kind = match choice {
-            Choice::Named(kind) => kind,
-            Choice::Auto => TrieKind::Simple,
-        };
-        ChosenTrie {
-            choice,
-            kind,
-            bytes: Vec::new(alloc),
+        let store = Vec::new(alloc);
+        match choice {
+            Choice::Named(TrieKind::Simple) => {
+                ChosenTrie::Simple(ZeroTrieSimpleAscii::from_store(store))
+            }
+            Choice::Named(TrieKind::Ignore) => {
+                ChosenTrie::Ignore(ZeroAsciiIgnoreCaseTrie::from_store(store))
+            }
+            Choice::Named(TrieKind::Hash) => {
+                ChosenTrie::Hash(ZeroTriePerfectHash::from_store(store))
+            }
+            Choice::Named(TrieKind::Ext) => {
+                ChosenTrie::Ext(ZeroTrieExtendedCapacity::from_store(store))
+            }
+            Choice::Auto => ChosenTrie::Auto(ZeroTrie::of_kind::<Simple>(store)),
         }
     }
 
@@ -49,42 +47,44 @@ impl ChosenTrie {
         choice: Choice,
         pairs: &[(&[u8], usize)],
     ) -> Result<Self, ZeroTrieBuildError> {
+        let pairs = pairs.iter().copied();
         match choice {
-            Choice::Named(kind) => {
-                let bytes = bytes_of(alloc, kind, pairs)?;
-                Ok(ChosenTrie {
-                    choice,
-                    kind,
-                    bytes,
-                })
+            Choice::Named(TrieKind::Simple) => {
+                ZeroTrieSimpleAscii::try_from_iter(alloc, pairs).map(ChosenTrie::Simple)
             }
-            Choice::Auto => {
-                let trie = ZeroTrie::try_from_iter(alloc, pairs.iter().copied())?;
-                Ok(ChosenTrie {
-                    choice,
-                    kind: trie.trie_kind(),
-                    bytes: trie.into_store(),
-                })
+            Choice::Named(TrieKind::Ignore) => {
+                ZeroAsciiIgnoreCaseTrie::try_from_iter(alloc, pairs).map(ChosenTrie::Ignore)
             }
-        }
-    }
-
-    /// Returns the trie over the bytes that it holds.
-    fn as_trie(&self) -> TrieRef<'_> {
-        TrieRef {
-            kind: self.kind,
-            bytes: self.bytes.as_slice(),
+            Choice::Named(TrieKind::Hash) => {
+                ZeroTriePerfectHash::try_from_iter(alloc, pairs).map(ChosenTrie::Hash)
+            }
+            Choice::Named(TrieKind::Ext) => {
+                ZeroTrieExtendedCapacity::try_from_iter(alloc, pairs).map(ChosenTrie::Ext)
+            }
+            Choice::Auto => ZeroTrie::try_from_iter(alloc, pairs).map(ChosenTrie::Auto),
         }
     }
 
     /// Returns the bytes of the trie.
     pub fn as_bytes(&self) -> &[u8] {
-        self.bytes.as_slice()
+        match self {
+            ChosenTrie::Simple(trie) => trie.as_bytes(),
+            ChosenTrie::Ignore(trie) => trie.as_bytes(),
+            ChosenTrie::Hash(trie) => trie.as_bytes(),
+            ChosenTrie::Ext(trie) => trie.as_bytes(),
+            ChosenTrie::Auto(trie) => trie.as_bytes(),
+        }
     }
 
     /// Returns the number of the key.
     pub fn get(&self, key: &[u8]) -> Option<usize> {
-        self.as_trie().get(key)
+        match self {
+            ChosenTrie::Simple(trie) => trie.get(key),
+            ChosenTrie::Ignore(trie) => trie.get(key),
+            ChosenTrie::Hash(trie) => trie.get(key),
+            ChosenTrie::Ext(trie) => trie.get(key),
+            ChosenTrie::Auto(trie) => trie.get(key),
+        }
     }
 
     /// Returns the results of a walk, or `None` if the kind is `auto`.
@@ -93,27 +93,26 @@ impl ChosenTrie {
         alloc: Global,
         ops: &[CursorOp],
     ) -> Result<Option<Vec<CursorAnswer>>, AllocError> {
-        match self.choice {
-            Choice::Named(_) => {
-                let answers = by_kind!(self.kind, walk::<_>(alloc, self.as_bytes(), ops))?;
-                Ok(Some(answers))
-            }
-            Choice::Auto => Ok(None),
-        }
-    }
-
-    /// Returns the map of the pairs.
-    fn to_map(&self, alloc: Global) -> Result<BTreeMap<Vec<u8>, usize>, ListError> {
-        by_kind!(self.kind, map_of::<_>(alloc, self.as_bytes()))
+        let answers = match self {
+            ChosenTrie::Simple(trie) => trie.walk(alloc, ops)?,
+            ChosenTrie::Ignore(trie) => trie.walk(alloc, ops)?,
+            ChosenTrie::Hash(trie) => trie.walk(alloc, ops)?,
+            ChosenTrie::Ext(trie) => trie.walk(alloc, ops)?,
+            ChosenTrie::Auto(_) => return Ok(None),
+        };
+        Ok(Some(answers))
     }
 
     /// Writes the pairs of the trie, in the order of its nodes, or of the bytes of their keys if
     /// the kind is `auto`.
     pub fn write_list(&self, alloc: Global, output: &mut String) -> Result<(), AllocError> {
-        match self.choice {
-            Choice::Named(_) => write_pairs(alloc, &self.as_trie(), output),
-            Choice::Auto => {
-                let Ok(map) = self.to_map(alloc) else {
+        match self {
+            ChosenTrie::Simple(trie) => write_pairs(alloc, trie, output),
+            ChosenTrie::Ignore(trie) => write_pairs(alloc, trie, output),
+            ChosenTrie::Hash(trie) => write_pairs(alloc, trie, output),
+            ChosenTrie::Ext(trie) => write_pairs(alloc, trie, output),
+            ChosenTrie::Auto(trie) => {
+                let Ok(map) = trie.to_btreemap(alloc) else {
                     return Err(AllocError);
                 };
                 write_sorted(&map, output)

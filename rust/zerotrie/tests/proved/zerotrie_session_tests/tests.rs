@@ -111,10 +111,15 @@ fn sessions_of_each_kind() -> Result<(), Fail> {
 #[test]
 fn builds_are_refused() -> Result<(), Fail> {
     let rt = HostRuntime;
-    let rows: [(&[u8], &[u8], u8); 7] = [
+    let rows: [(&[u8], &[u8], u8); 8] = [
         (b"", b"", 0),
         // The last line may lack its end.
         (b"kind hash\n+ 1 b\nbuild\n? b", b"ok 2 6281\n1\n", 0),
+        (
+            b"kind simple\n+ 11\n+ 22 ad\n+ 33 adef\n+ 44 adghk\nbuild\n? a",
+            b"ok 16 8b61649006c2656703669011686b901c\nnone\n",
+            0,
+        ),
         // A key that comes twice is an error, and the pairs stay.
         (
             b"kind simple\n+ 1 b\nbuild\n? b\n+ 2 b\nbuild\n? b\n",
@@ -319,10 +324,10 @@ fn faults_of_readers() -> Result<(), Fail> {
         let answer = run(rt.alloc(), &mut reader, &mut writer);
         let output = writer.into_inner();
         if calls < 3 {
-            assert!(answer == Err(RunError::Read) && reader.failed());
+            assert!(answer == Err(RunError::Read) && reader.failed() && !reader.ended());
             assert!(output.is_empty());
         } else {
-            assert!(answer == Ok(0) && !reader.failed());
+            assert!(answer == Ok(0) && !reader.failed() && reader.ended());
             same(&rt, output.as_slice(), b"none\n".as_slice());
         }
     }
