@@ -84,11 +84,11 @@ texts_push [] line = refl
 texts_push (l ∷ lines) line = ap (λ t. l.now ∷ t) (texts_push lines line)
 
 -- one line more
-pub read_on : (all : List (List ℕ)) (done : List (Bor (List ℕ))) (rest after : List ℕ) (line : Bor (List ℕ)) → map {B = List ℕ} (λ l. l.now) done ++ lines_of rest ≡ all → rest ≢ []
-    → line.now ≡ before_first is_feed rest → after ≡ after_first is_feed rest → map {B = List ℕ} (λ l. l.now) (done ++ line ∷ []) ++ lines_of after ≡ all
-read_on all done rest after line old some is are =
-    ap (λ t. t ++ lines_of after) (texts_push done line) ∙ append_assoc (map {B = List ℕ} (λ l. l.now) done) (line.now ∷ []) (lines_of after)
-    ∙ ap (λ t. map {B = List ℕ} (λ l. l.now) done ++ t) (sym (first_lines rest line.now after some is are)) ∙ old
+pub read_on : (all rows after : List (List ℕ)) (done : List (Bor (List ℕ))) (line : Bor (List ℕ)) → map {B = List ℕ} (λ l. l.now) done ++ rows ≡ all → rows ≡ line.now ∷ after
+    → map {B = List ℕ} (λ l. l.now) (done ++ line ∷ []) ++ after ≡ all
+read_on all rows after done line old is =
+    ap (λ t. t ++ after) (texts_push done line) ∙ append_assoc (map {B = List ℕ} (λ l. l.now) done) (line.now ∷ []) after
+    ∙ ap (λ t. map {B = List ℕ} (λ l. l.now) done ++ t) (sym is) ∙ old
 
 pub after_shorter : (input : List ℕ) → input ≢ [] → length (after_first is_feed input) < length input
 after_shorter [] some = absurd (some refl)

@@ -4,7 +4,7 @@ ghost use Rattle.std.specs.Prelude.{◌≡◌, ◌≢◌, ◌++◌, ◌∷◌, �
 ghost use Rattle.std.specs.List.{before_first, after_first};
 ghost use Rattle.zerotrie_lines.specs.Tables.{Pair};
 ghost use Rattle.zerotrie_lines.specs.Escapes.{Spells};
-ghost use Rattle.zerotrie_lines.specs.Lines.{is_feed, lines_of, without_return, ended, HasTab, IsKeyText, IsPairLine, tsv_line};
+ghost use Rattle.zerotrie_lines.specs.Lines.{is_feed, without_return, ended, ended_lines, HasTab, IsKeyText, IsPairLine, tsv_line};
 ghost use Rattle.zerotrie_lines.specs.Reads.{IsLineFault};
 
 use crate::copies::push_bytes;
@@ -36,18 +36,6 @@ pub fn take_line<'a>(rest: &mut &'a [u8]) -> &'a [u8]
     }
 }
 
-/// Returns the lines of an input, each without its line feed. It allocates the list alone.
-pub fn read_lines(alloc: Global, input: &[u8]) -> Result<Vec<&[u8]>, AllocError>
-    ensures { IfOk result (λ lines. map (λ line. line.now) lines.items ≡ lines_of input.now) }
-{
-    let mut lines = Vec::new(alloc);
-    let mut rest = input;
-    while !rest.is_empty() {
-        lines.push(take_line(&mut rest))?;
-    }
-    Ok(lines)
-}
-
 /// Returns a line without the carriage return that may be at its end.
 #[inline(always)]
 fn without_return(line: &[u8]) -> &[u8]
@@ -70,6 +58,18 @@ pub(crate) fn take_ended<'a>(end: LineEnd, rest: &mut &'a [u8]) -> &'a [u8]
         LineEnd::CrLf => without_return(line),
         LineEnd::Lf => line,
     }
+}
+
+/// Returns the lines of a text, each without what ends it. It allocates the list alone.
+pub fn read_lines(alloc: Global, end: LineEnd, text: &[u8]) -> Result<Vec<&[u8]>, AllocError>
+    ensures { IfOk result (λ lines. map (λ line. line.now) lines.items ≡ ended_lines end text.now) }
+{
+    let mut lines = Vec::new(alloc);
+    let mut rest = text;
+    while !rest.is_empty() {
+        lines.push(take_ended(end, &mut rest))?;
+    }
+    Ok(lines)
 }
 
 /// Adds the pair of a key, which may have escapes, and returns whether it is well-formed. `key` is

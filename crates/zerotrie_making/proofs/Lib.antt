@@ -1,3 +1,4 @@
+pub mod OtherLemmas
 mod ShownLemmas
 mod MadeLemmas
 mod PlaceLemmas

@@ -2,11 +2,12 @@
 use Rattle.std.specs.Prelude.{◌≡◌, ℕ, List, [], ◌∷◌, Option, Some, None, codes, if◌then◌else◌, option_map, option_and_then}
 use Rattle.std.specs.Option.{option_or, option_zip}
 use Rattle.std.specs.Str.{is_utf8}
-use Rattle.csv.specs.Reading.{strip_bom}
 use Rattle.json.specs.Json.{Json, document}
 use Rattle.json.specs.Find.{get}
-use Rattle.zerotrie_lines.specs.Lines.{lines_of}
+use Rattle.zerotrie_lines.specs.Lines.{text_lines}
 use Rattle.zerotrie_lines.specs.Tables.{Pair, Pairs}
+use Rattle.zerotrie_lines.specs.declared.reading.Header.TheVariants.{Absent}
+use Rattle.zerotrie_lines.specs.declared.reading.LineEnd.TheVariants.{Lf}
 use Rattle.zerotrie_making.specs.Json.{key_in, number_in, pair_in}
 use Rattle.zerotrie_making.specs.Unread.{first_or_later}
 use Rattle.zerotrie_making.specs.declared.error.NoPair.{NoPair}
@@ -36,7 +37,7 @@ first_bad_line (line ∷ lines) = first_or_later (pair_in_line line) (first_bad_
 
 -- the lines of an input, after the byte order mark that may be in front
 abbrev pub json_lines : List ℕ → List (List ℕ)
-json_lines input = lines_of (strip_bom input)
+json_lines input = text_lines Lf Absent input
 
 -- this is the first line in which no pair is, if there is one
 abbrev pub IsFirstLine : List (List ℕ) → Option NoPair → Type 0

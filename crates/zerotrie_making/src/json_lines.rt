@@ -12,7 +12,7 @@ use crate::json_pairs::{key_of, number_of, pair_of, value_of};
 use json::{Scratch, Value};
 use std::alloc::{AllocError, Global};
 use zerotrie_any::JsonError;
-use zerotrie_lines::{Table, read_lines, without_mark};
+use zerotrie_lines::{LineEnd, Table, read_lines, without_mark};
 
 /// Returns the pair in an object, whose members `key` and `value` have it.
 fn named_pair_of(alloc: Global, value: &Value<'_>) -> Result<(Vec<u8>, usize), JsonError>
@@ -88,7 +88,7 @@ pub(crate) fn read_json_lines(alloc: Global, input: &[u8]) -> Result<Table, Make
     ensures ok { IfOk result (λ table. IsPairs JsonLines input.now table) }
     ensures err { IfErr result (λ e. NoPairs JsonLines input.now e) }
 {
-    let lines = read_lines(alloc, without_mark(input))?;
+    let lines = read_lines(alloc, LineEnd::Lf, without_mark(input))?;
     match pairs_of_lines(alloc, lines.as_slice()) {
         Ok(table) => Ok(table),
         Err(JsonError::Shape) => Err(match first_bad_line(alloc, lines.as_slice())? {

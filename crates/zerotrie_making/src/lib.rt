@@ -18,5 +18,5 @@ pub use combine::{kind_kept, make_combined};
 pub use duplicates::Duplicates;
 pub use error::{CombinationError, MakeError, NoPair, NumberedKey, Shown};
 pub use file::make;
-pub use others::OtherFile;
+pub use others::{OtherFile, is_settled, other_file};
 pub use plan::{Combination, FileForm, FilePlan, Made, Plan, ReadPlan, Source};

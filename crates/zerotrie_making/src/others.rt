@@ -1,11 +1,12 @@
-//! Files that are given for pairs by mistake.
+//! Files that are given for pairs or keys by mistake.
 
-ghost use Rattle.std.specs.Prelude.{◌≡◌, ◌↔◌, IsTrue};
-ghost use Rattle.zerotrie_making.specs.Others.{IsGzip, IsOther, IsUtf16};
+ghost use Rattle.std.specs.Prelude.{◌≡◌, ◌≤◌, ◌⊎◌, ◌==◌, ◌↔◌, IsTrue, true, false, length};
+ghost use Rattle.std.specs.List.{list_any};
+ghost use Rattle.zerotrie_making.specs.Others.{HasUtf16Mark, IsGzip, IsOther, IsSettled, IsUtf16};
 
 use zerotrie_sealed::begins_sealed;
 
-/// A file that is given for pairs by mistake, known by the bytes that it begins with.
+/// A file that is given for pairs or keys by mistake, known by the bytes that it begins with.
 #[derive(Clone, Copy, PartialEq, Eq, Debug)]
 pub enum OtherFile {
     /// A text in UTF-16: it begins with the byte order mark of that, and a byte of it is zero.
@@ -16,12 +17,19 @@ pub enum OtherFile {
     Sealed,
 }
 
+/// Returns whether an input begins with the byte order mark of UTF-16.
+fn has_utf16_mark(input: &[u8]) -> bool
+    ensures { IsTrue result ↔ HasUtf16Mark input.now }
+{
+    input.starts_with(&[0xFF, 0xFE]) || input.starts_with(&[0xFE, 0xFF])
+}
+
 /// Returns whether an input is a text in UTF-16. No lines of a listing are, since a zero byte of a
 /// key has an escape.
 fn is_utf16(input: &[u8]) -> bool
     ensures { IsTrue result ↔ IsUtf16 input.now }
 {
-    (input.starts_with(&[0xFF, 0xFE]) || input.starts_with(&[0xFE, 0xFF])) && input.contains(&0)
+    has_utf16_mark(input) && input.contains(&0)
 }
 
 /// Returns whether an input begins as what gzip makes.
@@ -32,7 +40,12 @@ fn is_gzip(input: &[u8]) -> bool
 }
 
 /// Returns which other file an input is. `None` if it is none of them.
-pub(crate) fn other_file(input: &[u8]) -> Option<OtherFile>
+///
+/// ```
+/// assert_eq!(rt; other_file(b"\xff\xfea\x00\n\x00"), Some(OtherFile::Utf16));
+/// assert_eq!(rt; other_file(b"\xff\xfea\n"), None);
+/// ```
+pub fn other_file(input: &[u8]) -> Option<OtherFile>
     ensures { IsOther input.now result }
 {
     if is_utf16(input) {
@@ -44,4 +57,26 @@ pub(crate) fn other_file(input: &[u8]) -> Option<OtherFile>
     } else {
         None
     }
+}
+
+/// Returns whether the beginning of an input shows which other file it is, or that it is none of
+/// them. Of what begins with the byte order mark of UTF-16, only the bytes from `from` on are
+/// searched for a zero.
+///
+/// ```
+/// assert!(rt; is_settled(b"z\n", 0));
+/// assert!(rt; !is_settled(b"ztri", 0));
+/// assert!(rt; !is_settled(b"\xff\xfea\n", 0));
+/// ```
+pub fn is_settled(input: &[u8], from: usize) -> bool
+    requires { from ≤ length input.now }
+    ensures settled { result ≡ true → IsSettled input.now }
+    ensures open { result ≡ false
+        → HasUtf16Mark input.now ⊎ (list_any (λ b. b == 10) input.now ≡ false) }
+{
+    if has_utf16_mark(input) {
+        let (_, fresh) = input.split_at(from);
+        return fresh.contains(&0);
+    }
+    input.len() >= 8 || input.contains(&b'\n')
 }

@@ -23,10 +23,13 @@ use Rattle.zerotrie_files.specs.Faults.{Watched}
 use Rattle.zerotrie_queries.specs.declared.file.OpenError.TheVariants.{BadTag, Damaged, NotWellFormed, OutOfMemory}
 use Rattle.zerotrie_queries.specs.Finders.{Dictionary, KindFinds, TrieFinds, IndexFinds}
 use Rattle.zerotrie_run.specs.Runs.Content.{of_trie, of_index, in_blocks}
-use Rattle.zerotrie_run.specs.Runs.{Answers, AnswersInPart, Content, ContentAnswers, ContentAnswersInPart, IndexAnswers, IndexAnswersInPart, AreKeys, KeysAnswered, KeysAnsweredInPart, IsNoAnswer, IsRead, IsUnanswered, Opens, EndsAsk, ask_refusal, are_lines, of_lines, IsUnasked}
+use Rattle.zerotrie_run.specs.Runs.{Answers, AnswersInPart, Content, ContentAnswers, ContentAnswersInPart, IndexAnswers, IndexAnswersInPart, AreKeys, KeysAnswered, KeysAnsweredInPart, IsNoAnswer, IsRead, IsUnanswered, AreLines, HasNoKeys, HasNoLines, Opens, EndsAsk, ask_refusal, are_lines, of_lines, IsUnasked}
 use Rattle.zerotrie_run.specs.Told.{HasReason}
 use Rattle.zerotrie_run.specs.declared.ask.AskError.{AskError}
 use Rattle.zerotrie_run.specs.declared.ask.AskError.TheVariants.{TwoInputs, Unread, NoTrie, NotText, Unanswered}
+use Rattle.zerotrie_making.specs.declared.others.OtherFile.{OtherFile}
+use Rattle.zerotrie_run.specs.declared.stdin_lines.AnswerError.{AnswerError}
+use Rattle.zerotrie_run.specs.declared.stdin_lines.AnswerError.TheVariants.{Input, NoLines, Output}
 use Rattle.zerotrie_run.specs.declared.command.TrieFile.{TrieFile}
 use Rattle.zerotrie_run.specs.declared.command.Place.{Place}
 use Rattle.zerotrie_run.specs.declared.command.Place.TheVariants.{Stream}
@@ -70,10 +73,14 @@ other_keys : (keys : Keys) (i j : Option (List ℕ)) (ks : List (List ℕ)) → 
 other_keys (Words words) i j ks apart h = h
 other_keys Lines i j ks apart h = absurd (apart refl)
 
+other_lines : (keys : Keys) (i j : Option (List ℕ)) → (are_lines keys ≡ true → ⊥) → AreLines keys i → AreLines keys j
+other_lines (Words words) i j apart h = h
+other_lines Lines i j apart h = absurd (apart refl)
+
 -- an answer whose keys are no lines is one whatever standard input has
 other_input : (q : Question) (i j : Option (List ℕ)) (kind : TrieKind) (bytes : List ℕ) (a b : Option (List ℕ)) (all : Bool) → (of_lines q ≡ true → ⊥) → Answers q i kind bytes a b all
     → Answers q j kind bytes a b all
-other_input (LookUp of keys) i j kind bytes a b all apart h = (h.0, other_keys keys i j h.0 apart h.1, h.2)
+other_input (LookUp of keys) i j kind bytes a b all apart h = (h.0, (other_keys keys i j h.0 apart h.1.0, other_lines keys i j apart h.1.1), h.2)
 other_input (Listing form choice order limit) i j kind bytes a b all apart h = h
 other_input (Distances choice limit) i j kind bytes a b all apart h = h
 other_input (Code language name) i j kind bytes a b all apart h = h
@@ -82,7 +89,7 @@ other_input (Report form) i j kind bytes a b all apart h = h
 other_input (View view) i j kind bytes a b all apart h = h
 
 other_input_index : (q : Question) (i j : Option (List ℕ)) (bytes : List ℕ) (a b : Option (List ℕ)) (all : Bool) → (of_lines q ≡ true → ⊥) → IndexAnswers q i bytes a b all → IndexAnswers q j bytes a b all
-other_input_index (LookUp of keys) i j bytes a b all apart h = (h.0, other_keys keys i j h.0 apart h.1, h.2)
+other_input_index (LookUp of keys) i j bytes a b all apart h = (h.0, (other_keys keys i j h.0 apart h.1.0, other_lines keys i j apart h.1.1), h.2)
 other_input_index (Listing form choice order limit) i j bytes a b all apart h = h
 other_input_index (Distances choice limit) i j bytes a b all apart h = h
 other_input_index (Code language name) i j bytes a b all apart h = h
@@ -104,7 +111,7 @@ same_answer place remaining old new x q a b all apart (inr is) h = subst (λ r. 
 -- an answer to keys is a beginning of itself
 keys_in_part : (of : Query) (keys : Keys) (input : Option (List ℕ)) (Has : Dictionary → Type 0) (a b : Option (List ℕ)) (all : Bool) → KeysAnswered of keys input Has a b all
     → KeysAnsweredInPart of keys input Has a b
-keys_in_part of keys input Has a b all h = (h.0, h.1, begun_all of Has h.0 a b all h.2)
+keys_in_part of keys input Has a b all h = (h.0, h.1.0, begun_all of Has h.0 a b all h.2)
 
 -- what is answered of more dictionaries is answered of these
 pub keys_of_more : (of : Query) (keys : Keys) (input : Option (List ℕ)) (Has Some : Dictionary → Type 0) (a b : Option (List ℕ)) (all : Bool) → ((d : Dictionary) → Some d → Has d)
@@ -172,32 +179,65 @@ pub same_part : {R : Type 0} (place : Place) (remaining : R → Option (List ℕ
 same_part place remaining old new x q a b apart (inl is) h = other_part_content x q (remaining new.inner) (remaining old.inner) a b (λ lines. apart (is, lines)) h
 same_part place remaining old new x q a b apart (inr is) h = subst (λ r. ContentAnswersInPart x q (remaining r.inner) a b) is h
 
+-- keys that are no lines of standard input are none whatever it has
+other_no_keys : (q : Question) (i j : Option (List ℕ)) (a b : Option (List ℕ)) (e : AnswerError) → (of_lines q ≡ true → ⊥) → HasNoKeys q i a b e → HasNoKeys q j a b e
+other_no_keys (LookUp of Lines) i j a b e apart h = absurd (apart refl)
+other_no_keys (LookUp of (Words words)) i j a b (Input e) apart h = h
+other_no_keys (LookUp of (Words words)) i j a b (NoLines o) apart h = absurd h.0
+other_no_keys (LookUp of (Words words)) i j a b (Output e) apart h = h
+other_no_keys (Listing form choice order limit) i j a b e apart h = h
+other_no_keys (Distances choice limit) i j a b e apart h = h
+other_no_keys (Code language name) i j a b e apart h = h
+other_no_keys Verify i j a b e apart h = h
+other_no_keys (Report form) i j a b e apart h = h
+other_no_keys (View view) i j a b e apart h = h
+
+pub same_keys : {R : Type 0} (place : Place) (remaining : R → Option (List ℕ)) (old new : Watched R) (q : Question) (a b : Option (List ℕ)) (e : AnswerError)
+    → ((place ≡ Stream) × (of_lines q ≡ true) → ⊥) → (place ≡ Stream) ⊎ (new ≡ old) → HasNoKeys q (remaining new.inner) a b e → HasNoKeys q (remaining old.inner) a b e
+same_keys place remaining old new q a b e apart (inl is) h = other_no_keys q (remaining new.inner) (remaining old.inner) a b e (λ lines. apart (is, lines)) h
+same_keys place remaining old new q a b e apart (inr is) h = subst (λ r. HasNoKeys q (remaining r.inner) a b e) is h
+
+no_lines : (q : Question) (i : Option (List ℕ)) (a b : Option (List ℕ)) (o : OtherFile) → HasNoKeys q i a b (NoLines o) → HasNoLines q i o × (b ≡ a)
+no_lines (LookUp of keys) i a b o h = h
+no_lines (Listing form choice order limit) i a b o h = absurd (cc)
+no_lines (Distances choice limit) i a b o h = absurd (cc)
+no_lines (Code language name) i a b o h = absurd (cc)
+no_lines Verify i a b o h = absurd (cc)
+no_lines (Report form) i a b o h = absurd (cc)
+no_lines (View view) i a b o h = absurd (cc)
+
 -- what is false is not so
 pub is_not : (b : Bool) → b ≡ false → IsTrue b → ⊥
 is_not b is so = absurd (cc)
 
 -- what was read has no answer, and so the question ends
 pub ends_unanswered : (file : TrieFile) (q : Question) (i j : Option (List ℕ)) (files : Option Story) (held : List ℕ) (old new : Option (List ℕ)) (e : AskError) → IsRead file.place i files held
-    → ((x : Content) → ContentAnswersInPart x q j old new → ContentAnswersInPart x q i old new) → IsUnanswered file q j held old new e
-    → EndsAsk file q i files old new (ask_refusal e)
-ends_unanswered file q i j files held old new TwoInputs read same h = absurd h
-ends_unanswered file q i j files held old new (Unread e) read same h = absurd h
-ends_unanswered file q i j files held old new (NoTrie (BadTag why) t) read same h = ((held, read, BadTag why, h.0), h.2)
-ends_unanswered file q i j files held old new (NoTrie (Damaged why) t) read same h = ((held, read, Damaged why, h.0), h.2)
-ends_unanswered file q i j files held old new (NoTrie (NotWellFormed k f) t) read same h = ((held, read, NotWellFormed k f, h.0), h.2)
-ends_unanswered file q i j files held old new (NoTrie OutOfMemory t) read same h = inl h.2
-ends_unanswered file q i j files held old new (Unanswered e) read same h = inr (record { held = held; read = read; content = h.0; opens = inl h.1; begun = same h.0 h.2 })
-ends_unanswered file q i j files held old new (NotText key) read same h = (key.items, record { held = held; read = read; kind = h.0; bytes = h.1; opens = h.2; shows = h.3 }, h.4)
+    → ((x : Content) → ContentAnswersInPart x q j old new → ContentAnswersInPart x q i old new) → ((e : AnswerError) → HasNoKeys q j old new e → HasNoKeys q i old new e)
+    → IsUnanswered file q j held old new e → EndsAsk file q i files old new (ask_refusal e)
+ends_unanswered file q i j files held old new TwoInputs read same keys h = absurd h
+ends_unanswered file q i j files held old new (Unread e) read same keys h = absurd h
+ends_unanswered file q i j files held old new (NoTrie (BadTag why) t) read same keys h = ((held, read, BadTag why, h.0), h.2)
+ends_unanswered file q i j files held old new (NoTrie (Damaged why) t) read same keys h = ((held, read, Damaged why, h.0), h.2)
+ends_unanswered file q i j files held old new (NoTrie (NotWellFormed k f) t) read same keys h = ((held, read, NotWellFormed k f, h.0), h.2)
+ends_unanswered file q i j files held old new (NoTrie OutOfMemory t) read same keys h = inl h.2
+ends_unanswered file q i j files held old new (Unanswered (Input e)) read same keys h = inr (record { held = held; read = read; content = h.0; opens = inl h.1; begun = same h.0 h.2 })
+ends_unanswered file q i j files held old new (Unanswered (Output e)) read same keys h = inr (record { held = held; read = read; content = h.0; opens = inl h.1; begun = same h.0 h.2 })
+ends_unanswered file q i j files held old new (Unanswered (NoLines o)) read same keys h =
+    let none = no_lines q i old new o (keys (NoLines o) h.3) in
+    (o, record { held = held; read = read; content = h.0; opens = h.1; keys = none.0 }, none.1)
+ends_unanswered file q i j files held old new (NotText key) read same keys h = (key.items, record { held = held; read = read; kind = h.0; bytes = h.1; opens = h.2; shows = h.3 }, h.4)
 
 -- why it has none is so of what was read
 pub reason_unanswered : (file : TrieFile) (q : Question) (i j : Option (List ℕ)) (files : Option Story) (held : List ℕ) (old new : Option (List ℕ)) (e : AskError) → IsRead file.place i files held
-    → IsUnanswered file q j held old new e
+    → ((e : AnswerError) → HasNoKeys q j old new e → HasNoKeys q i old new e) → IsUnanswered file q j held old new e
     → HasReason (IsUnasked file q) file q i files e
-reason_unanswered file q i j files held old new TwoInputs read h = tt
-reason_unanswered file q i j files held old new (Unread e) read h = tt
-reason_unanswered file q i j files held old new (NoTrie why t) read h = (held, read, h.0.0, h.1)
-reason_unanswered file q i j files held old new (Unanswered e) read h = tt
-reason_unanswered file q i j files held old new (NotText key) read h = record { held = held; read = read; kind = h.0; bytes = h.1; opens = h.2; shows = h.3 }
+reason_unanswered file q i j files held old new TwoInputs read keys h = tt
+reason_unanswered file q i j files held old new (Unread e) read keys h = tt
+reason_unanswered file q i j files held old new (NoTrie why t) read keys h = (held, read, h.0.0, h.1)
+reason_unanswered file q i j files held old new (Unanswered (Input e)) read keys h = tt
+reason_unanswered file q i j files held old new (Unanswered (Output e)) read keys h = tt
+reason_unanswered file q i j files held old new (Unanswered (NoLines o)) read keys h = (no_lines q i old new o (keys (NoLines o) h.3)).0
+reason_unanswered file q i j files held old new (NotText key) read keys h = record { held = held; read = read; kind = h.0; bytes = h.1; opens = h.2; shows = h.3 }
 
 -- what is opened and has no answer is unanswered
 pub unanswered_of : (file : TrieFile) (q : Question) (input : Option (List ℕ)) (held : List ℕ) (old new : Option (List ℕ)) (kind : TrieKind) (bytes : List ℕ) (e : AskError) → Opens file held kind bytes
@@ -207,4 +247,4 @@ unanswered_of file q input held old new kind bytes TwoInputs opens h = h
 unanswered_of file q input held old new kind bytes (Unread e) opens h = h
 unanswered_of file q input held old new kind bytes (NoTrie why t) opens h = absurd h
 unanswered_of file q input held old new kind bytes (NotText key) opens h = (kind, bytes, opens, h.0, h.1)
-unanswered_of file q input held old new kind bytes (Unanswered e) opens h = (of_trie kind bytes, opens, h)
+unanswered_of file q input held old new kind bytes (Unanswered e) opens h = (of_trie kind bytes, opens, h.0, h.1)

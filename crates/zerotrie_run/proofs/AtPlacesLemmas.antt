@@ -46,7 +46,7 @@ answer_text file query keys path None text all at plain some asks there looked =
     read = subst (λ p. IsRead p input None a_file) (sym at) tt;
     content = of_index [];
     opens = inl (asks, (plain, inl (record { parts = refl }), λ full. absurd (some full)));
-    answers = (nows keys.now, refl, λ d has. absurd (finds_none query.asked d has));
+    answers = (nows keys.now, (refl, tt), λ d has. absurd (finds_none query.asked d has));
   },
   λ part. record {
     held = a_file;
@@ -66,7 +66,7 @@ answer_text file query keys path (Some known) text all at plain some asks there 
         read = subst (λ p. IsRead p input (Some known) held) (sym at) is;
         content = in_blocks looked.0 held;
         opens = inr (asks, plain, some, looked.1, refl);
-        answers = λ bytes right. (nows keys.now, refl, λ d has. (text, looked.2 bytes right d has, appends));
+        answers = λ bytes right. (nows keys.now, (refl, tt), λ d has. (text, looked.2 bytes right d has, appends));
       },
       λ part. record {
         held = held;

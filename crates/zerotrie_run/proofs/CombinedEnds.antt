@@ -14,7 +14,7 @@ use Rattle.zerotrie_run.specs.declared.combine.CombineError.{CombineError}
 use Rattle.zerotrie_run.specs.declared.combine.CombineError.TheVariants.{Unopened, NoTrie, NoValue, NotBuilt}
 use Rattle.zerotrie_run.specs.declared.command.Combine.{Combine}
 use Rattle.zerotrie_run.specs.declared.status.Status.{Status}
-use Rattle.zerotrie_run.specs.declared.status.Status.TheVariants.{Done, Absent, Refused, Taken, BadUsage, BadInput, Unread, Unwritten, OutOfMemory, Closed}
+use Rattle.zerotrie_run.specs.declared.status.Status.TheVariants.{Done, Absent, Refused, Taken, BadUsage, BadInput, BadKeys, Unread, Unwritten, OutOfMemory, Closed}
 use Rattle.zerotrie_run.proofs.ToldLemmas.{IsEnd, end_memory, end_none}
 
 -- what is known of the end, by whether the command is refused
@@ -68,6 +68,7 @@ ends_by c i before after read write closed (Some BadInput) (Err x) input h = inl
 ends_by c i before after read write closed (Some Done) r ends h = elim ends [ ]
 ends_by c i before after read write closed (Some Absent) r ends h = elim ends [ ]
 ends_by c i before after read write closed (Some BadUsage) r ends h = elim ends [ ]
+ends_by c i before after read write closed (Some BadKeys) r ends h = elim ends [ ]
 ends_by c i before after read write closed (Some Unread) r ends h = elim ends [ ]
 ends_by c i before after read write closed (Some Unwritten) r ends h = elim ends [ ]
 ends_by c i before after read write closed (Some OutOfMemory) r ends h = elim ends [ ]
@@ -87,6 +88,7 @@ end_by read write closed (Some BadInput) (Ok text) input = record { unread = λ 
 end_by read write closed (Some Done) (Ok text) ends = elim ends [ ]
 end_by read write closed (Some Absent) (Ok text) ends = elim ends [ ]
 end_by read write closed (Some BadUsage) (Ok text) ends = elim ends [ ]
+end_by read write closed (Some BadKeys) (Ok text) ends = elim ends [ ]
 end_by read write closed (Some Unread) (Ok text) ends = elim ends [ ]
 end_by read write closed (Some Unwritten) (Ok text) ends = elim ends [ ]
 end_by read write closed (Some OutOfMemory) (Ok text) ends = elim ends [ ]

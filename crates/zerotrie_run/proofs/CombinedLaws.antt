@@ -14,7 +14,7 @@ use Rattle.zerotrie_run.specs.Statuses.{number_of}
 use Rattle.zerotrie_run.specs.declared.command.Combine.{Combine}
 use Rattle.zerotrie_run.specs.declared.command.Place.{Place}
 use Rattle.zerotrie_run.specs.declared.status.Status.{Status}
-use Rattle.zerotrie_run.specs.declared.status.Status.TheVariants.{Done, Absent, Refused, Taken, BadUsage, BadInput, Unread, Unwritten, OutOfMemory, Closed}
+use Rattle.zerotrie_run.specs.declared.status.Status.TheVariants.{Done, Absent, Refused, Taken, BadUsage, BadInput, BadKeys, Unread, Unwritten, OutOfMemory, Closed}
 use Rattle.zerotrie_run.proofs.CombinedLemmas.{all_cons}
 use Rattle.zerotrie_run.proofs.FileLemmas.{opened}
 use Rattle.zerotrie_run.proofs.MadeLemmas.{read_back, built_means, opens_made}
@@ -71,6 +71,7 @@ always_so c input files before after Refused known h none = absurd (none (have_t
 always_so c input files before after Taken known h none = inr (inl refl)
 always_so c input files before after BadUsage known h none = inr (inr (inl refl))
 always_so c input files before after BadInput known h none = inl refl
+always_so c input files before after BadKeys known h none = absurd h
 always_so c input files before after Unread known h none = inr (inr (inr (omega arith)))
 always_so c input files before after Unwritten known h none = inr (inr (inr (omega arith)))
 always_so c input files before after OutOfMemory known h none = inr (inr (inr (omega arith)))

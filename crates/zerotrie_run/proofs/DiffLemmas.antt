@@ -20,6 +20,7 @@ use Rattle.zerotrie_run.specs.Told.{HasReason, HasDiffReason, IsPlaceOf, IsTold,
 use Rattle.zerotrie_run.specs.Diffs.{old_file, new_file, IsFileOf, IsDiffed, IsDiffedInPart, FailsDiff, RunsDiff, EndsDiff, HasNoTrieIn, IsEitherDoubtful, IsUnanswered, NotesNumbers, TellsIfDoubtful, AreHeldCompared, AreHeldComparedInPart, AreUncompared}
 use Rattle.zerotrie_run.specs.declared.ask.AskError.{AskError}
 use Rattle.zerotrie_run.specs.declared.ask.AskError.TheVariants as ask
+use Rattle.zerotrie_run.specs.declared.stdin_lines.AnswerError.TheVariants as answer
 use Rattle.zerotrie_run.specs.declared.diff.DiffError.{DiffError}
 use Rattle.zerotrie_run.specs.declared.command.Command.TheVariants as commands
 use Rattle.zerotrie_run.specs.declared.command.Diff.{Diff}
@@ -29,7 +30,7 @@ use Rattle.zerotrie_run.specs.declared.command.Question.{Question}
 use Rattle.zerotrie_run.specs.declared.command.Question.TheVariants.{Report, Verify}
 use Rattle.zerotrie_run.specs.declared.command.TrieFile.{TrieFile}
 use Rattle.zerotrie_run.specs.declared.status.Status.{Status}
-use Rattle.zerotrie_run.specs.declared.status.Status.TheVariants.{Done, Absent, Refused, Taken, BadUsage, BadInput, Unread, Unwritten, OutOfMemory, Closed}
+use Rattle.zerotrie_run.specs.declared.status.Status.TheVariants.{Done, Absent, Refused, Taken, BadUsage, BadInput, BadKeys, Unread, Unwritten, OutOfMemory, Closed}
 
 -- a flush leaves what was told of two files
 pub kept_compared : (diff : Diff) (held other : List ℕ) (a b c : Option (List ℕ)) (same : Bool) → AreHeldCompared diff held other a b same → Keeps b c → AreHeldCompared diff held other a c same
@@ -109,7 +110,9 @@ ends_begun diff input files a b ask.TwoInputs is h = absurd is
 ends_begun diff input files a b (ask.Unread e) is h = absurd is
 ends_begun diff input files a b (ask.NoTrie why t) is h = absurd is
 ends_begun diff input files a b (ask.NotText key) is h = absurd is
-ends_begun diff input files a b (ask.Unanswered e) is h = inr h
+ends_begun diff input files a b (ask.Unanswered (answer.Input e)) is h = inr h
+ends_begun diff input files a b (ask.Unanswered (answer.NoLines o)) is h = absurd is
+ends_begun diff input files a b (ask.Unanswered (answer.Output e)) is h = inr h
 
 pub ends_uncompared : (diff : Diff) (input : Option (List ℕ)) (files : Option Story) (held other : List ℕ) (a b : Option (List ℕ)) (e : DiffError) → IsRead diff.old input files held → IsRead diff.new input files other
     → AreUncompared diff held other a b e → EndsDiff diff input files a b (ask_refusal e.error)
@@ -130,7 +133,9 @@ reason_unanswered file input files ask.TwoInputs h = absurd h
 reason_unanswered file input files (ask.Unread e) h = absurd h
 reason_unanswered file input files (ask.NoTrie why t) h = absurd h
 reason_unanswered file input files (ask.NotText key) h = absurd h
-reason_unanswered file input files (ask.Unanswered e) h = tt
+reason_unanswered file input files (ask.Unanswered (answer.Input e)) h = tt
+reason_unanswered file input files (ask.Unanswered (answer.NoLines o)) h = absurd h
+reason_unanswered file input files (ask.Unanswered (answer.Output e)) h = tt
 
 pub reason_uncompared : (diff : Diff) (input : Option (List ℕ)) (files : Option Story) (held other : List ℕ) (a b : Option (List ℕ)) (e : DiffError) → IsRead diff.old input files held → IsRead diff.new input files other
     → AreUncompared diff held other a b e → HasDiffReason diff input files e
@@ -162,8 +167,11 @@ ends_by diff i files a b read write closed (ask.NoTrie (NotWellFormed k f) t) (E
 ends_by diff i files a b read write closed (ask.NoTrie unopened.OutOfMemory t) (Ok text) h = fails diff i files a b read write closed h
 ends_by diff i files a b read write closed (ask.NoTrie unopened.OutOfMemory t) (Err x) h = h
 ends_by diff i files a b read write closed (ask.NotText key) r h = absurd h
-ends_by diff i files a b read write closed (ask.Unanswered e) (Ok text) h = fails diff i files a b read write closed h
-ends_by diff i files a b read write closed (ask.Unanswered e) (Err x) h = h
+ends_by diff i files a b read write closed (ask.Unanswered (answer.Input e)) (Ok text) h = fails diff i files a b read write closed h
+ends_by diff i files a b read write closed (ask.Unanswered (answer.Input e)) (Err x) h = h
+ends_by diff i files a b read write closed (ask.Unanswered (answer.NoLines o)) r h = absurd h
+ends_by diff i files a b read write closed (ask.Unanswered (answer.Output e)) (Ok text) h = fails diff i files a b read write closed h
+ends_by diff i files a b read write closed (ask.Unanswered (answer.Output e)) (Err x) h = h
 
 pub diff_ends : (diff : Diff) (i : Option (List ℕ)) (files : Option Story) (a b : Option (List ℕ)) (read write closed : Bool) (e : AskError) (status result : Status) (r : Result (Vec ℕ Global) AllocError)
     → EndsDiff diff i files a b (ask_refusal e) → status ≡ unwrap_or (ask_refusal e) (failure read write closed) → result ≡ ended status r → RunsDiff diff i files a b result
@@ -182,7 +190,9 @@ pub as_asked : (file : TrieFile) (i : Option (List ℕ)) (files : Option Story) 
 as_asked file i files ask.TwoInputs h = tt
 as_asked file i files (ask.Unread e) h = tt
 as_asked file i files (ask.NoTrie why t) h = (h.0, h.1, inl h.2, h.3)
-as_asked file i files (ask.Unanswered e) h = tt
+as_asked file i files (ask.Unanswered (answer.Input e)) h = tt
+as_asked file i files (ask.Unanswered (answer.NoLines o)) h = absurd h
+as_asked file i files (ask.Unanswered (answer.Output e)) h = tt
 as_asked file i files (ask.NotText key) h = absurd h.shows
 
 -- a place of a question to one of the files is a place of the comparison
@@ -200,6 +210,7 @@ told_of diff file i files a b Refused of h = absurd h.1.shows
 told_of diff file i files a b Taken of h = h
 told_of diff file i files a b BadUsage of h = h
 told_of diff file i files a b BadInput of h = (file, of, (h.0, h.1, h.2, no_index_asked file h.0 h.2 h.3, h.4, h.5, h.6, h.7))
+told_of diff file i files a b BadKeys of h = absurd h.1
 told_of diff file i files a b Unread of h = (h.0, place_in diff file h.0 of h.1, h.2)
 told_of diff file i files a b Unwritten of h = (h.0, place_in diff file h.0 of h.1, h.2)
 told_of diff file i files a b OutOfMemory of h = h

@@ -9,7 +9,7 @@ use Rattle.zerotrie_queries.specs.declared.file.OpenError.{OpenError}
 use Rattle.zerotrie_run.specs.Laws.{HasAnswer, HasAnswerInBlocks, MakesFile, RefusedExactly, UnmadeIsRefused}
 use Rattle.zerotrie_run.specs.Statuses.{number_of}
 use Rattle.zerotrie_run.specs.declared.status.Status.{Status}
-use Rattle.zerotrie_run.specs.declared.status.Status.TheVariants.{Done, Absent, Refused, Taken, BadUsage, BadInput, Unread, Unwritten, OutOfMemory, Closed}
+use Rattle.zerotrie_run.specs.declared.status.Status.TheVariants.{Done, Absent, Refused, Taken, BadUsage, BadInput, BadKeys, Unread, Unwritten, OutOfMemory, Closed}
 use Rattle.zerotrie_run.specs.declared.command.Place.{Place}
 use Rattle.zerotrie_run.specs.declared.command.Place.TheVariants.{File, Stream}
 use Rattle.zerotrie_run.specs.declared.command.TrieFile.{TrieFile}
@@ -47,6 +47,7 @@ always_so file q input files old new Refused h none blocks = absurd (none (h.1.h
 always_so file q input files old new Taken h none blocks = absurd h
 always_so file q input files old new BadUsage h none blocks = inr (inl refl)
 always_so file q input files old new BadInput h none blocks = inl refl
+always_so file q input files old new BadKeys h none blocks = absurd (none (h.1.held, h.1.read, h.1.content, h.1.opens))
 always_so file q input files old new Unread h none blocks = inr (inr (omega arith))
 always_so file q input files old new Unwritten h none blocks = inr (inr (omega arith))
 always_so file q input files old new OutOfMemory h none blocks = inr (inr (omega arith))
@@ -66,6 +67,7 @@ unmade_by build input files before after Refused known h none = inl refl
 unmade_by build input files before after BadUsage known h none = absurd h
 unmade_by build input files before after Taken known h none = inr (inl refl)
 unmade_by build input files before after BadInput known h none = inr (inr (inl refl))
+unmade_by build input files before after BadKeys known h none = absurd h
 unmade_by build input files before after Unread known h none = inr (inr (inr (omega arith)))
 unmade_by build input files before after Unwritten known h none = inr (inr (inr (omega arith)))
 unmade_by build input files before after OutOfMemory known h none = inr (inr (inr (omega arith)))

@@ -13,7 +13,7 @@ use Rattle.zerotrie_run.specs.Messages.{IsLineOn, TellsAsk, TellsBuild, TellsNoT
 use Rattle.zerotrie_run.specs.Runs.{RunsAsk, EndsAsk, FailsAsk, LeavesInputOf, ask_refusal, build_refusal, IsUnasked}
 use Rattle.zerotrie_run.specs.Told.{TellsMore, ToldLast, LineTold, IsPlaceOf, HasReason, HasCause, IsTold, ended, last_text}
 use Rattle.zerotrie_run.specs.declared.status.Status.{Status}
-use Rattle.zerotrie_run.specs.declared.status.Status.TheVariants.{Done, Absent, Refused, Taken, BadUsage, BadInput, Unread, Unwritten, OutOfMemory, Closed}
+use Rattle.zerotrie_run.specs.declared.status.Status.TheVariants.{Done, Absent, Refused, Taken, BadUsage, BadInput, BadKeys, Unread, Unwritten, OutOfMemory, Closed}
 use Rattle.zerotrie_run.specs.declared.command.Build.{Build}
 use Rattle.zerotrie_run.specs.declared.command.TrieFile.{TrieFile}
 use Rattle.zerotrie_run.specs.declared.command.Question.{Question}
@@ -87,6 +87,7 @@ ask_text_told file q input files a b c text read write closed (ask.Unanswered (a
     failure_told (commands.Ask file q) input files a b c text (codes "standard input") read write closed (inr (inl refl)) tells more h
 ask_text_told file q input files a b c text read write closed (ask.Unanswered (answer.Output e)) cause tells more h =
     failure_told (commands.Ask file q) input files a b c text (codes "standard output") read write closed (inr (inr refl)) tells more h
+ask_text_told file q input files a b c text read write closed (ask.Unanswered (answer.NoLines o)) cause tells more h = (o, cause, text, tells.0, tells.1, told_last a b c text more h)
 ask_text_told file q input files a b c text read write closed (ask.NotText key) cause tells more h = (key.items, cause, text, tells.0, tells.1, told_last a b c text more h)
 
 -- what is told last if a question has no answer
@@ -115,6 +116,7 @@ data Ends : Option Status → Type 0 where
   failed : Ends None
   usage : Ends (Some BadUsage)
   input : Ends (Some BadInput)
+  keyless : Ends (Some BadKeys)
   unprinted : Ends (Some Refused)
 
 ends_of : (e : AskError) → Ends (ask_refusal e)
@@ -124,7 +126,9 @@ ends_of (ask.NoTrie (unopened.BadTag why) t) = input
 ends_of (ask.NoTrie (unopened.Damaged why) t) = input
 ends_of (ask.NoTrie (unopened.NotWellFormed k f) t) = input
 ends_of (ask.NoTrie unopened.OutOfMemory t) = failed
-ends_of (ask.Unanswered e) = failed
+ends_of (ask.Unanswered (answer.Input e)) = failed
+ends_of (ask.Unanswered (answer.NoLines o)) = keyless
+ends_of (ask.Unanswered (answer.Output e)) = failed
 ends_of (ask.NotText key) = unprinted
 
 fails : (file : TrieFile) (q : Question) (i : Option (List ℕ)) (files : Option Story) (old new : Option (List ℕ)) (read write closed : Bool) → FailsAsk file q i files old new
@@ -142,6 +146,8 @@ ends_by file q i files old new read write closed (Some BadUsage) (Ok text) usage
 ends_by file q i files old new read write closed (Some BadUsage) (Err x) usage h = inl h.2
 ends_by file q i files old new read write closed (Some BadInput) (Ok text) input h = h
 ends_by file q i files old new read write closed (Some BadInput) (Err x) input h = inl h.1
+ends_by file q i files old new read write closed (Some BadKeys) (Ok text) keyless h = h
+ends_by file q i files old new read write closed (Some BadKeys) (Err x) keyless h = inl h.2
 ends_by file q i files old new read write closed (Some Done) r ends h = elim ends [ ]
 ends_by file q i files old new read write closed (Some Absent) r ends h = elim ends [ ]
 ends_by file q i files old new read write closed (Some Refused) (Ok text) unprinted h = h
@@ -184,6 +190,7 @@ end_by read write closed (Some BadUsage) (Ok text) usage = record { unread = λ 
 end_by read write closed (Some BadInput) (Ok text) input = record { unread = λ is. absurd (cc); unwritten = λ is. absurd (cc); closed = λ is. absurd (cc); pipe_closed = λ is. absurd (cc); not_closed = λ is. absurd (cc); usage = λ is. absurd (cc); input = λ _. refl; open_end = λ is. elim is [ inl e ↦ absurd (cc) | inr e ↦ absurd (cc) ] }
 end_by read write closed (Some Done) (Ok text) ends = elim ends [ ]
 end_by read write closed (Some Absent) (Ok text) ends = elim ends [ ]
+end_by read write closed (Some BadKeys) (Ok text) keyless = record { unread = λ is. absurd (cc); unwritten = λ is. absurd (cc); closed = λ is. absurd (cc); pipe_closed = λ is. absurd (cc); not_closed = λ is. absurd (cc); usage = λ is. absurd (cc); input = λ is. absurd (cc); open_end = λ is. elim is [ inl e ↦ absurd (cc) | inr e ↦ absurd (cc) ] }
 end_by read write closed (Some Refused) (Ok text) unprinted = record { unread = λ is. absurd (cc); unwritten = λ is. absurd (cc); closed = λ is. absurd (cc); pipe_closed = λ is. absurd (cc); not_closed = λ is. absurd (cc); usage = λ is. absurd (cc); input = λ is. absurd (cc); open_end = λ is. elim is [ inl e ↦ absurd (cc) | inr e ↦ absurd (cc) ] }
 end_by read write closed (Some Taken) (Ok text) ends = elim ends [ ]
 end_by read write closed (Some Unread) (Ok text) ends = elim ends [ ]

@@ -25,7 +25,7 @@ use Rattle.zerotrie_run.specs.declared.command.Combine.{Combine}
 use Rattle.zerotrie_run.specs.declared.command.Place.{Place}
 use Rattle.zerotrie_run.specs.declared.command.TrieFile.{TrieFile}
 use Rattle.zerotrie_run.specs.declared.status.Status.{Status}
-use Rattle.zerotrie_run.specs.declared.status.Status.TheVariants.{Done, Absent, Refused, Taken, BadUsage, BadInput, Unread, Unwritten, OutOfMemory, Closed}
+use Rattle.zerotrie_run.specs.declared.status.Status.TheVariants.{Done, Absent, Refused, Taken, BadUsage, BadInput, BadKeys, Unread, Unwritten, OutOfMemory, Closed}
 
 -- how each of the files is read: it says its kind, and all its bytes are validated
 abbrev pub file_of : Place → TrieFile
@@ -90,6 +90,7 @@ RunsCombine c input before after Absent = ⊥
 RunsCombine c input before after Refused = IsRefusedCombination c input before after Refused
 RunsCombine c input before after Taken = IsSparedAt c.to c.no_clobber before after
 RunsCombine c input before after BadUsage = HaveTwoStreams c.from.now × Untouched before after
+RunsCombine c input before after BadKeys = ⊥
 RunsCombine c input before after BadInput = Any (λ place. HasNoTrie (file_of place) input before.files) c.from.now × Untouched before after
 RunsCombine c input before after Unread = FailsCombine c input before after
 RunsCombine c input before after Unwritten = FailsCombine c input before after

@@ -9,12 +9,13 @@ use Rattle.zerotrie_run.specs.Messages.{IsLineOn, source_name}
 use Rattle.zerotrie_run.specs.Runs.{AreOneStream, IsRead, Opens, IsUnopened, HasNoTrie, HasNumberToo, IsDoubtful, ask_refusal}
 use Rattle.zerotrie_run.specs.declared.ask.AskError.{AskError}
 use Rattle.zerotrie_run.specs.declared.ask.AskError.TheVariants as ask
+use Rattle.zerotrie_run.specs.declared.stdin_lines.AnswerError.TheVariants.{Input, NoLines, Output}
 use Rattle.zerotrie_run.specs.declared.command.Check.TheVariants.{Full}
 use Rattle.zerotrie_run.specs.declared.command.Diff.{Diff}
 use Rattle.zerotrie_run.specs.declared.command.TrieFile.{TrieFile}
 use Rattle.zerotrie_run.specs.declared.diff.DiffError.{DiffError}
 use Rattle.zerotrie_run.specs.declared.status.Status.{Status}
-use Rattle.zerotrie_run.specs.declared.status.Status.TheVariants.{Done, Absent, Refused, Taken, BadUsage, BadInput, Unread, Unwritten, OutOfMemory, Closed}
+use Rattle.zerotrie_run.specs.declared.status.Status.TheVariants.{Done, Absent, Refused, Taken, BadUsage, BadInput, BadKeys, Unread, Unwritten, OutOfMemory, Closed}
 
 -- the files that are compared: all bytes of each are tested
 abbrev pub old_file : Diff → TrieFile
@@ -70,6 +71,7 @@ RunsDiff diff input files old new Refused = ⊥
 RunsDiff diff input files old new Taken = ⊥
 RunsDiff diff input files old new BadUsage = AreOneStream diff.old diff.new × (new ≡ old)
 RunsDiff diff input files old new BadInput = ((file : TrieFile) × IsFileOf diff file × HasNoTrie file input files) × (new ≡ old)
+RunsDiff diff input files old new BadKeys = ⊥
 RunsDiff diff input files old new Unread = FailsDiff diff input files old new
 RunsDiff diff input files old new Unwritten = FailsDiff diff input files old new
 RunsDiff diff input files old new OutOfMemory = FailsDiff diff input files old new
@@ -151,7 +153,9 @@ IsUnanswered ask.TwoInputs = ⊥
 IsUnanswered (ask.Unread e) = ⊥
 IsUnanswered (ask.NoTrie why is_text) = ⊥
 IsUnanswered (ask.NotText key) = ⊥
-IsUnanswered (ask.Unanswered e) = Unit {0}
+IsUnanswered (ask.Unanswered (Input e)) = Unit {0}
+IsUnanswered (ask.Unanswered (NoLines other)) = ⊥
+IsUnanswered (ask.Unanswered (Output e)) = Unit {0}
 
 -- why what two files hold was not compared: one of them has no trie, and nothing was printed; or a beginning was
 abbrev pub AreUncompared : Diff → (held other : List ℕ) → (old new : Option (List ℕ)) → DiffError → Type 0

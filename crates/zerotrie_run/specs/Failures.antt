@@ -9,7 +9,7 @@ use Rattle.zerotrie_run.specs.declared.build.BuildError.TheVariants as build
 use Rattle.zerotrie_run.specs.declared.combine.CombineError.{CombineError}
 use Rattle.zerotrie_run.specs.declared.combine.CombineError.TheVariants as combine
 use Rattle.zerotrie_run.specs.declared.stdin_lines.AnswerError.{AnswerError}
-use Rattle.zerotrie_run.specs.declared.stdin_lines.AnswerError.TheVariants.{Input, Output}
+use Rattle.zerotrie_run.specs.declared.stdin_lines.AnswerError.TheVariants.{Input, NoLines, Output}
 
 -- a read of the input or of a file failed
 abbrev pub ReadFailed : {R D : Type 0} → Watched R → Files D → Type 0
@@ -30,6 +30,7 @@ IsFailureOf failed e = IsOutOfMemory e ⊎ failed
 -- the same of an error that there is no answer
 abbrev pub AnswerFailed : (read write : Type 0) → AnswerError → Type 0
 AnswerFailed read write (Input e) = IsFailureOf read e
+AnswerFailed read write (NoLines other) = Unit {0}
 AnswerFailed read write (Output e) = IsFailureOf write e
 
 -- of one that a question has none

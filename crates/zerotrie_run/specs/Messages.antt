@@ -29,7 +29,7 @@ use Rattle.zerotrie_run.specs.Combined.{IsNumbered}
 use Rattle.zerotrie_run.specs.declared.command.Combine.{Combine}
 use Rattle.zerotrie_run.specs.declared.command.Place.{Place}
 use Rattle.zerotrie_run.specs.declared.command.Place.TheVariants.{File, Stream}
-use Rattle.zerotrie_run.specs.declared.stdin_lines.AnswerError.TheVariants.{Input, Output}
+use Rattle.zerotrie_run.specs.declared.stdin_lines.AnswerError.TheVariants.{Input, NoLines, Output}
 use Rattle.zerotrie_run.specs.declared.ask.AskError.{AskError}
 use Rattle.zerotrie_run.specs.declared.ask.AskError.TheVariants as ask
 use Rattle.zerotrie_run.specs.declared.build.BuildError.{BuildError}
@@ -167,6 +167,7 @@ TellsAsk file ask.TwoInputs text = IsLine text
 TellsAsk file (ask.Unread e) text = IsLineOn (source_name file) text
 TellsAsk file (ask.NoTrie why is_text) text = IsLineOn (source_name file) text × TellsNoTrie why is_text text
 TellsAsk file (ask.Unanswered (Input e)) text = IsLineOn (codes "standard input") text
+TellsAsk file (ask.Unanswered (NoLines other)) text = IsLineOn (codes "standard input") text × Says text (other_words other)
 TellsAsk file (ask.Unanswered (Output e)) text = IsLineOn (codes "standard output") text
 TellsAsk file (ask.NotText key) text = IsLineOn (source_name file) text × Says text (told_key key.items)
 

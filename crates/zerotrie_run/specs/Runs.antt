@@ -5,7 +5,9 @@ use Rattle.std.specs.Io.Buffered.{writer_buffer}
 use Rattle.std.specs.declared.io.buffered.BufWriter.{BufWriter}
 use Rattle.zerotrie_core.specs.Maps.{Pairs}
 use Rattle.zerotrie_core.specs.WellFormed.{IsWellFormed}
-use Rattle.zerotrie_lines.specs.Lines.{lines_of}
+use Rattle.zerotrie_lines.specs.Lines.{text_lines}
+use Rattle.zerotrie_lines.specs.declared.reading.Header.TheVariants as header
+use Rattle.zerotrie_lines.specs.declared.reading.LineEnd.TheVariants.{CrLf}
 use Rattle.zerotrie_any.specs.Tagged.{tagged}
 use Rattle.zerotrie_core.specs.Kinds.{kind_of}
 use Rattle.zerotrie_core.specs.Faults.{IsFirstFault}
@@ -32,10 +34,12 @@ use Rattle.zerotrie_files.specs.Disks.{Story, Known}
 use Rattle.zerotrie_files.specs.Stores.{WasReplaced, WasKept}
 use Rattle.zerotrie_making.specs.Made.{IsFile}
 use Rattle.zerotrie_making.specs.Made as made
+use Rattle.zerotrie_making.specs.Others.{IsOther}
+use Rattle.zerotrie_making.specs.declared.others.OtherFile.{OtherFile}
 use Rattle.zerotrie_making.specs.declared.error.MakeError.{MakeError}
 use Rattle.zerotrie_run.specs.Statuses.{made_refusal}
 use Rattle.zerotrie_run.specs.declared.status.Status.{Status}
-use Rattle.zerotrie_run.specs.declared.status.Status.TheVariants.{Done, Absent, Refused, Taken, BadUsage, BadInput, Unread, Unwritten, OutOfMemory, Closed}
+use Rattle.zerotrie_run.specs.declared.status.Status.TheVariants.{Done, Absent, Refused, Taken, BadUsage, BadInput, BadKeys, Unread, Unwritten, OutOfMemory, Closed}
 use Rattle.zerotrie_run.specs.declared.command.Place.{Place}
 use Rattle.zerotrie_run.specs.declared.command.Place.TheVariants.{File, Stream}
 use Rattle.zerotrie_run.specs.declared.command.Keys.{Keys}
@@ -48,6 +52,8 @@ use Rattle.zerotrie_run.specs.declared.command.TrieFile.{TrieFile}
 use Rattle.zerotrie_run.specs.declared.command.Build.{Build}
 use Rattle.zerotrie_run.specs.declared.ask.AskError.{AskError}
 use Rattle.zerotrie_run.specs.declared.ask.AskError.TheVariants as ask
+use Rattle.zerotrie_run.specs.declared.stdin_lines.AnswerError.{AnswerError}
+use Rattle.zerotrie_run.specs.declared.stdin_lines.AnswerError.TheVariants.{Input, NoLines, Output}
 use Rattle.zerotrie_run.specs.declared.build.BuildError.{BuildError}
 use Rattle.zerotrie_run.specs.declared.build.BuildError.TheVariants as build
 
@@ -85,10 +91,30 @@ IsWritten (File path) bytes before after = (after.printed ≡ before.printed)
     × Known before.files after.files (WasReplaced path.now bytes)
 IsWritten Stream bytes before after = Appends before.printed after.printed bytes × (after.files ≡ before.files)
 
+-- the lines that are keys: a byte order mark in front of them is left out, and one may end in CR LF, as in the input of a build
+abbrev pub key_lines : List ℕ → List (List ℕ)
+key_lines input = text_lines CrLf header.Absent input
+
 -- the keys of a question: words, or the lines of standard input
 abbrev pub AreKeys : Keys → Option (List ℕ) → List (List ℕ) → Type 0
 AreKeys (Words words) input keys = keys ≡ map (λ w. w.now) words.now
-AreKeys Lines input keys = IfSome input (λ known. keys ≡ lines_of known)
+AreKeys Lines input keys = IfSome input (λ known. keys ≡ key_lines known)
+
+-- keys that are lines of standard input are no other file
+abbrev pub AreLines : Keys → Option (List ℕ) → Type 0
+AreLines (Words words) input = Unit {0}
+AreLines Lines input = IfSome input (λ known. IsOther known None)
+
+-- the keys are to be lines of standard input, which is this other file
+abbrev pub AreNoLines : Keys → Option (List ℕ) → OtherFile → Type 0
+AreNoLines (Words words) input other = ⊥
+AreNoLines Lines input other = IfSome input (λ known. IsOther known (Some other))
+
+-- why keys are not answered: they are no lines, and nothing was printed; or something failed
+abbrev pub AreNoKeys : Keys → Option (List ℕ) → (old new : Option (List ℕ)) → AnswerError → Type 0
+AreNoKeys keys input old new (Input e) = Unit {0}
+AreNoKeys keys input old new (NoLines other) = AreNoLines keys input other × (new ≡ old)
+AreNoKeys keys input old new (Output e) = Unit {0}
 
 -- two places are both standard input
 abbrev pub AreOneStream : Place → Place → Type 0
@@ -223,7 +249,7 @@ IsUnopenedFor file question all why = IsUnasked file question all why × ((bytes
 
 -- what was printed, and whether all was found, belong to the keys, whichever dictionary it may be
 abbrev pub KeysAnswered : Query → Keys → (input : Option (List ℕ)) → (Dictionary → Type 0) → (old new : Option (List ℕ)) → Bool → Type 0
-KeysAnswered query keys input MayHave old new all = (ks : List (List ℕ)) × AreKeys keys input ks × AreAnswered query MayHave ks old new all
+KeysAnswered query keys input MayHave old new all = (ks : List (List ℕ)) × (AreKeys keys input ks × AreLines keys input) × AreAnswered query MayHave ks old new all
 
 -- what was printed, and whether all was found, belong to the question and to bytes of this kind
 abbrev pub Answers : Question → (input : Option (List ℕ)) → TrieKind → List ℕ → (old new : Option (List ℕ)) → Bool → Type 0
@@ -291,13 +317,44 @@ IsUnprintable Verify kind bytes key = ⊥
 IsUnprintable (Report form) kind bytes key = ⊥
 IsUnprintable (View view) kind bytes key = ⊥
 
+-- the keys of a question are to be lines of standard input, which is this other file
+abbrev pub HasNoLines : Question → Option (List ℕ) → OtherFile → Type 0
+HasNoLines (LookUp query keys) input other = AreNoLines keys input other
+HasNoLines (Listing form choice order limit) input other = ⊥
+HasNoLines (Distances choice limit) input other = ⊥
+HasNoLines (Code language name) input other = ⊥
+HasNoLines Verify input other = ⊥
+HasNoLines (Report form) input other = ⊥
+HasNoLines (View view) input other = ⊥
+
+-- how a run ends if keys are not answered; none if something failed
+abbrev pub answer_refusal : AnswerError → Option Status
+answer_refusal (Input e) = None
+answer_refusal (NoLines other) = Some BadKeys
+answer_refusal (Output e) = None
+
+-- whether keys were not answered as something failed
+abbrev pub answer_fails : Result Bool AnswerError → Bool
+answer_fails (Ok all) = false
+answer_fails (Err e) = is_none (answer_refusal e)
+
+-- why a question is not answered, or not to the end: its keys are no lines, and nothing was printed; or something failed
+abbrev pub HasNoKeys : Question → Option (List ℕ) → (old new : Option (List ℕ)) → AnswerError → Type 0
+HasNoKeys (LookUp query keys) input old new e = AreNoKeys keys input old new e
+HasNoKeys (Listing form choice order limit) input old new e = answer_refusal e ≡ None
+HasNoKeys (Distances choice limit) input old new e = answer_refusal e ≡ None
+HasNoKeys (Code language name) input old new e = answer_refusal e ≡ None
+HasNoKeys Verify input old new e = answer_refusal e ≡ None
+HasNoKeys (Report form) input old new e = answer_refusal e ≡ None
+HasNoKeys (View view) input old new e = answer_refusal e ≡ None
+
 -- why there is no answer, or not all of it: the pairs can't be printed so, and nothing was; or something failed, and a beginning of
 -- the answer was printed
 abbrev pub IsNoAnswer : Question → (input : Option (List ℕ)) → TrieKind → List ℕ → (old new : Option (List ℕ)) → AskError → Type 0
 IsNoAnswer question input kind bytes old new ask.TwoInputs = ⊥
 IsNoAnswer question input kind bytes old new (ask.Unread e) = ⊥
 IsNoAnswer question input kind bytes old new (ask.NoTrie why is_text) = ⊥
-IsNoAnswer question input kind bytes old new (ask.Unanswered e) = AnswersInPart question input kind bytes old new
+IsNoAnswer question input kind bytes old new (ask.Unanswered e) = AnswersInPart question input kind bytes old new × HasNoKeys question input old new e
 IsNoAnswer question input kind bytes old new (ask.NotText key) = IsUnprintable question kind bytes key.items × (new ≡ old)
 
 -- The trie or the index of a file was asked: what was read, what it has, and the answer.
@@ -333,6 +390,14 @@ pub record IsUnprinted (file : TrieFile) (question : Question) (input : Option (
   pub opens : Opens file held kind bytes
   pub shows : IsUnprintable question kind bytes key
 
+-- What is asked of a file was found, and the keys of the question are no lines, but this other file.
+pub record IsUnkeyed (file : TrieFile) (question : Question) (input : Option (List ℕ)) (files : Option Story) (other : OtherFile) : Type 0 where
+  pub held : List ℕ
+  pub read : IsRead file.place input files held
+  pub content : Content
+  pub opens : OpensFor file question held content
+  pub keys : HasNoLines question input other
+
 -- what a file holds has no answer: nothing in it is asked the question, and nothing was printed; or something is, and there is no answer,
 -- or not all of it
 abbrev pub IsUnanswered : TrieFile → Question → (input : Option (List ℕ)) → List ℕ → (old new : Option (List ℕ)) → AskError → Type 0
@@ -340,7 +405,7 @@ IsUnanswered file question input held old new ask.TwoInputs = ⊥
 IsUnanswered file question input held old new (ask.Unread e) = ⊥
 IsUnanswered file question input held old new (ask.NoTrie why is_text) = IsUnopenedFor file question held why × (is_text ≡ looks_like_text held) × (new ≡ old)
 IsUnanswered file question input held old new (ask.NotText key) = (kind : TrieKind) × (bytes : List ℕ) × Opens file held kind bytes × IsUnprintable question kind bytes key.items × (new ≡ old)
-IsUnanswered file question input held old new (ask.Unanswered e) = (content : Content) × OpensFor file question held content × ContentAnswersInPart content question input old new
+IsUnanswered file question input held old new (ask.Unanswered e) = (content : Content) × OpensFor file question held content × ContentAnswersInPart content question input old new × HasNoKeys question input old new e
 
 -- what the file of a path holds, if that is known
 abbrev pub held_at : Option Story → List ℕ → Option (List ℕ)
@@ -364,7 +429,7 @@ abbrev pub FailsAsk : TrieFile → Question → Option (List ℕ) → Option Sto
 FailsAsk file question input files old new = (new ≡ old) ⊎ IsAskedInPart file question input files old new
 
 -- How a question to a file ends. The answer was printed, and all was found or not; the file and the keys are both standard input; the
--- file has nothing that is asked it; its pairs can't be printed so; or something failed.
+-- file has nothing that is asked it; its keys are no lines; its pairs can't be printed so; or something failed.
 abbrev pub RunsAsk : TrieFile → Question → Option (List ℕ) → Option Story → (old new : Option (List ℕ)) → Status → Type 0
 RunsAsk file question input files old new Done = IsAsked file question input files old new true
 RunsAsk file question input files old new Absent = IsAsked file question input files old new false
@@ -372,6 +437,7 @@ RunsAsk file question input files old new Refused = (key : List ℕ) × IsUnprin
 RunsAsk file question input files old new Taken = ⊥
 RunsAsk file question input files old new BadUsage = (file.place ≡ Stream) × (of_lines question ≡ true) × (new ≡ old)
 RunsAsk file question input files old new BadInput = HasNoAnswer file question input files × (new ≡ old)
+RunsAsk file question input files old new BadKeys = (other : OtherFile) × IsUnkeyed file question input files other × (new ≡ old)
 RunsAsk file question input files old new Unread = FailsAsk file question input files old new
 RunsAsk file question input files old new Unwritten = FailsAsk file question input files old new
 RunsAsk file question input files old new OutOfMemory = FailsAsk file question input files old new
@@ -391,7 +457,7 @@ ask_refusal (ask.NoTrie (unopened.Damaged why) is_text) = Some BadInput
 ask_refusal (ask.NoTrie (unopened.NotWellFormed kind fault) is_text) = Some BadInput
 ask_refusal (ask.NoTrie unopened.OutOfMemory is_text) = None
 ask_refusal (ask.NotText key) = Some Refused
-ask_refusal (ask.Unanswered e) = None
+ask_refusal (ask.Unanswered e) = answer_refusal e
 
 -- the same of a question that may have been answered
 abbrev pub asked_refusal : Result Bool AskError → Option Status
@@ -459,6 +525,7 @@ RunsBuild build input before after Refused = IsRefused build input before after 
 RunsBuild build input before after Taken = IsSparedAt build.to build.no_clobber before after
 RunsBuild build input before after BadUsage = ⊥
 RunsBuild build input before after BadInput = IsRefused build input before after BadInput
+RunsBuild build input before after BadKeys = ⊥
 RunsBuild build input before after Unread = FailsBuild build input before after
 RunsBuild build input before after Unwritten = FailsBuild build input before after
 RunsBuild build input before after OutOfMemory = FailsBuild build input before after

@@ -4,7 +4,7 @@ use Rattle.zerotrie_files.specs.Faults.{Watched, Files}
 use Rattle.zerotrie_making.specs.declared.error.MakeError.{MakeError}
 use Rattle.zerotrie_making.specs.declared.error.MakeError.TheVariants as error
 use Rattle.zerotrie_run.specs.declared.status.Status.{Status}
-use Rattle.zerotrie_run.specs.declared.status.Status.TheVariants.{Done, Absent, Refused, Taken, BadUsage, BadInput, Unread, Unwritten, OutOfMemory, Closed}
+use Rattle.zerotrie_run.specs.declared.status.Status.TheVariants.{Done, Absent, Refused, Taken, BadUsage, BadInput, BadKeys, Unread, Unwritten, OutOfMemory, Closed}
 
 -- 0 if all was found; 1 if a key is absent, the keys of a build are refused, or its file is there already; 2 if words or bytes are not
 -- what they should be; 3 if something failed; and 4 if whoever reads the output has closed it
@@ -15,6 +15,7 @@ number_of Refused = 1
 number_of Taken = 1
 number_of BadUsage = 2
 number_of BadInput = 2
+number_of BadKeys = 2
 number_of Unread = 3
 number_of Unwritten = 3
 number_of OutOfMemory = 3

@@ -9,20 +9,21 @@ use Rattle.zerotrie_making.specs.Made as made
 use Rattle.zerotrie_making.specs.declared.error.MakeError.{MakeError}
 use Rattle.zerotrie_making.specs.Combinations.{ExplainsMaps}
 use Rattle.zerotrie_making.specs.declared.error.CombinationError.{CombinationError}
+use Rattle.zerotrie_making.specs.declared.others.OtherFile.{OtherFile}
 use Rattle.zerotrie_making.specs.declared.plan.FileForm.{FileForm}
 use Rattle.zerotrie_making.specs.declared.plan.FileForm.TheVariants as form
 use Rattle.zerotrie_making.specs.declared.plan.Made.{Made}
 use Rattle.zerotrie_core.specs.declared.TrieKind.{TrieKind}
 use Rattle.zerotrie_run.specs.Statuses.{made_refusal}
-use Rattle.zerotrie_run.specs.Messages.{IsLine, IsLineOn, Says, TellsMade, TellsNoTrie, TellsUnmade, kind_line, made_line, removed_line, source_name, target_name, told_key, unit_of}
-use Rattle.zerotrie_run.specs.Runs.{IsRead, IsThere, IsUnasked, IsUnopened, IsUnprinted, HasNumberToo}
+use Rattle.zerotrie_run.specs.Messages.{IsLine, IsLineOn, Says, other_words, TellsMade, TellsNoTrie, TellsUnmade, kind_line, made_line, removed_line, source_name, target_name, told_key, unit_of}
+use Rattle.zerotrie_run.specs.Runs.{IsRead, IsThere, IsUnasked, IsUnopened, IsUnprinted, HasNoLines, HasNumberToo}
 use Rattle.zerotrie_run.specs.Diffs.{IsFileOf, NotesNumbers}
 use Rattle.zerotrie_run.specs.declared.command.Diff.{Diff}
 use Rattle.zerotrie_run.specs.declared.diff.DiffError.{DiffError}
 use Rattle.zerotrie_run.specs.Combined.{IsMadeSo, OfFiles, file_of, unmade_refusal}
 use Rattle.zerotrie_run.specs.Commands.{may_tell}
 use Rattle.zerotrie_run.specs.declared.status.Status.{Status}
-use Rattle.zerotrie_run.specs.declared.status.Status.TheVariants.{Done, Absent, Refused, Taken, BadUsage, BadInput, Unread, Unwritten, OutOfMemory, Closed}
+use Rattle.zerotrie_run.specs.declared.status.Status.TheVariants.{Done, Absent, Refused, Taken, BadUsage, BadInput, BadKeys, Unread, Unwritten, OutOfMemory, Closed}
 use Rattle.zerotrie_run.specs.declared.command.Build.{Build}
 use Rattle.zerotrie_run.specs.declared.command.Command.{Command}
 use Rattle.zerotrie_run.specs.declared.command.Command.TheVariants as commands
@@ -35,6 +36,7 @@ use Rattle.zerotrie_run.specs.declared.command.Question.TheVariants.{Verify}
 use Rattle.zerotrie_run.specs.declared.command.Combine.{Combine}
 use Rattle.zerotrie_run.specs.declared.ask.AskError.{AskError}
 use Rattle.zerotrie_run.specs.declared.ask.AskError.TheVariants as ask
+use Rattle.zerotrie_run.specs.declared.stdin_lines.AnswerError.TheVariants.{Input, NoLines, Output}
 use Rattle.zerotrie_run.specs.declared.build.BuildError.{BuildError}
 use Rattle.zerotrie_run.specs.declared.build.BuildError.TheVariants as unmade
 
@@ -74,7 +76,9 @@ abbrev pub HasReason : (List ℕ → OpenError → Type 0) → TrieFile → Ques
 HasReason IsWhy file question input files ask.TwoInputs = Unit {0}
 HasReason IsWhy file question input files (ask.Unread e) = Unit {0}
 HasReason IsWhy file question input files (ask.NoTrie why is_text) = (held : List ℕ) × IsRead file.place input files held × IsWhy held why × (is_text ≡ looks_like_text held)
-HasReason IsWhy file question input files (ask.Unanswered e) = Unit {0}
+HasReason IsWhy file question input files (ask.Unanswered (Input e)) = Unit {0}
+HasReason IsWhy file question input files (ask.Unanswered (NoLines other)) = HasNoLines question input other
+HasReason IsWhy file question input files (ask.Unanswered (Output e)) = Unit {0}
 HasReason IsWhy file question input files (ask.NotText key) = IsUnprinted file question input files key.items
 
 -- why two files were not compared is so of what was read of one of them
@@ -171,6 +175,14 @@ TellsRefused (commands.Combine c) input files old new =
     (e : CombinationError) × OfFiles c input files (λ maps. ExplainsMaps c.combination maps e) × (unmade_refusal e ≡ Some Refused)
     × (text : List ℕ) × IsLineOn (target_name c.to) text × TellsUnmade e text × ToldLast old new text
 
+-- a line on standard input tells which other file it is, and not lines of keys
+abbrev pub TellsNoLines : Command → Option (List ℕ) → (old new : Option (List ℕ)) → Type 0
+TellsNoLines (commands.Build build) input old new = ⊥
+TellsNoLines (commands.Ask file question) input old new = (other : OtherFile) × HasNoLines question input other
+    × (text : List ℕ) × IsLineOn (codes "standard input") text × Says text (other_words other) × ToldLast old new text
+TellsNoLines (commands.Diff diff) input old new = ⊥
+TellsNoLines (commands.Combine c) input old new = ⊥
+
 -- a line tells that the file to make is there already
 abbrev pub TellsTaken : Command → (old new : Option (List ℕ)) → Type 0
 TellsTaken (commands.Build build) old new = ToldOf (target_name build.to) old new
@@ -186,6 +198,7 @@ IsTold command input files old new Refused = TellsRefused command input files ol
 IsTold command input files old new Taken = TellsTaken command old new
 IsTold command input files old new BadUsage = LineTold old new
 IsTold command input files old new BadInput = TellsRefusal command input files old new BadInput
+IsTold command input files old new BadKeys = TellsNoLines command input old new
 IsTold command input files old new Unread = PlaceTold command old new
 IsTold command input files old new Unwritten = PlaceTold command old new
 IsTold command input files old new OutOfMemory = LineTold old new

@@ -9,7 +9,7 @@ ghost use Rattle.zerotrie_run.specs.Commands.{ReadsTwice};
 ghost use Rattle.zerotrie_queries.specs.Finders.{Finds, TrieFinds};
 ghost use Rattle.zerotrie_queries.specs.declared.question.Asked.TheVariants.{KeyOf};
 ghost use Rattle.zerotrie_run.specs.Failures.{AnswerFailed, AskFailed, ReadFailed, WriteFailed};
-ghost use Rattle.zerotrie_run.specs.Runs.{OpensFor, Content, ContentAnswers, IndexAnswers, IndexAnswersInPart, KeysAnswered, KeysAnsweredInPart, Answers, IsNoAnswer, IsAsked, IsUnasked, EndsAsk, IsUnanswered, IsDoubtful, LeavesKeys, LeavesInputOf, HandsOn, ask_fails, ask_refusal, asked_refusal, are_lines, of_lines};
+ghost use Rattle.zerotrie_run.specs.Runs.{OpensFor, Content, ContentAnswers, IndexAnswers, IndexAnswersInPart, KeysAnswered, KeysAnsweredInPart, AreNoKeys, HasNoKeys, answer_fails, Answers, IsNoAnswer, IsAsked, IsUnasked, EndsAsk, IsUnanswered, IsDoubtful, LeavesKeys, LeavesInputOf, HandsOn, ask_fails, ask_refusal, asked_refusal, are_lines, of_lines};
 ghost use Rattle.zerotrie_run.specs.Told.{HasReason, NotesNumber, TellsMore};
 ghost use Rattle.zerotrie_run.specs.declared.command.Command.TheVariants.{Ask};
 ghost use Rattle.zerotrie_run.specs.declared.command.Keys.TheVariants.{Lines};
@@ -63,7 +63,9 @@ impl AskError {
                 OpenError::OutOfMemory => None,
             },
             AskError::NotText(_) => Some(Status::Refused),
-            AskError::Unread(_) | AskError::Unanswered(_) => None,
+            AskError::Unanswered(AnswerError::NoLines(_)) => Some(Status::BadKeys),
+            AskError::Unread(_)
+            | AskError::Unanswered(AnswerError::Input(_) | AnswerError::Output(_)) => None,
         }
     }
 }
@@ -100,7 +102,11 @@ fn answer_keys<R: Read, W: Write + Drop>(
     ensures part { OnErr result (KeysAnsweredInPart query keys.entry (R.remaining input.old.inner)
         (Finds finder.now query.asked) (writer_contents W.contents output.old.inner)
         (writer_contents W.contents output.new.inner)) }
-    ensures noted { OnOk result (SameNotes input.old input.new output.old output.new) }
+    ensures none { IfErr result (AreNoKeys keys.entry (R.remaining input.old.inner)
+        (writer_contents W.contents output.old.inner)
+        (writer_contents W.contents output.new.inner)) }
+    ensures noted { answer_fails result ≡ false
+        → SameNotes input.old input.new output.old output.new }
     ensures failed { IfErr result (AnswerFailed (input.new.failed ≡ true)
         (output.new.failed ≡ true)) }
     ensures unread { are_lines keys.entry ≡ false → input.new ≡ input.old }
@@ -126,7 +132,11 @@ fn answer_by_table<R: Read, W: Write + Drop>(
     ensures part { OnErr result (KeysAnsweredInPart query Lines (R.remaining input.old.inner)
         (TrieFinds trie.now.kind trie.now.bytes.now) (writer_contents W.contents output.old.inner)
         (writer_contents W.contents output.new.inner)) }
-    ensures noted { OnOk result (SameNotes input.old input.new output.old output.new) }
+    ensures none { IfErr result (AreNoKeys Lines (R.remaining input.old.inner)
+        (writer_contents W.contents output.old.inner)
+        (writer_contents W.contents output.new.inner)) }
+    ensures noted { answer_fails result ≡ false
+        → SameNotes input.old input.new output.old output.new }
     ensures failed { IfErr result (AnswerFailed (input.new.failed ≡ true)
         (output.new.failed ≡ true)) }
 {
@@ -154,7 +164,11 @@ fn answer_by_trie<R: Read, W: Write + Drop>(
     ensures part { OnErr result (KeysAnsweredInPart query keys.entry (R.remaining input.old.inner)
         (TrieFinds trie.now.kind trie.now.bytes.now) (writer_contents W.contents output.old.inner)
         (writer_contents W.contents output.new.inner)) }
-    ensures noted { OnOk result (SameNotes input.old input.new output.old output.new) }
+    ensures none { IfErr result (AreNoKeys keys.entry (R.remaining input.old.inner)
+        (writer_contents W.contents output.old.inner)
+        (writer_contents W.contents output.new.inner)) }
+    ensures noted { answer_fails result ≡ false
+        → SameNotes input.old input.new output.old output.new }
     ensures failed { IfErr result (AnswerFailed (input.new.failed ≡ true)
         (output.new.failed ≡ true)) }
     ensures unread { are_lines keys.entry ≡ false → input.new ≡ input.old }
@@ -237,7 +251,11 @@ fn answer_of_index<R: Read, W: Write + Drop>(
     ensures part { OnErr result (IndexAnswersInPart question.entry (R.remaining input.old.inner)
         index.now (writer_contents W.contents output.old.inner)
         (writer_contents W.contents output.new.inner)) }
-    ensures noted { OnOk result (SameNotes input.old input.new output.old output.new) }
+    ensures none { IfErr result (HasNoKeys question.entry (R.remaining input.old.inner)
+        (writer_contents W.contents output.old.inner)
+        (writer_contents W.contents output.new.inner)) }
+    ensures noted { answer_fails result ≡ false
+        → SameNotes input.old input.new output.old output.new }
     ensures failed { IfErr result (AnswerFailed (input.new.failed ≡ true)
         (output.new.failed ≡ true)) }
     ensures unread { of_lines question.entry ≡ false → input.new ≡ input.old }

@@ -20,6 +20,8 @@ pub enum Status {
     BadUsage,
     /// A file has no trie, or the input of a build is no pairs.
     BadInput,
+    /// The keys are to be lines of standard input, which is another file.
+    BadKeys,
     /// A file or standard input can't be read.
     Unread,
     /// A file or output can't be written.
@@ -38,7 +40,7 @@ impl Status {
         match self {
             Status::Done => 0,
             Status::Absent | Status::Refused | Status::Taken => 1,
-            Status::BadUsage | Status::BadInput => 2,
+            Status::BadUsage | Status::BadInput | Status::BadKeys => 2,
             Status::Unread | Status::Unwritten | Status::OutOfMemory => 3,
             Status::Closed => 4,
         }

@@ -9,6 +9,7 @@ ghost use Rattle.zerotrie_run.specs.Told.{LineTold, TellsMore};
 
 use crate::ask::AskError;
 use crate::command::{Question, TrieFile};
+use crate::messages::build::other_words;
 use crate::messages::key::add_key;
 use crate::messages::line::{
     STANDARD_INPUT, STANDARD_OUTPUT, add, add_kind, add_number, add_words, begin_line, end_line,
@@ -222,6 +223,9 @@ pub fn ask_text(alloc: Global, file: TrieFile<'_>, error: &AskError) -> Result<V
         AskError::NoTrie(why, is_text) => no_trie(alloc, file, why, *is_text),
         AskError::NotText(key) => not_text(alloc, path, key.as_slice()),
         AskError::Unanswered(AnswerError::Input(error)) => fault_on(alloc, STANDARD_INPUT, error),
+        AskError::Unanswered(AnswerError::NoLines(other)) => {
+            line_on(alloc, STANDARD_INPUT, other_words(*other))
+        }
         AskError::Unanswered(AnswerError::Output(error)) => unwritten(
             alloc,
             STANDARD_OUTPUT,

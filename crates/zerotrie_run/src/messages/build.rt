@@ -48,7 +48,7 @@ fn index_refused(error: &ZeroIndexBuildError) -> &'static str {
 }
 
 /// Returns what is said of an input that is another file, and what to do.
-fn other_words(other: OtherFile) -> &'static str
+pub(crate) fn other_words(other: OtherFile) -> &'static str
     ensures { result.now ≡ other_words other }
 {
     match other {

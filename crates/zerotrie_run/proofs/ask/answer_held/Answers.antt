@@ -16,4 +16,4 @@ pub returns-in-Ok-clause-ok : goal.returns-in-Ok-clause-ok
 returns-in-Ok-clause-ok g c = (of_index c.in-Some.index.now, c.in-Some.ensures.some, c.in-Ok.ensures.answered)
 
 pub returns-in-Err-clause-err : goal.returns-in-Err-clause-err
-returns-in-Err-clause-err g c = (of_index c.in-Some.index.now, c.in-Some.ensures.some, c.in-Err.ensures.part)
+returns-in-Err-clause-err g c = (of_index c.in-Some.index.now, c.in-Some.ensures.some, c.in-Err.ensures.part, c.in-Err.ensures.none)

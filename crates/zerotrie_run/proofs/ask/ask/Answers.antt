@@ -2,7 +2,7 @@ use Rattle.std.proofs.Common.{rules, inl, inr, subst}
 use Rattle.std.proofs.lemmas.Result.{err_from_is_err_and}
 use Rattle.std.specs.Io.Buffered.{writer_contents}
 use Rattle.zerotrie_run.specs.Runs.{HasNumberToo, IsAsked}
-use Rattle.zerotrie_run.proofs.AskLemmas.{kept_content, same_answer, answer_in_part, same_part, is_not, ends_unanswered, reason_unanswered}
+use Rattle.zerotrie_run.proofs.AskLemmas.{kept_content, same_answer, answer_in_part, same_keys, same_part, is_not, ends_unanswered, reason_unanswered}
 use Rattle.zerotrie_run.proofs.ask.ask.Goals as goal
 
 pub returns-in-Ok-hand_on-clause-ok : goal.returns-in-Ok-hand_on-clause-ok
@@ -58,6 +58,8 @@ returns-in_err-all-clause-err g c =
     c.in_err-all.field-0.0 (rw c.as_slice-held.ensures.value c.in-Ok.ensures.read)
     (λ x h. same_part c.args.file.place remaining c.args.input.now c.read_place.new.input x c.args.question old new
     (λ both. is_not c.reads_twice.result c.if-reads_twice.false (c.reads_twice.ensures.1 both)) c.read_place.ensures.untouched h)
+    (λ e h. same_keys c.args.file.place remaining c.args.input.now c.read_place.new.input c.args.question old new e
+    (λ both. is_not c.reads_twice.result c.if-reads_twice.false (c.reads_twice.ensures.1 both)) c.read_place.ensures.untouched h)
     c.in_err-all.ensures.err)
 
 pub returns-in_err-all-clause-why : goal.returns-in_err-all-clause-why
@@ -66,7 +68,10 @@ returns-in_err-all-clause-why g c =
     let remaining = g.R.Read.remaining in
     let same = err_from_is_err_and c.from_residual-in_err-all.result c.from_residual-in_err-all.ensures.1 in
     rw (same.1, same.2) (reason_unanswered c.args.file c.args.question (remaining c.args.input.now.inner) (remaining c.read_place.new.input.inner) (g.D.Disk.story c.args.files.now.disk) c.as_slice-held.result.now
-    (contents c.args.output.now.inner) (contents c.answer_held.new.output.inner) c.in_err-all.field-0.0 (rw c.as_slice-held.ensures.value c.in-Ok.ensures.read) c.in_err-all.ensures.err)
+    (contents c.args.output.now.inner) (contents c.answer_held.new.output.inner) c.in_err-all.field-0.0 (rw c.as_slice-held.ensures.value c.in-Ok.ensures.read)
+    (λ e h. same_keys c.args.file.place remaining c.args.input.now c.read_place.new.input c.args.question (contents c.args.output.now.inner) (contents c.answer_held.new.output.inner) e
+    (λ both. is_not c.reads_twice.result c.if-reads_twice.false (c.reads_twice.ensures.1 both)) c.read_place.ensures.untouched h)
+    c.in_err-all.ensures.err)
 
 pub returns-in-Some-clause-notes : goal.returns-in-Some-clause-notes
 returns-in-Some-clause-notes g c = λ fine.

@@ -2,7 +2,8 @@ use Rattle.std.proofs.Common.{◌∙◌, ap, map, subst}
 use Rattle.zerotrie_queries.specs.Finders.{Finds}
 use Rattle.zerotrie_queries.specs.Answers.{AreAnswered, AreAnsweredInPart}
 use Rattle.std.specs.Io.Buffered.{writer_contents}
-use Rattle.zerotrie_lines.specs.Lines.{lines_of}
+use Rattle.zerotrie_lines.specs.Lines.{ended_lines}
+use Rattle.zerotrie_lines.specs.declared.reading.LineEnd.TheVariants.{CrLf}
 use Rattle.zerotrie_queries.proofs.PartLemmas.{on_err}
 use Rattle.zerotrie_queries.proofs.AnswerLemmas.{begun_none, begun_all}
 use Rattle.zerotrie_run.proofs.AskLemmas.{kept_texts}
@@ -19,7 +20,7 @@ returns-clause-answered g c =
     kept_texts c.args.query Has _ old mid (contents c.hand_on.new.self.inner) c.in_ok-all.all answered c.hand_on.ensures.bytes
 
 pub returns-in_err-lines-clause-part : goal.returns-in_err-lines-clause-part
-returns-in_err-lines-clause-part g c = on_err c.from_residual.result (begun_none c.args.query (Finds c.args.finder.now c.args.query.asked) (lines_of c.args.part.now) (writer_contents g.W.Write.contents c.args.output.now.inner))
+returns-in_err-lines-clause-part g c = on_err c.from_residual.result (begun_none c.args.query (Finds c.args.finder.now c.args.query.asked) (ended_lines CrLf c.args.part.now) (writer_contents g.W.Write.contents c.args.output.now.inner))
 
 pub returns-in_err-all-clause-part : goal.returns-in_err-all-clause-part
 returns-in_err-all-clause-part g c =
@@ -36,4 +37,4 @@ returns-in_err-hand_on-clause-part g c =
     let lines = ap (map (λ line. line.now)) c.as_slice.ensures.value ∙ c.in_ok-lines.ensures in
     let answered = subst (λ ts. AreAnswered c.args.query Has ts old mid c.in_ok-all.all) lines c.in_ok-all.ensures.answered in
     let kept = kept_texts c.args.query Has _ old mid (contents c.hand_on.new.self.inner) c.in_ok-all.all answered c.hand_on.ensures.bytes in
-    on_err c.from_residual-in_err-hand_on.result (begun_all c.args.query Has (lines_of c.args.part.now) old (contents c.hand_on.new.self.inner) c.in_ok-all.all kept)
+    on_err c.from_residual-in_err-hand_on.result (begun_all c.args.query Has (ended_lines CrLf c.args.part.now) old (contents c.hand_on.new.self.inner) c.in_ok-all.all kept)
