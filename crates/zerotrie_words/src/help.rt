@@ -2,6 +2,8 @@
 
 use crate::arguments::{Argument, Form, Subcommand};
 use std::alloc::{AllocError, Global};
+use std::str;
+use zerotrie_lines::write_escaped;
 
 /// How many columns a line of help has at most.
 const WIDTH: usize = 80;
@@ -113,15 +115,27 @@ pub fn text_apart<'a>(
     None
 }
 
+/// Adds a text with escapes, as a word in it may have bytes that steer a terminal.
+fn add_escaped(text: &mut String, words: &str, bytes: &mut Vec<u8>) -> Result<(), AllocError> {
+    bytes.clear();
+    write_escaped(bytes, words.as_bytes())?;
+    // escapes of a text are one
+    text.push_str(str::from_utf8(bytes.as_slice()).unwrap_or(""))
+}
+
 /// Adds how to write an option with a text that begins with a hyphen, if there is one.
-fn add_tip(text: &mut String, apart: Option<(&str, &str)>) -> Result<(), AllocError> {
+fn add_tip(
+    text: &mut String,
+    apart: Option<(&str, &str)>,
+    bytes: &mut Vec<u8>,
+) -> Result<(), AllocError> {
     let Some((option, word)) = apart else {
         return Ok(());
     };
     text.push_str("  tip: write ")?;
     text.push_str(option)?;
     text.push_str(if option.starts_with("--") { "=" } else { "" })?;
-    text.push_str(word)?;
+    add_escaped(text, word, bytes)?;
     text.push_str(" for a text that begins with a hyphen\n")
 }
 
@@ -129,12 +143,13 @@ fn add_tip(text: &mut String, apart: Option<(&str, &str)>) -> Result<(), AllocEr
 /// lacking may be `-`.
 fn error_of(alloc: Global, error: &str, apart: Option<(&str, &str)>) -> Result<String, AllocError> {
     let mut text = String::new(alloc);
+    let mut bytes = Vec::new(alloc);
     text.push_str("zerotrie: ")?;
     let mut was_empty = false;
     for line in error.lines() {
         let is_empty = line.is_empty();
         if is_said(line) && !(is_empty && was_empty) {
-            text.push_str(line)?;
+            add_escaped(&mut text, line, &mut bytes)?;
             if line.starts_with("  <") && line.ends_with(">...") {
                 text.push_str(", or - for standard input")?;
             }
@@ -142,7 +157,7 @@ fn error_of(alloc: Global, error: &str, apart: Option<(&str, &str)>) -> Result<S
             was_empty = is_empty;
         }
     }
-    add_tip(&mut text, apart)?;
+    add_tip(&mut text, apart, &mut bytes)?;
     Ok(text)
 }
 
