@@ -23,6 +23,12 @@ export type Value = number | bigint;
 /** What bytes are taken from. They are not copied: do not change them while they are in use. */
 export type Bytes = ArrayBufferView | ArrayBufferLike;
 
+/** What a call yields, one after another, as it is asked for. */
+export type Listing<T> = Generator<T, undefined, unknown>;
+
+/** How `fuzzy()` searches. */
+export type Fuzzy = { readonly beginnings?: boolean; readonly swaps?: boolean };
+
 /**
  * - `EMPTY`: the file has no bytes.
  * - `NOT_A_TRIE`: the file is neither sealed nor tagged bytes.
@@ -48,10 +54,13 @@ export class ZeroTrieError extends Error {
  * A key is given as a string, which means its UTF-8, or as bytes. What is found comes as strings if a string was given,
  * and as Uint8Arrays of their own if bytes were given. Anything else is a TypeError.
  *
+ * It has what a `ReadonlyMap` has. structuredClone() and postMessage() of it are an error: send its `bytes`, in place if
+ * they are in a SharedArrayBuffer, and its `kind`.
+ *
  * On any bytes every call returns, and a listing has at most as many pairs as there are bytes. If the bytes are not a
  * trie of the kind, the result is unspecified: nothing here validates them, but for the checksum of a sealed file.
  */
-export class ZeroTrie implements Iterable<[string, Value]> {
+export class ZeroTrie implements ReadonlyMap<string, Value> {
     /** A trie without a header. Throws a ZeroTrieError `UNKNOWN_KIND`. */
     constructor(bytes: Bytes, kind: Kind);
 
@@ -72,27 +81,51 @@ export class ZeroTrie implements Iterable<[string, Value]> {
 
     /** Yields each key that a text begins with, as the text has it, and its value: the shortest first. If the text is a
      *  string, keys that end inside a character are left out. */
-    prefixes(text: string): IterableIterator<[string, Value]>;
-    prefixes(text: Bytes): IterableIterator<[Uint8Array, Value]>;
+    prefixes(text: string): Listing<[string, Value]>;
+    prefixes(text: Bytes): Listing<[Uint8Array, Value]>;
 
     /** Returns the last of `prefixes(text)`; undefined if there is none. */
     longestPrefix(text: string): [string, Value] | undefined;
     longestPrefix(text: Bytes): [Uint8Array, Value] | undefined;
 
-    /** Yields the pairs whose keys begin with a prefix, in the order of the trie's bytes. In SIMPLE_ASCII it is that of
-     *  the keys. Throws a ZeroTrieError `NOT_TEXT` at a key that is not UTF-8 if the prefix is a string. */
-    pairs(prefix?: string): IterableIterator<[string, Value]>;
-    pairs(prefix: Bytes): IterableIterator<[Uint8Array, Value]>;
+    /** Yields the pairs whose keys begin with a prefix, in the order of bytes: that of UTF-8, by code points. Throws a
+     *  ZeroTrieError `NOT_TEXT` at a key that is not UTF-8 if the prefix is a string. */
+    entries(prefix?: string): Listing<[string, Value]>;
+    entries(prefix: Bytes): Listing<[Uint8Array, Value]>;
 
-    /** Yields the keys of `pairs(prefix)`. */
-    keys(prefix?: string): IterableIterator<string>;
-    keys(prefix: Bytes): IterableIterator<Uint8Array>;
+    /** Yields the keys of `entries(prefix)`. */
+    keys(prefix?: string): Listing<string>;
+    keys(prefix: Bytes): Listing<Uint8Array>;
 
-    /** Yields the values of `pairs(prefix)`, of keys that are not UTF-8 too. */
-    values(prefix?: string | Bytes): IterableIterator<Value>;
+    /** Yields the values of `entries(prefix)`, of keys that are not UTF-8 too. */
+    values(prefix?: string | Bytes): Listing<Value>;
 
-    /** Yields `pairs()`, so that `new Map(trie)` has all pairs. */
-    [Symbol.iterator](): IterableIterator<[string, Value]>;
+    /** Yields the pairs of `entries(prefix)` in the order of the trie's bytes, which takes less time. In SIMPLE_ASCII it is
+     *  that of the keys. */
+    pairs(prefix?: string): Listing<[string, Value]>;
+    pairs(prefix: Bytes): Listing<[Uint8Array, Value]>;
+
+    /** Yields the pairs whose keys are from `from` on and below `below`, in the order of bytes. Undefined is no bound. The
+     *  keys come as `from` was given, or else as `below` was. */
+    range(from?: string, below?: string | Bytes): Listing<[string, Value]>;
+    range(from: Bytes, below?: string | Bytes): Listing<[Uint8Array, Value]>;
+    range(from: undefined, below: Bytes): Listing<[Uint8Array, Value]>;
+
+    /** Yields the pairs whose keys at most so many edits make of a word, 1 if left out, in the order of bytes. An edit
+     *  inserts, deletes or changes a character if the word is a string, and else a byte; with `swaps`, two neighbours that
+     *  change places are one edit, too. With `beginnings` also those that begin with such a key. In IGNORE_CASE case is
+     *  ignored. A number of edits that is not whole is a RangeError. */
+    fuzzy(word: string, edits?: number, how?: Fuzzy): Listing<[string, Value]>;
+    fuzzy(word: Bytes, edits?: number, how?: Fuzzy): Listing<[Uint8Array, Value]>;
+
+    /** Calls a function with the value and the key of each pair of `entries()`, and with the trie. */
+    forEach(call: (value: Value, key: string, trie: ZeroTrie) => void, self?: unknown): void;
+
+    /** How many pairs there are. The first time it lists all. */
+    get size(): number;
+
+    /** Yields `entries()`, so that `new Map(trie)` has all pairs. */
+    [Symbol.iterator](): Listing<[string, Value]>;
 }
 
 /**

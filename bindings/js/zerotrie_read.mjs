@@ -46,6 +46,20 @@ function bytesOf(key) {
     return half < 0 ? encoder.encode(key) : [...encoder.encode(key.slice(0, half)), NO_BYTE];
 }
 
+/** Room for the UTF-8 of short keys. */
+const room = new Uint8Array(256);
+
+/** Writes a string of ASCII alone into the room, and returns it; undefined if the string is another one. */
+function inRoom(text) {
+    if (text.length > room.length) return undefined;
+    for (let at = 0; at < text.length; at++) {
+        const code = text.charCodeAt(at);
+        if (code > 0x7f) return undefined;
+        room[at] = code;
+    }
+    return room;
+}
+
 /** Returns some bytes as a string if `given` is one; undefined if they are not UTF-8. */
 function inFormOf(given, bytes) {
     const own = Uint8Array.from(bytes);
@@ -65,8 +79,6 @@ const SPAN = 5;
 const MOST = 2n ** 64n - 1n;
 
 const fold = (byte) => (byte >= 0x41 && byte <= 0x5a ? byte | 0x20 : byte);
-const isEqual = (byte, wanted) => byte === wanted;
-const isEqualInAnyCase = (byte, wanted) => fold(byte) === fold(wanted);
 
 /** Returns `128 * number + more`, as a bigint if it is no safe number. */
 function longer(number, more) {
@@ -83,7 +95,9 @@ class Cursor {
         this.run = 0; // how many bytes of a span are left here
         this.number = 0; // the last one that was read
         this.hashes = kind === Kind.PERFECT_HASH || kind === Kind.EXTENDED_CAPACITY;
-        this.same = kind === Kind.IGNORE_CASE ? isEqualInAnyCase : isEqual;
+        this.inAnyCase = kind === Kind.IGNORE_CASE;
+        // the branch that was read last
+        this.count = this.width = this.edges = this.offsets = this.targets = this.len = 0;
     }
 
     /** Returns the top three bits here, inside a span as of a literal; undefined at the end. */
@@ -132,18 +146,26 @@ class Cursor {
         return this.bytes[this.at++];
     }
 
-    /** Returns the branch here; undefined if there is none. Its offsets are `width` blocks, each with a byte for every
-     *  target but the last. The parameters of a hashed table are skipped, as its edges are compared one by one. */
-    branch() {
+    /** Reads the branch here, and returns whether there is one. Its offsets are `width` blocks, each with a byte for
+     *  every target but the last. The parameters of a hashed table are skipped, as its edges are compared one by one. */
+    isAtBranch() {
         const at = this.form() > SPAN ? this.read(0x20) : 0;
         const head = this.number;
-        if (at === 0 || head >= 0x800 || (head & 0xff) === 1) return undefined;
-        const count = head & 0xff || 256;
-        const width = (head >> 8) + 1;
-        const edges = this.hashes && count >= 16 ? at + count + 1 : at;
-        const offsets = edges + count;
-        const targets = offsets + width * (count - 1);
-        return targets <= this.end ? { count, width, edges, offsets, targets, len: this.end - targets } : undefined;
+        if (at === 0 || head >= 0x800 || (head & 0xff) === 1) return false;
+        this.count = head & 0xff || 256;
+        this.width = (head >> 8) + 1;
+        this.edges = this.hashes && this.count >= 16 ? at + this.count + 1 : at;
+        this.offsets = this.edges + this.count;
+        this.targets = this.offsets + this.width * (this.count - 1);
+        this.len = this.end - this.targets;
+        return this.len >= 0;
+    }
+
+    /** Returns the branch here; undefined if there is none. */
+    branch() {
+        if (!this.isAtBranch()) return undefined;
+        const { count, width, edges, offsets, targets, len } = this;
+        return { count, width, edges, offsets, targets, len };
     }
 
     /** Returns how many bytes after the first target the target of this number ends. */
@@ -168,19 +190,28 @@ class Cursor {
 
     /** Moves to the target of the edge that equals a byte and returns that edge; undefined if there is none. */
     follow(branch, wanted) {
-        for (let number = 0; number < branch.count; number++) {
-            if (this.same(this.bytes[branch.edges + number], wanted)) return this.enter(branch, number);
+        const { bytes, inAnyCase } = this;
+        const { edges, count } = branch;
+        for (let at = edges; at < edges + count; at++) {
+            if (bytes[at] === wanted || (inAnyCase && fold(bytes[at]) === fold(wanted))) return this.enter(branch, at - edges);
         }
         return undefined;
     }
 
     /** Follows a byte, past values. Returns the byte of the trie that equals it; undefined if none does. */
     step(wanted) {
-        while (this.takeValue() !== undefined);
-        const branch = this.branch();
-        if (branch) return this.follow(branch, wanted);
+        if (this.run === 0) {
+            while (this.takeValue() !== undefined);
+            if (this.isAtBranch()) return this.follow(this, wanted);
+        }
         const byte = this.takeByte();
-        return this.same(byte, wanted) ? byte : undefined;
+        return byte === wanted || (this.inAnyCase && byte !== undefined && fold(byte) === fold(wanted)) ? byte : undefined;
+    }
+
+    /** Returns the value of a key, the first bytes of these; undefined if there is none. */
+    find(key, len) {
+        for (let at = 0; at < len; at++) if (this.step(key[at]) === undefined) return undefined;
+        return this.takeValue();
     }
 }
 
@@ -192,45 +223,164 @@ function* beginnings(cursor, text) {
     }
 }
 
-/** Passes the node here, which is no value. If none begins here, this target ends. */
-function passNode(cursor, key, open) {
-    const branch = cursor.branch();
-    const byte = branch ? undefined : cursor.takeByte();
-    if (branch) open.push({ branch, next: 0, keyLen: key.length });
-    if (byte === undefined) cursor.at = cursor.end;
-    else key.push(byte);
+/** Returns the numbers of a branch's edges in the order of their bytes; undefined if that is theirs. */
+function inOrder(bytes, { edges, count }) {
+    let number = 1;
+    while (number < count && bytes[edges + number - 1] < bytes[edges + number]) number++;
+    if (number >= count) return undefined;
+    return Array.from({ length: count }, (_, place) => place).sort((one, other) => bytes[edges + one] - bytes[edges + other]);
 }
 
-/** Moves to the next target of the innermost open branch that has one. Returns whether one has. */
-function nextTarget(cursor, key, open) {
-    for (; open.length > 0; open.pop()) {
-        const last = open[open.length - 1];
-        const number = last.next++;
-        const edge = number < last.branch.count ? cursor.enter(last.branch, number) : undefined;
-        if (edge !== undefined) {
-            key.length = last.keyLen;
-            return key.push(edge) > 0;
-        }
+/** The pairs of a trie one after another: those below a prefix, in the order of bytes if `isSorted`, from a key on if
+ *  one is given, and those that a search finds if one is given. */
+class Listing {
+    constructor(cursor, prefix, { isSorted = false, from = [], search } = {}) {
+        this.cursor = cursor;
+        this.prefix = prefix;
+        this.isSorted = isSorted;
+        this.from = from;
+        this.search = search;
+        this.key = [];
+        this.open = []; // the branches whose targets are left
+        this.isBelow = from.length > 0; // whether the key is a beginning of `from`, and shorter
     }
+
+    /** Adds a byte to the key. What begins with a key that is below `from`, or that the search rules out, is passed. */
+    add(byte) {
+        const { cursor, key, from } = this;
+        const least = this.isBelow ? from[key.length] : 0;
+        key.push(byte);
+        this.isBelow = this.isBelow && byte === least && key.length < from.length;
+        const goesOn = this.search === undefined || this.search.push(byte);
+        if (byte >= least && goesOn) return;
+        cursor.at = cursor.end;
+        cursor.run = 0;
+    }
+
+    /** Passes the node here, which is no value. If none begins here, this target ends. */
+    passNode() {
+        const { cursor, key } = this;
+        const branch = cursor.branch();
+        const byte = branch ? undefined : cursor.takeByte();
+        if (branch) {
+            const order = this.isSorted ? inOrder(cursor.bytes, branch) : undefined;
+            this.open.push({ branch, order, next: 0, keyLen: key.length, isBelow: this.isBelow });
+        }
+        if (byte === undefined) cursor.at = cursor.end;
+        else this.add(byte);
+    }
+
+    /** Moves to the next target of the innermost open branch that has one. Returns whether one has. */
+    nextTarget() {
+        const { cursor, open, search } = this;
+        for (; open.length > 0; open.pop()) {
+            const last = open[open.length - 1];
+            const place = last.next++;
+            const edge = place < last.branch.count ? cursor.enter(last.branch, last.order?.[place] ?? place) : undefined;
+            if (edge !== undefined) {
+                this.key.length = last.keyLen;
+                this.isBelow = last.isBelow;
+                search?.cut(last.keyLen);
+                this.add(edge);
+                return true;
+            }
+        }
+        return false;
+    }
+
+    /** Moves behind the prefix. Returns whether a key begins with it. */
+    skipPrefix() {
+        for (const wanted of this.prefix) {
+            const byte = this.cursor.step(wanted);
+            if (byte === undefined) return false;
+            this.key.push(byte);
+        }
+        return true;
+    }
+
+    /** Yields the key, as an array that the next step changes, and the value of each pair. */
+    *[Symbol.iterator]() {
+        const { cursor, key, search } = this;
+        if (!this.skipPrefix()) return;
+        do {
+            while (cursor.at < cursor.end) {
+                const value = cursor.takeValue();
+                if (value === undefined) this.passNode();
+                else if (!this.isBelow && (search === undefined || search.accepts())) yield [key, value];
+            }
+        } while (this.nextTarget());
+    }
+}
+
+/** Whether a key is below another one, in the order of bytes. */
+function isLess(key, other) {
+    for (let at = 0; at < other.length; at++) if (key[at] !== other[at]) return at >= key.length || key[at] < other[at];
     return false;
 }
 
-/** Yields the key, as an array that the next step changes, and the value of each pair below a prefix. */
-function* listing(cursor, prefix) {
-    const key = [];
-    const open = [];
-    for (const wanted of prefix) {
-        const byte = cursor.step(wanted);
-        if (byte === undefined) return;
-        key.push(byte);
+/* --- Edits ------------------------------------------------------------------------------------------------------ */
+
+/** Which keys few edits make of a word: after each byte of a key, how many edits make it of each beginning of the word. */
+class Edits {
+    constructor(word, { edits, beginnings, swaps, inAnyCase }) {
+        this.byCharacters = typeof word === "string";
+        const folded = (unit) => (inAnyCase ? fold(unit) : unit);
+        this.folded = folded;
+        this.word = (this.byCharacters ? Array.from(word, (it) => it.codePointAt(0)) : [...bytesOf(word)]).map(folded);
+        this.most = edits;
+        this.beginnings = beginnings;
+        this.swaps = swaps;
+        const row = this.word.map((_, place) => place + 1);
+        this.states = [this.stateOf([0, ...row], undefined, undefined, false)];
     }
-    do {
-        while (cursor.at < cursor.end) {
-            const value = cursor.takeValue();
-            if (value === undefined) passNode(cursor, key, open);
-            else yield [key, value];
+
+    stateOf(row, before, unit, isFound) {
+        const found = isFound || (this.beginnings && row[this.word.length] <= this.most);
+        return { row, before, unit, isFound: found, code: 0, left: 0 };
+    }
+
+    /** Whether the key is found. */
+    accepts() {
+        const { row, isFound, left } = this.states[this.states.length - 1];
+        return isFound || (left === 0 && row[this.word.length] <= this.most);
+    }
+
+    /** Goes back to a key of this length. */
+    cut(len) {
+        this.states.length = len + 1;
+    }
+
+    /** Adds a byte to the key. Returns whether keys that begin with it may be found. */
+    push(byte) {
+        const state = this.states[this.states.length - 1];
+        const unit = this.byCharacters ? this.characterOf(state, byte) : { code: byte, left: 0 };
+        if (unit === undefined) this.states.push({ ...state, row: [], left: -1 });
+        else if (unit.left > 0) this.states.push({ ...state, ...unit });
+        else this.states.push(this.next(state, this.folded(unit.code)));
+        const { row, isFound, left } = this.states[this.states.length - 1];
+        return isFound || left > 0 || row.some((number) => number <= this.most);
+    }
+
+    /** Returns the part of a character of UTF-8 up to a byte, and how many bytes are left; undefined if it is none. */
+    characterOf({ code, left }, byte) {
+        if (left > 0) return byte >> 6 === 2 ? { code: (code << 6) | (byte & 0x3f), left: left - 1 } : undefined;
+        if (byte < 0x80) return { code: byte, left: 0 };
+        if (byte < 0xc2 || byte > 0xf4) return undefined;
+        const more = byte < 0xe0 ? 1 : byte < 0xf0 ? 2 : 3;
+        return { code: byte & (0x3f >> more), left: more };
+    }
+
+    next({ row, before, unit: last, isFound }, unit) {
+        const { word } = this;
+        const made = [row[0] + 1];
+        for (let at = 1; at <= word.length; at++) {
+            const changed = row[at - 1] + (word[at - 1] === unit ? 0 : 1);
+            made[at] = Math.min(changed, row[at] + 1, made[at - 1] + 1);
+            const isSwap = this.swaps && at > 1 && before && word[at - 2] === unit && word[at - 1] === last;
+            if (isSwap) made[at] = Math.min(made[at], before[at - 2] + 1);
         }
-    } while (nextTarget(cursor, key, open));
+        return this.stateOf(made, row, unit, isFound);
+    }
 }
 
 /* --- Files ------------------------------------------------------------------------------------------------------ */
@@ -294,11 +444,21 @@ function indexInBlocks(file) {
     return index;
 }
 
+/** Makes a copy of an object by structuredClone() or postMessage() an error: a copy would be an empty object. */
+function refuseCopies(object, advice) {
+    const get = () => {
+        throw new TypeError(`this can't be copied or sent: ${advice}`);
+    };
+    Object.defineProperty(object, "copied", { enumerable: true, get });
+}
+
 export class ZeroTrie {
     #bytes;
     #kind;
+    #size;
 
     constructor(bytes, kind) {
+        refuseCopies(this, "send its `bytes` and its `kind`, and make `new ZeroTrie(bytes, kind)` of them");
         this.#bytes = bytesIn(bytes, "the bytes of a trie are a Uint8Array or an ArrayBuffer");
         this.#kind = kind;
         check(KINDS.includes(kind), "UNKNOWN_KIND", `no kind of trie has the number ${kind}`);
@@ -326,11 +486,11 @@ export class ZeroTrie {
     }
 
     get(key) {
+        const ascii = typeof key === "string" ? inRoom(key) : undefined;
+        const cursor = new Cursor(this.#bytes, this.#kind);
+        if (ascii !== undefined) return cursor.find(ascii, key.length);
         const bytes = bytesOf(key);
-        for (const [len, value] of beginnings(new Cursor(this.#bytes, this.#kind), bytes)) {
-            if (len === bytes.length) return value;
-        }
-        return undefined;
+        return cursor.find(bytes, bytes.length);
     }
 
     has(key) {
@@ -349,24 +509,64 @@ export class ZeroTrie {
         return [...this.prefixes(text)].pop();
     }
 
-    *pairs(prefix = "") {
-        for (const [bytes, value] of listing(new Cursor(this.#bytes, this.#kind), bytesOf(prefix))) {
-            const key = inFormOf(prefix, bytes);
+    /** Yields what a listing has, with keys in the form of `given`. */
+    *#listed(given, prefix, how) {
+        for (const [bytes, value] of new Listing(new Cursor(this.#bytes, this.#kind), prefix, how)) {
+            const key = inFormOf(given, bytes);
             check(key !== undefined, "NOT_TEXT", "a key is not UTF-8: give a prefix of bytes, and keys come as bytes");
             yield [key, value];
         }
     }
 
+    *pairs(prefix = "") {
+        yield* this.#listed(prefix, bytesOf(prefix), {});
+    }
+
+    *entries(prefix = "") {
+        yield* this.#listed(prefix, bytesOf(prefix), { isSorted: true });
+    }
+
     *keys(prefix = "") {
-        for (const [key] of this.pairs(prefix)) yield key;
+        for (const [key] of this.entries(prefix)) yield key;
     }
 
     *values(prefix = "") {
-        for (const [, value] of listing(new Cursor(this.#bytes, this.#kind), bytesOf(prefix))) yield value;
+        const cursor = new Cursor(this.#bytes, this.#kind);
+        for (const [, value] of new Listing(cursor, bytesOf(prefix), { isSorted: true })) yield value;
+    }
+
+    *range(from, below) {
+        const given = from ?? below ?? "";
+        const end = below === undefined ? undefined : bytesOf(below);
+        for (const [key, value] of this.#listed(new Uint8Array(), [], { isSorted: true, from: bytesOf(from ?? "") })) {
+            if (end !== undefined && !isLess(key, end)) return;
+            const word = inFormOf(given, key);
+            check(word !== undefined, "NOT_TEXT", "a key is not UTF-8: give a bound of bytes, and keys come as bytes");
+            yield [word, value];
+        }
+    }
+
+    *fuzzy(word, edits = 1, { beginnings = false, swaps = false } = {}) {
+        if (!Number.isInteger(edits) || edits < 0) throw new RangeError(`a number of edits is whole, not ${edits}`);
+        bytesOf(word);
+        const search = new Edits(word, { edits, beginnings, swaps, inAnyCase: this.#kind === Kind.IGNORE_CASE });
+        yield* this.#listed(word, [], { isSorted: true, search });
+    }
+
+    forEach(call, self) {
+        for (const [key, value] of this) call.call(self, value, key, this);
+    }
+
+    get size() {
+        if (this.#size === undefined) {
+            this.#size = 0;
+            for (const pair of new Listing(new Cursor(this.#bytes, this.#kind), [])) this.#size += pair.length > 0 ? 1 : 0;
+        }
+        return this.#size;
     }
 
     [Symbol.iterator]() {
-        return this.pairs();
+        return this.entries();
     }
 }
 
@@ -406,6 +606,7 @@ export class ZeroIndex {
     #words;
 
     constructor(bytes) {
+        refuseCopies(this, "send its `bytes`, and make `new ZeroIndex(bytes)` of them");
         this.#bytes = bytesIn(bytes, "the bytes of an index are a Uint8Array or an ArrayBuffer");
         this.#words = new DataView(this.#bytes.buffer, this.#bytes.byteOffset, this.#bytes.byteLength);
     }

@@ -217,6 +217,90 @@ function listings() {
     assert.equal(pairs[Symbol.iterator](), pairs);
 }
 
+/** How many edits make one list of units of another one, by the definition. */
+function distance(one, other, swaps) {
+    const cells = Array.from({ length: one.length + 1 }, (_, i) => Array.from({ length: other.length + 1 }, (_, j) => (i === 0 ? j : j === 0 ? i : 0)));
+    for (let i = 1; i <= one.length; i++) {
+        for (let j = 1; j <= other.length; j++) {
+            const isSame = one[i - 1] === other[j - 1];
+            cells[i][j] = Math.min(cells[i - 1][j] + 1, cells[i][j - 1] + 1, cells[i - 1][j - 1] + (isSame ? 0 : 1));
+            const isSwap = swaps && i > 1 && j > 1 && one[i - 2] === other[j - 1] && one[i - 1] === other[j - 2];
+            if (isSwap) cells[i][j] = Math.min(cells[i][j], cells[i - 2][j - 2] + 1);
+        }
+    }
+    return cells[one.length][other.length];
+}
+
+/** A map whose first branch is hashed, in the order of bytes: the keys of characters.trie, and some that are not ASCII, as
+ *  StrTrie.build(.., PERFECT_HASH).save() in Python writes them. */
+function sorted() {
+    const trie = ZeroTrie.open(readFileSync(new URL("js_hashed.trie", import.meta.url)));
+    const buffer = ([key]) => Buffer.from(key);
+    const all = [...trie.pairs()].sort((one, other) => Buffer.compare(buffer(one), buffer(other)));
+    assert.ok(all.length > 250 && trie.kind === Kind.PERFECT_HASH);
+    assert.notDeepEqual([...trie.pairs()], all);
+    assert.deepEqual([...trie.entries()], all);
+    assert.deepEqual([...trie], all);
+    assert.deepEqual([[...trie.keys()], [...trie.values()]], [all.map(([key]) => key), all.map(([, value]) => value)]);
+    for (const prefix of ["", "c", "co", "re", "s", "a", "L", "none"]) {
+        const wanted = all.filter(([key]) => key.startsWith(prefix));
+        assert.deepEqual([...trie.entries(prefix)], wanted);
+        assert.deepEqual([...trie.keys(prefix)].slice(0, 12), wanted.slice(0, 12).map(([key]) => key));
+    }
+    const places = [0, 1, 17, all.length >> 1, all.length - 2, all.length];
+    for (const from of places) {
+        for (const to of places) {
+            const bounds = [all[from]?.[0] ?? "\u{10ffff}", all[to]?.[0] ?? "\u{10ffff}"];
+            assert.deepEqual([...trie.range(...bounds)], all.slice(from, Math.max(from, to)));
+            // bounds that are no keys: a little more, and a little less
+            const [more] = trie.range(`${bounds[0]}\0`);
+            assert.deepEqual(more, all[from + 1]);
+            assert.deepEqual([...trie.range(bounds[0].slice(0, 1), bounds[0])].pop()?.[0], all[from - 1]?.[0][0] === bounds[0][0] ? all[from - 1][0] : undefined);
+        }
+    }
+    assert.deepEqual([...trie.range()], all);
+    assert.deepEqual([...trie.range(undefined, all[5][0])], all.slice(0, 5));
+    const [[key]] = trie.range(undefined, bytes(all[5][0]));
+    assert.deepEqual(key, bytes(all[0][0]));
+    // as a Map has it
+    const map = new Map(trie);
+    assert.deepEqual([trie.size, trie.size], [map.size, all.length]);
+    const seen = [];
+    trie.forEach(function (value, key, whole) {
+        seen.push([key, value]);
+        assert.ok(this === seen && whole === trie);
+    }, seen);
+    assert.deepEqual(seen, all);
+    for (const call of [() => structuredClone(trie), () => structuredClone({ trie })]) assert.throws(call, /send its `bytes` and its `kind`/);
+    const again = structuredClone({ bytes: trie.bytes, kind: trie.kind });
+    assert.equal(new ZeroTrie(again.bytes, again.kind).get(all[9][0]), all[9][1]);
+    fuzzy(trie, all);
+}
+
+function fuzzy(trie, all) {
+    for (const word of ["LATIN SMAL LETTER", "space", "nbsp", "", "alhpa", "Agrave", "zürich", "q"]) {
+        for (const swaps of [false, true]) {
+            for (const edits of [0, 1, 2, 3]) {
+                const near = (text) => distance([...text], [...word], swaps) <= edits;
+                assert.deepEqual([...trie.fuzzy(word, edits, { swaps })], all.filter(([key]) => near(key)), word);
+                const closeBytes = all.filter(([key]) => distance(bytes(key), bytes(word), swaps) <= edits).map(([key]) => bytes(key));
+                assert.deepEqual([...trie.fuzzy(bytes(word), edits, { swaps })].map(([key]) => key), closeBytes, word);
+                const begins = (key) => Array.from({ length: key.length + 1 }, (_, len) => key.slice(0, len)).some(near);
+                assert.deepEqual([...trie.fuzzy(word, edits, { swaps, beginnings: true })], all.filter(([key]) => begins(key)), word);
+            }
+        }
+    }
+    const anyCase = new ZeroTrie(hex("C2 4266 0A 61 C2 727A 01 82 7A6F6F 83 6F6F 81"), Kind.IGNORE_CASE);
+    assert.deepEqual([...anyCase.fuzzy("bRA", 1, { swaps: true })], [["Bar", 2]]);
+    assert.deepEqual([...anyCase.fuzzy("bRA")], []);
+    for (const edits of [-1, 1.5, "1", NaN]) assert.throws(() => [...trie.fuzzy("a", edits)], RangeError);
+    for (const word of [undefined, 5]) assert.throws(() => [...trie.fuzzy(word)], TypeError);
+    // characters of two to four bytes: two keys, and a byte that is none
+    const letters = new ZeroTrie(hex("A2 C3A9 81 61 82"), Kind.PERFECT_HASH);
+    assert.deepEqual([...letters.fuzzy("e")].map(([key]) => key), ["é"]);
+    assert.deepEqual([...letters.fuzzy("a")].map(([key]) => key), ["é", "éa"]);
+}
+
 /** The declarations name what is exported, and each member of the class. */
 function declared() {
     const text = readFileSync(new URL("../js/zerotrie_read.d.mts", import.meta.url), "utf8");
@@ -237,6 +321,6 @@ function declared() {
     assert.deepEqual([...new Set(used)].sort(), codes.sort());
 }
 
-const tests = [examplesOfTheFormat, values, keys, keysThatAreNoText, files, indexes, malformed, listings, declared];
+const tests = [examplesOfTheFormat, values, keys, keysThatAreNoText, files, indexes, malformed, listings, sorted, declared];
 for (const test of tests) test();
 console.log("js: calls, errors and declarations are right");

@@ -88,11 +88,30 @@ function compareListing(trie, prefix) {
         comparePair(pairs.next().value, wanted[wanted.length - 1], "pairs");
     }
     same(pairs.next().done, "pairs end", prefix);
+    compareSorted(trie, prefix, wanted);
+}
+
+/** The same in the order of bytes. In malformed bytes a listing ends in a branch at a target that is none, so that another
+ *  order has other pairs. */
+function compareSorted(trie, prefix, listed) {
+    const byKey = ([one], [other]) => Buffer.compare(one, other);
+    const wanted = [...listed].sort(byKey);
+    const entries = [...trie.entries(prefix)];
     const values = [...trie.values(prefix)];
-    same(values.length === wanted.length, "values", values);
+    same(entries.length === values.length && entries.length <= trie.bytes.length, "entries", entries, values);
+    if (!isValid) return;
+    same(entries.length === wanted.length, "entries", entries, wanted);
+    for (const [place, pair] of wanted.entries()) comparePair(entries[place], pair, "entries");
     same(values.every((value, place) => isValue(value, wanted[place][1])), "values", values);
     const string = decoded(prefix);
     if (string !== undefined) compareKeys(trie, string, wanted);
+    // between two of them
+    if (wanted.length === 0) return;
+    const [from, below] = [wanted[wanted.length >> 2][0], wanted[(3 * wanted.length) >> 2][0]];
+    const between = [...trie.range(from, below)];
+    const inside = [...trie.entries(new Uint8Array())].filter(([key]) => Buffer.compare(key, from) >= 0 && Buffer.compare(key, below) < 0);
+    same(between.length === inside.length, "range", from, below, between);
+    for (const [place, [key, value]] of inside.entries()) comparePair(between[place], [key, BigInt(value)], "range");
 }
 
 /** The keys as strings, up to the first that is not UTF-8. */
@@ -108,6 +127,9 @@ function compareKeys(trie, prefix, wanted) {
     }
     same(keys.next().done, "keys end", prefix);
 }
+
+/** Whether all bytes that have answers are valid. */
+const isValid = process.argv[2] !== "malformed";
 
 function codeOf(call) {
     try {
@@ -140,6 +162,10 @@ function tryListing(trie, prefix) {
         count++;
     }
     same(count <= trie.bytes.length, "so many pairs");
+    let sorted = 0;
+    for (const value of trie.values(prefix)) sorted += value === undefined ? 0 : 1;
+    same(sorted <= trie.bytes.length && [...trie.range(prefix)].length <= trie.bytes.length, "so many sorted pairs");
+    same([...trie.fuzzy(prefix, 1, { swaps: true })].length <= trie.bytes.length, "so many keys of few edits");
 }
 
 while (hasMore()) {

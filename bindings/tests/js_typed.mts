@@ -10,6 +10,11 @@ const keys: Uint8Array[] = [...trie.keys(bytes)];
 const longest: [Uint8Array, Value] | undefined = trie.longestPrefix(bytes);
 const prefixes: Map<string, Value> = new Map(trie.prefixes("ab"));
 const whole: Map<string, Value> = new Map(trie);
+const map: ReadonlyMap<string, Value> = trie;
+const sorted: [string, Value][] = [...trie.range("a", "b"), ...trie.entries("a"), ...map, ...trie.fuzzy("a", 1, { swaps: true })];
+const between: Uint8Array[] = [...trie.range(bytes)].map(([key]) => key);
+const size: number = trie.size;
+trie.forEach((value, key, whole) => void [BigInt(value), key.length, whole.size]);
 const ofIndex: Value | undefined = ZeroIndex.open(bytes).get("a") ?? new ZeroIndex(bytes).get(bytes);
 const codeOf = (error: unknown): ErrorCode | undefined => (error instanceof ZeroTrieError ? error.code : undefined);
 
@@ -23,7 +28,11 @@ trie.has(5);
 new ZeroIndex(bytes, Kind.SIMPLE_ASCII);
 // @ts-expect-error a prefix of bytes lists keys of bytes
 const strings: string[] = [...trie.keys(bytes)];
+// @ts-expect-error a range of strings has no keys of bytes
+const ranged: Uint8Array[] = [...trie.range("a")].map(([key]) => key);
+// @ts-expect-error it is read-only
+trie.set("a", 1);
 // @ts-expect-error there is no such code
 const code: ErrorCode = "UNSORTED";
 
-export { kind, value, pairs, keys, longest, prefixes, whole, ofIndex, codeOf, number, strings, code };
+export { kind, value, pairs, keys, longest, prefixes, whole, ofIndex, codeOf, number, strings, code, map, sorted, between, size, ranged };
