@@ -258,17 +258,16 @@ below_or_not zero (suc b) = inl (omega arith)
 below_or_not (suc a) zero = inr (omega arith)
 below_or_not (suc a) (suc b) = elim (below_or_not a b) [ inl l ↦ inl (omega (arith, l)) | inr l ↦ inr (omega (arith, l)) ]
 
--- What is left of the bytes that are held has no line feed, if what was held before has none, and nor has what was read after what is
--- answered.
-pub no_feed_left : (held bytes more : List ℕ) (len : ℕ) → more ≡ held ++ bytes → ((k : ℕ) → HasFeed held k → ⊥) → ((k : ℕ) → length held ≤ k → len ≤ k → HasFeed more k → ⊥) → (k : ℕ)
-    → HasFeed (drop len more) k → ⊥
-no_feed_left held bytes more len adds none last k f =
-    let at : get_or more (len + k) 0 ≡ 10 = sym (get_or-drop len more k 0) ∙ f.1 in
-    let within : len + k < length more = omega (arith, f.0, length-drop len more) in
-    elim (below_or_not (len + k) (length held)) [
-      | inl l ↦ none (len + k) (l, sym (get_or_append_left held bytes 0 (len + k) l) ∙ ap (λ m. get_or m (len + k) 0) (sym adds) ∙ at)
-      | inr l ↦ last (len + k) l (omega arith) (within, at)
-    ]
+-- What is left of the bytes that are held has no line feed: none was before a place, and none is from there on behind what is answered.
+pub no_feed_left : (held : List ℕ) (before len : ℕ) → ((k : ℕ) → k < before → HasFeed held k → ⊥) → ((k : ℕ) → before ≤ k → len ≤ k → HasFeed held k → ⊥) → (k : ℕ) → HasFeed (drop len held) k → ⊥
+no_feed_left held before len none last k f =
+    let at : get_or held (len + k) 0 ≡ 10 = sym (get_or-drop len held k 0) ∙ f.1 in
+    let within : len + k < length held = omega (arith, f.0, length-drop len held) in
+    elim (below_or_not (len + k) before) [ inl l ↦ none (len + k) l (within, at) | inr l ↦ last (len + k) l (omega arith) (within, at) ]
+
+-- what was read later is behind what was held
+pub feed_before : (held bytes more : List ℕ) (k : ℕ) → more ≡ held ++ bytes → k < length held → HasFeed more k → HasFeed held k
+feed_before held bytes more k adds l f = (l, sym (get_or_append_left held bytes 0 k l) ∙ ap (λ m. get_or m k 0) (sym adds) ∙ f.1)
 
 -- the input keeps what it has
 consumes_kept : (input left after : Option (List ℕ)) (bytes : List ℕ) → Consumes input left bytes → Keeps left after → Consumes input after bytes
