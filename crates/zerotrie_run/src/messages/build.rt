@@ -160,13 +160,13 @@ fn file_word(count: usize) -> &'static str
 /// is not told.
 fn removed_text(
     alloc: Global,
-    is_told: bool,
+    may_say: bool,
     place: &str,
     removed: usize,
 ) -> Result<Vec<u8>, AllocError>
-    ensures { IfOk result (λ text. text.items ≡ told_removed is_told place.now removed) }
+    ensures { IfOk result (λ text. text.items ≡ told_removed may_say place.now removed) }
 {
-    if !is_told {
+    if !may_say {
         return Ok(Vec::new(alloc));
     }
     let mut text = begin_line(alloc, place)?;
