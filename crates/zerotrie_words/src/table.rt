@@ -228,9 +228,9 @@ const OF_FIRST: &[Argument] = &[
 /// What a status says, in the help of the program.
 pub const STATUSES: &str = "Status: 0 if all is done or found; 1 if a key is not there, a text\n\
     begins with none, pairs differ, or a build is refused; 2 if the command\n\
-    line is wrong, FILE is no trie, or IN is no pairs; 3 if a file can't be read\n\
-    or written, or memory runs out; 4 if whoever reads the output has\n\
-    closed it.";
+    line is wrong, FILE is no trie, IN is no pairs, or keys are no lines;\n\
+    3 if a file can't be read or written, or memory runs out; 4 if whoever\n\
+    reads the output has closed it.";
 
 /// The commands that build a trie and look up in it.
 const LOOK_UPS: &[Subcommand] = &[
