@@ -129,7 +129,7 @@ def crate():
 
 
 def crate_tests():
-    run("cargo", "test", "--quiet", "--offline", cwd=HOME / f"rust/zerotrie-{VERSION}")
+    run("cargo", "test", "--quiet", "--offline", "--features", "__internal", cwd=HOME / f"rust/zerotrie-{VERSION}")
 
 
 def by_cargo(place, which):

@@ -1,8 +1,10 @@
 """What proofs alone read is left out."""
+import re
+
 import errors
 from tokens import FUNCTION
 
-KEPT_ATTRIBUTES = {"inline", "repr", "macro_export", "unsafe", "test", "cfg"}
+KEPT_ATTRIBUTES = {"inline", "repr", "macro_export", "unsafe", "test", "cfg", "must_use", "deprecated", "non_exhaustive", "track_caller"}
 LEFT_OUT_ATTRIBUTES = {"tactic", "cycle", "rattlefmt"}
 NOT_INLINED = "#[inline(never)]"  # Rust's compiler chooses: what it expands needs fewer checks
 KEPT_DERIVES = {"Clone", "Copy", "Debug", "PartialEq", "Eq", "PartialOrd", "Ord", "Default", "Hash"}
@@ -98,13 +100,22 @@ def bounds(source):
 
 
 def imports(source):
-    """Leaves out the imports of what is left out."""
+    """Leaves out the imports of what is left out, and of constants that only that used."""
     for at in source.each("use"):
         end = source.find(at, ";") + 1
+        name = source.before(end - 1)
+        if source.word(name).isupper() and source.word(source.before(at)) != "pub" and times(source, source.word(name)) == 1:
+            source.cut_item(at, end)
+            continue
         if source.part(at, end) in LEFT_OUT_IMPORTS:
             source.cut_item(at, end)
         elif source.match(at, "use std::marker::{Model, PhantomData};"):
             source.put(at, end, "use core::marker::PhantomData;")
+
+
+def times(source, name):
+    """Returns how many tokens have a name in them."""
+    return sum(bool(re.search(rf"\b{name}\b", source.word(it))) for it in range(len(source.tokens)))
 
 
 def erase(source):

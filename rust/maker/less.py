@@ -9,6 +9,19 @@ from tokens import Refused
 SELDOM = ("zerotrie_all/", "zerotrie_reverse/", "zerotrie_index/builder.rs", "zerotrie_index/lent.rs")
 IN_ORDER = "    let sorted = ByteSliceWithIndices::from_byte_slice(items.as_slice());\n    if {}!is_ordered::<K, _>(sorted) {{"
 LESS = {
+    # users match a type that may get more cases, which the macro of the same version has
+    "zerotrie_search/any.rs": {
+        "            $crate::search::AnyAutomaton::SwapsChars($automaton) => $result,\n": """\
+            $crate::search::AnyAutomaton::SwapsChars($automaton) => $result,
+            #[allow(unreachable_patterns)]
+            _ => ::core::unreachable!(),
+""",
+    },
+    "zerotrie_sealed/reading.rs": {
+        'write!(f, "the file does not begin as a sealed one")': 'write!(f, "the file does not begin as a sealed one: give its bytes, not its path")',
+    },
+    "zerotrie_base/byte_phf/mod.rs": {"use crate::rstd::alloc::{AllocError, Allocator, Global};": "use crate::rstd::alloc::{Allocator, Global};"},
+    "zerotrie_build/windows.rs": {"    Literal(u8),": "    #[allow(dead_code)] // a proof reads it\n    Literal(u8),"},
     "zerotrie_build/sort.rs": {
         "prefixes.sort_unstable_by(|a, b| cmp_prefixes": "sort_by(&mut prefixes, &|a, b| cmp_prefixes",
         "items.sort_unstable_by(|a, b| cmp_to_sort::<K>(a.0, b.0))": "sort_by(&mut items, &|a, b| cmp_to_sort::<K>(a.0, b.0))",

@@ -4,13 +4,7 @@
 
 use zerotrie::{ZeroAsciiIgnoreCaseTrie, ZeroTrieBuildError};
 
-const NAMES: [&str; 5] = [
-    "accept",
-    "accept-encoding",
-    "cache-control",
-    "content-type",
-    "host",
-];
+const NAMES: [&str; 5] = ["accept", "accept-encoding", "cache-control", "content-type", "host"];
 
 /// A table of the program itself, without an allocation.
 static MONTHS: ZeroAsciiIgnoreCaseTrie<&[u8]> = ZeroAsciiIgnoreCaseTrie::from_store(b"may\x85");

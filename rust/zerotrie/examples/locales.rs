@@ -10,8 +10,7 @@ const TAGS: [&str; 5] = ["de", "en", "en-GB", "zh-Hant", "zh"];
 
 /// The pattern of dates for the tag. The delimiters make a key end where a part of the tag does.
 fn pattern(tags: &ZeroTrieSimpleAscii<Vec<u8>>, tag: &str) -> Option<&'static str> {
-    tags.longest_prefix_at(tag, "-_")
-        .map(|(_len, number)| PATTERNS[number])
+    tags.longest_prefix_at(tag, "-_").map(|(_len, number)| PATTERNS[number])
 }
 
 fn main() -> Result<(), ZeroTrieBuildError> {

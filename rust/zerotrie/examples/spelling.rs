@@ -45,10 +45,7 @@ fn near(table: &ZeroTrieSimpleAscii<Vec<u8>>, typed: &str) -> Vec<(usize, &'stat
     let mut matches = table.search(Both(osa, Letters));
     while matches.advance() {
         let (state, _) = matches.state();
-        found.extend(
-            osa.distance(state)
-                .map(|edits| (edits, WORDS[matches.value()])),
-        );
+        found.extend(osa.distance(state).map(|edits| (edits, WORDS[matches.value()])));
     }
     found.sort();
     found

@@ -9,19 +9,13 @@ use zerotrie::ZeroTrie;
 
 fn main() -> Result<(), Box<dyn Error>> {
     let mut arguments = env::args_os().skip(1);
-    let (words, file) = (
-        arguments.next().ok_or("WORDS?")?,
-        arguments.next().ok_or("TRIE?")?,
-    );
+    let (words, file) = (arguments.next().ok_or("WORDS?")?, arguments.next().ok_or("TRIE?")?);
     let built = ZeroTrie::try_from_iter(fs::read_to_string(words)?.split_whitespace().zip(0..))?;
     fs::write(&file, built.seal())?;
 
     let trie = ZeroTrie::open(fs::read(&file)?)?;
     // the first completions take no more time if there are thousands
-    let first = trie
-        .iter_prefix("car")
-        .take(3)
-        .map(|(key, _)| String::from_utf8(key));
+    let first = trie.iter_prefix("car").take(3).map(|(key, _)| String::from_utf8(key));
     println!("{:?}", first.collect::<Result<Vec<_>, _>>()?); // ["car", "cargo", "carp"]
     println!("{:?}", trie.longest_prefix("carpetbaggers")); // Some((6, 3))
     let text = "carpets";

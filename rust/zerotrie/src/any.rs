@@ -13,8 +13,7 @@ use crate::zerotrie_any::{self, LoadError, TagError};
 use crate::zerotrie_ascii;
 use crate::zerotrie_build::{self, ByteSliceWithIndices};
 use crate::zerotrie_core::{
-    self, CommonPrefixes, Fault, TrieKind, ZeroTrieBuildError, ZeroTrieBuilderOptions,
-    ZeroTrieWithOptions,
+    self, CommonPrefixes, Fault, TrieKind, ZeroTrieBuildError, ZeroTrieBuilderOptions, ZeroTrieWithOptions,
 };
 use crate::zerotrie_hashed;
 use crate::zerotrie_sealed::{self, SealError};
@@ -37,11 +36,11 @@ use core::ops::Bound;
 /// assert_eq!(trie.get("axyb"), Some(33));
 /// assert_eq!(trie.byte_len(), 18);
 /// ```
-#[derive(Debug, Clone, Copy, PartialEq, Eq)]
+#[derive(Debug, Clone, Copy, PartialEq, Eq, Hash)]
 pub struct ZeroTrie<Store>(pub(crate) Flavor<Store>);
 
 /// The trie in a `ZeroTrie`.
-#[derive(Debug, Clone, Copy, PartialEq, Eq)]
+#[derive(Debug, Clone, Copy, PartialEq, Eq, Hash)]
 pub(crate) enum Flavor<Store> {
     SimpleAscii(ZeroTrieSimpleAscii<Store>),
     PerfectHash(ZeroTriePerfectHash<Store>),
@@ -248,39 +247,26 @@ impl<Store: AsRef<[u8]>> ZeroTrie<Store> {
     /// # Ok::<(), zerotrie::ZeroTrieBuildError>(())
     /// ```
     pub fn to_btreemap(&self) -> BTreeMap<Box<[u8]>, usize> {
-        self.iter()
-            .map(|(key, value)| (key.into_boxed_slice(), value))
-            .collect()
+        self.iter().map(|(key, value)| (key.into_boxed_slice(), value)).collect()
     }
 }
 
 impl ZeroTrie<Vec<u8>> {
     fn of_sorted(pairs: &[(&[u8], usize)]) -> Result<Self, ZeroTrieBuildError> {
-        Ok(Self::of_built(
-            zerotrie_any::ZeroTrie::try_from_sorted_slice(Global, pairs)?,
-        ))
+        Ok(Self::of_built(zerotrie_any::ZeroTrie::try_from_sorted_slice(Global, pairs)?))
     }
 
     fn of_unsorted(pairs: &[(&[u8], usize)]) -> Result<Self, ZeroTrieBuildError> {
-        Ok(Self::of_built(zerotrie_any::ZeroTrie::try_from_iter(
-            Global,
-            pairs.iter().copied(),
-        )?))
+        Ok(Self::of_built(zerotrie_any::ZeroTrie::try_from_iter(Global, pairs.iter().copied())?))
     }
 
     pub(crate) fn of_built(built: zerotrie_any::ZeroTrie<crate::rstd::vec::Vec<u8>>) -> Self {
         let flavor = built.flavor;
         let store = built.into_store().into_inner();
         match flavor {
-            zerotrie_any::ZeroTrieFlavor::SimpleAscii => {
-                ZeroTrieSimpleAscii::from_store(store).into_zerotrie()
-            }
-            zerotrie_any::ZeroTrieFlavor::PerfectHash => {
-                ZeroTriePerfectHash::from_store(store).into_zerotrie()
-            }
-            zerotrie_any::ZeroTrieFlavor::ExtendedCapacity => {
-                ZeroTrieExtendedCapacity::from_store(store).into_zerotrie()
-            }
+            zerotrie_any::ZeroTrieFlavor::SimpleAscii => ZeroTrieSimpleAscii::from_store(store).into_zerotrie(),
+            zerotrie_any::ZeroTrieFlavor::PerfectHash => ZeroTriePerfectHash::from_store(store).into_zerotrie(),
+            zerotrie_any::ZeroTrieFlavor::ExtendedCapacity => ZeroTrieExtendedCapacity::from_store(store).into_zerotrie(),
         }
     }
 }
@@ -289,11 +275,17 @@ impl<'a, K: Borrow<[u8]>> TryFrom<&'a BTreeMap<K, usize>> for ZeroTrie<Vec<u8>> 
     type Error = ZeroTrieBuildError;
 
     fn try_from(map: &'a BTreeMap<K, usize>) -> Result<Self, ZeroTrieBuildError> {
-        Self::of_sorted(
-            &map.iter()
-                .map(|(key, value)| (key.borrow(), *value))
-                .collect::<Vec<_>>(),
-        )
+        Self::of_sorted(&map.iter().map(|(key, value)| (key.borrow(), *value)).collect::<Vec<_>>())
+    }
+}
+
+/// Lists the pairs, as `iter` does.
+impl<'a, Store: AsRef<[u8]>> IntoIterator for &'a ZeroTrie<Store> {
+    type Item = (Vec<u8>, usize);
+    type IntoIter = ZeroTrieIterator<'a>;
+
+    fn into_iter(self) -> ZeroTrieIterator<'a> {
+        self.iter()
     }
 }
 
@@ -344,54 +336,30 @@ pub trait Trie: sealed::Sealed {
 
 /// Borrows the keys of pairs.
 pub(crate) fn lent<K: AsRef<[u8]>>(pairs: &[(K, usize)]) -> Vec<(&[u8], usize)> {
-    pairs
-        .iter()
-        .map(|(key, value)| (key.as_ref(), *value))
-        .collect()
+    pairs.iter().map(|(key, value)| (key.as_ref(), *value)).collect()
 }
 
 /// Lists all pairs of a trie in ascending order.
 pub(crate) fn sorted<T: Trie + ?Sized>(trie: &T) -> Sorted<'_, 'static> {
-    Sorted::of(
-        trie.kind(),
-        trie.as_bytes(),
-        KeyRange {
-            from: Bound::Unbounded,
-            to: Bound::Unbounded,
-        },
-    )
+    Sorted::of(trie.kind(), trie.as_bytes(), KeyRange { from: Bound::Unbounded, to: Bound::Unbounded })
 }
 
 /// Returns the first pair from a bound on.
 #[inline]
 pub(crate) fn first(kind: TrieKind, bytes: &[u8], from: Bound<&[u8]>) -> Option<(Vec<u8>, usize)> {
-    Sorted::of(
-        kind,
-        bytes,
-        KeyRange {
-            from,
-            to: Bound::Unbounded,
-        },
-    )
-    .next()
+    Sorted::of(kind, bytes, KeyRange { from, to: Bound::Unbounded }).next()
 }
 
 /// Returns the last pair between two bounds.
 #[inline]
 pub(crate) fn last(kind: TrieKind, bytes: &[u8], bounds: KeyRange<'_>) -> Option<(Vec<u8>, usize)> {
     let KeyRange { from, to } = bounds;
-    let last =
-        match kind {
-            TrieKind::Simple => {
-                zerotrie_ascii::ZeroTrieSimpleAscii::from_bytes(bytes).last_within(Global, from, to)
-            }
-            TrieKind::Ignore => zerotrie_ascii::ZeroAsciiIgnoreCaseTrie::from_bytes(bytes)
-                .last_within(Global, from, to),
-            TrieKind::Hash => zerotrie_hashed::ZeroTriePerfectHash::from_bytes(bytes)
-                .last_within(Global, from, to),
-            TrieKind::Ext => zerotrie_hashed::ZeroTrieExtendedCapacity::from_bytes(bytes)
-                .last_within(Global, from, to),
-        };
+    let last = match kind {
+        TrieKind::Simple => zerotrie_ascii::ZeroTrieSimpleAscii::from_bytes(bytes).last_within(Global, from, to),
+        TrieKind::Ignore => zerotrie_ascii::ZeroAsciiIgnoreCaseTrie::from_bytes(bytes).last_within(Global, from, to),
+        TrieKind::Hash => zerotrie_hashed::ZeroTriePerfectHash::from_bytes(bytes).last_within(Global, from, to),
+        TrieKind::Ext => zerotrie_hashed::ZeroTrieExtendedCapacity::from_bytes(bytes).last_within(Global, from, to),
+    };
     allocated(last).map(|(key, value)| (key.into_inner(), value))
 }
 
@@ -410,9 +378,7 @@ pub(crate) fn tagged(kind: TrieKind, bytes: &[u8]) -> Vec<u8> {
 }
 
 /// Returns how many bytes the trie of some pairs has.
-pub(crate) fn encoded_len<K: ZeroTrieWithOptions>(
-    pairs: &[(&[u8], usize)],
-) -> Result<usize, ZeroTrieBuildError> {
+pub(crate) fn encoded_len<K: ZeroTrieWithOptions>(pairs: &[(&[u8], usize)]) -> Result<usize, ZeroTrieBuildError> {
     let pairs = ByteSliceWithIndices::from_byte_slice(pairs);
     zerotrie_build::encoded_len(Global, pairs, ZeroTrieBuilderOptions::of::<K>())
 }

@@ -540,8 +540,12 @@ macro_rules! calls {
             #[doc = concat!("assert!(", stringify!($name), "::try_from_iter([(\"in\", 1), (\"in\", 2)]).is_err());")]
             /// # Ok::<(), zerotrie::ZeroTrieBuildError>(())
             /// ```
-            pub fn try_from_iter<K: AsRef<[u8]>>(pairs: impl IntoIterator<Item = (K, usize)>) -> Result<Self, ZeroTrieBuildError> {
-                let pairs: Vec<(K, usize)> = pairs.into_iter().collect();
+            ///
+            /// A map lists pairs of references, which it takes, too: `try_from_iter(&map)`.
+            pub fn try_from_iter<K: AsRef<[u8]>, V: Borrow<usize>>(
+                pairs: impl IntoIterator<Item = (K, V)>,
+            ) -> Result<Self, ZeroTrieBuildError> {
+                let pairs: Vec<(K, usize)> = pairs.into_iter().map(|(key, value)| (key, *value.borrow())).collect();
                 Self::of_unsorted(&lent(&pairs))
             }
 
@@ -623,7 +627,8 @@ macro_rules! calls {
 
         impl<File: AsRef<[u8]>> $name<Sealed<File>> {
             /// Returns the trie in a sealed file, whose checksum is compared. The file may be anything that
-            /// has bytes, as a `Vec` or a memory map, and goes into the trie: no byte is copied.
+            /// has bytes, as a `Vec` or a memory map, and goes into the trie: no byte is copied. It is not a path, whose bytes are its
+            /// letters: read a file by `std::fs::read`.
             ///
             /// ```
             #[doc = concat!("use zerotrie::", stringify!($name), ";")]

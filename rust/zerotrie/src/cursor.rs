@@ -4,21 +4,15 @@ pub use crate::zerotrie_core::{AsciiProbeResult, ByteProbeResult};
 
 use crate::listing::{Matches, ZeroTrieIterator, allocated};
 use crate::rstd::alloc::{AllocError, Global};
-use crate::zerotrie_core::{
-    Ignore, Simple, SpanCursor, TrieKind, ZeroTrieStream, ZeroTrieWithOptions, probe, step,
-    take_value,
-};
+use crate::zerotrie_core::{Ignore, Simple, SpanCursor, TrieKind, ZeroTrieStream, ZeroTrieWithOptions, probe, step, take_value};
 use crate::zerotrie_search::Automaton;
 use crate::{
-    Pairs, ZeroAsciiIgnoreCaseTrie, ZeroTrie, ZeroTrieExtendedCapacity, ZeroTriePerfectHash,
-    ZeroTrieSimpleAscii, by_kind,
+    Pairs, ZeroAsciiIgnoreCaseTrie, ZeroTrie, ZeroTrieExtendedCapacity, ZeroTriePerfectHash, ZeroTrieSimpleAscii, by_kind,
 };
 use core::convert::identity;
 use core::fmt;
 
-fn stream_from<'a, K: ZeroTrieWithOptions>(
-    place: &SpanCursor<'a>,
-) -> Result<ZeroTrieStream<'a>, AllocError> {
+fn stream_from<'a, K: ZeroTrieWithOptions>(place: &SpanCursor<'a>) -> Result<ZeroTrieStream<'a>, AllocError> {
     ZeroTrieStream::from_cursor::<K>(Global, place.clone())
 }
 
@@ -222,20 +216,8 @@ macro_rules! ascii_cursor {
     };
 }
 
-ascii_cursor!(
-    ZeroTrieSimpleAscii,
-    ZeroTrieSimpleAsciiCursor,
-    Simple,
-    (),
-    no_edge
-);
-ascii_cursor!(
-    ZeroAsciiIgnoreCaseTrie,
-    ZeroAsciiIgnoreCaseTrieCursor,
-    Ignore,
-    Option<u8>,
-    identity
-);
+ascii_cursor!(ZeroTrieSimpleAscii, ZeroTrieSimpleAsciiCursor, Simple, (), no_edge);
+ascii_cursor!(ZeroAsciiIgnoreCaseTrie, ZeroAsciiIgnoreCaseTrieCursor, Ignore, Option<u8>, identity);
 
 /// Gives cursors in tries over any bytes their calls.
 macro_rules! byte_cursor {
@@ -398,9 +380,5 @@ macro_rules! byte_cursor {
 }
 
 byte_cursor!(ZeroTriePerfectHash, ZeroTriePerfectHashCursor, (?Sized));
-byte_cursor!(
-    ZeroTrieExtendedCapacity,
-    ZeroTrieExtendedCapacityCursor,
-    (?Sized)
-);
+byte_cursor!(ZeroTrieExtendedCapacity, ZeroTrieExtendedCapacityCursor, (?Sized));
 byte_cursor!(ZeroTrie, ZeroTrieCursor, (Sized));

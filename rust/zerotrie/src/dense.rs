@@ -58,17 +58,10 @@ impl fmt::Debug for Parts {
     #[inline]
     fn fmt(&self, f: &mut fmt::Formatter<'_>) -> fmt::Result {
         let (head, rest) = self.1.split_at(27);
-        let number = |at: usize| {
-            head[at..at + 8]
-                .iter()
-                .rev()
-                .fold(0, |n, byte| n << 8 | usize::from(*byte))
-        };
+        let number = |at: usize| head[at..at + 8].iter().rev().fold(0, |n, byte| n << 8 | usize::from(*byte));
         let (primary, rest) = rest.split_at(number(3));
         let (suffixes, cells) = rest.split_at(number(11));
-        let cells = cells
-            .chunks_exact(2)
-            .map(|cell| u16::from_le_bytes([cell[0], cell[1]]));
+        let cells = cells.chunks_exact(2).map(|cell| u16::from_le_bytes([cell[0], cell[1]]));
         f.debug_struct(self.0)
             .field("primary", &ZeroTrieSimpleAscii::from_bytes(primary))
             .field("suffixes", &ZeroTrieSimpleAscii::from_bytes(suffixes))
@@ -111,16 +104,8 @@ impl ZeroAsciiDenseSparse2dTrieOwned {
         rows: &BTreeMap<&str, BTreeMap<&str, usize>>,
         delimiter: u8,
     ) -> Result<Self, ZeroTrieBuildError> {
-        let rows: BTreeMap<&str, Map<&str, usize>> = rows
-            .iter()
-            .map(|(prefix, row)| (*prefix, row.clone().into()))
-            .collect();
-        dense::ZeroAsciiDenseSparse2dTrieOwned::try_from_btree_map_str(
-            Global,
-            &rows.into(),
-            delimiter,
-        )
-        .map(Self)
+        let rows: BTreeMap<&str, Map<&str, usize>> = rows.iter().map(|(prefix, row)| (*prefix, row.clone().into())).collect();
+        dense::ZeroAsciiDenseSparse2dTrieOwned::try_from_btree_map_str(Global, &rows.into(), delimiter).map(Self)
     }
 
     /// Returns the same table over borrowed bytes.

@@ -12,6 +12,7 @@ use crate::zerotrie_core::ZeroTrieWithOptions;
 use crate::zerotrie_index;
 use crate::zerotrie_sealed::{SealError, seal_index};
 use alloc::vec::Vec;
+use core::borrow::Borrow;
 use core::error::Error;
 use core::fmt;
 
@@ -55,11 +56,7 @@ impl<Store: AsRef<[u8]>> ZeroIndex<Store> {
     /// ```
     pub fn try_from_store(store: Store) -> Result<Self, NotAnIndex> {
         let index = ZeroIndex { store };
-        if index.is_well_formed() {
-            Ok(index)
-        } else {
-            Err(NotAnIndex)
-        }
+        if index.is_well_formed() { Ok(index) } else { Err(NotAnIndex) }
     }
 
     /// Returns whether the bytes are an index.
@@ -170,9 +167,7 @@ impl<Store> ZeroIndex<Store> {
     /// # Ok::<(), zerotrie::index::ZeroIndexBuildError>(())
     /// ```
     pub fn convert_store<X: From<Store>>(self) -> ZeroIndex<X> {
-        ZeroIndex {
-            store: self.store.into(),
-        }
+        ZeroIndex { store: self.store.into() }
     }
 
     /// Returns the store.
@@ -210,10 +205,10 @@ impl ZeroIndex<Vec<u8>> {
     /// let index = ZeroIndex::try_from_iter([("in", 1), ("in", 2)]);
     /// assert_eq!(index, Err(ZeroIndexBuildError::DuplicateKey));
     /// ```
-    pub fn try_from_iter<K: AsRef<[u8]>>(
-        pairs: impl IntoIterator<Item = (K, usize)>,
+    pub fn try_from_iter<K: AsRef<[u8]>, V: Borrow<usize>>(
+        pairs: impl IntoIterator<Item = (K, V)>,
     ) -> Result<Self, ZeroIndexBuildError> {
-        let pairs: Vec<(K, usize)> = pairs.into_iter().collect();
+        let pairs: Vec<(K, usize)> = pairs.into_iter().map(|(key, value)| (key, *value.borrow())).collect();
         Self::try_from_seed(0, &pairs)
     }
 
@@ -225,9 +220,7 @@ impl ZeroIndex<Vec<u8>> {
     /// let index = ZeroIndex::try_from_sorted_slice(&[("on", 1), ("in", 2)]);
     /// assert_eq!(index, Err(ZeroIndexBuildError::Unsorted));
     /// ```
-    pub fn try_from_sorted_slice<K: AsRef<[u8]>>(
-        pairs: &[(K, usize)],
-    ) -> Result<Self, ZeroIndexBuildError> {
+    pub fn try_from_sorted_slice<K: AsRef<[u8]>>(pairs: &[(K, usize)]) -> Result<Self, ZeroIndexBuildError> {
         let index = zerotrie_index::build_sorted(Global, 0, &lent(pairs))?;
         Ok(Self::from_store(index.into_inner()))
     }
@@ -242,10 +235,7 @@ impl ZeroIndex<Vec<u8>> {
     /// assert_eq!(index.get("in"), Some(2));
     /// # Ok::<(), zerotrie::index::ZeroIndexBuildError>(())
     /// ```
-    pub fn try_from_seed<K: AsRef<[u8]>>(
-        seed: u64,
-        pairs: &[(K, usize)],
-    ) -> Result<Self, ZeroIndexBuildError> {
+    pub fn try_from_seed<K: AsRef<[u8]>>(seed: u64, pairs: &[(K, usize)]) -> Result<Self, ZeroIndexBuildError> {
         let index = zerotrie_index::build(Global, seed, &lent(pairs))?;
         Ok(Self::from_store(index.into_inner()))
     }
@@ -265,9 +255,7 @@ impl ZeroIndex<Vec<u8>> {
     }
 }
 
-fn index_of<K: ZeroTrieWithOptions>(
-    trie: &[u8],
-) -> Result<ZeroIndex<Vec<u8>>, ZeroIndexBuildError> {
+fn index_of<K: ZeroTrieWithOptions>(trie: &[u8]) -> Result<ZeroIndex<Vec<u8>>, ZeroIndexBuildError> {
     let index = zerotrie_index::ZeroIndex::from_trie::<K>(Global, trie)?;
     Ok(ZeroIndex::from_store(index.store.into_inner()))
 }
@@ -338,15 +326,8 @@ impl<S: ReadAt> ReadAt for Source<'_, S> {
 /// ```
 ///
 /// An error is that of a read. Of bytes that are no index the result is unspecified.
-pub fn get_at<S: ReadAt, K: AsRef<[u8]>>(
-    source: &mut S,
-    key: K,
-) -> Result<Option<usize>, S::Error> {
-    read(zerotrie_index::get_at(
-        Global,
-        &mut Source(source),
-        key.as_ref(),
-    ))
+pub fn get_at<S: ReadAt, K: AsRef<[u8]>>(source: &mut S, key: K) -> Result<Option<usize>, S::Error> {
+    read(zerotrie_index::get_at(Global, &mut Source(source), key.as_ref()))
 }
 
 /// Why an index can't be read in its file.
@@ -382,9 +363,7 @@ impl<S: ReadAt> ReadAt for File<S> {
     type Error = Fault<FileError<S::Error>>;
 
     fn fill(&mut self, place: u64, room: &mut [u8]) -> Result<(), Self::Error> {
-        self.0
-            .fill(place, room)
-            .map_err(|error| Fault::Read(FileError::Read(error)))
+        self.0.fill(place, room).map_err(|error| Fault::Read(FileError::Read(error)))
     }
 }
 

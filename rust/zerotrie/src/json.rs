@@ -3,9 +3,7 @@
 use crate::rstd::{alloc::Global, serde_json as own};
 use crate::zerotrie_any::{JsonError, bytes_from_json, json_of};
 use crate::zerotrie_core::{Ext, Hash, Ignore, Simple};
-use crate::{
-    ZeroAsciiIgnoreCaseTrie, ZeroTrie, ZeroTrieExtendedCapacity, ZeroTriePerfectHash, ZeroTrieSimpleAscii, by_kind,
-};
+use crate::{ZeroAsciiIgnoreCaseTrie, ZeroTrie, ZeroTrieExtendedCapacity, ZeroTriePerfectHash, ZeroTrieSimpleAscii, by_kind};
 use crate::{any, zerotrie_any};
 use alloc::vec::Vec;
 use serde_json::{Number, Value};

@@ -75,23 +75,12 @@ impl<'a, const N: usize> Filled<'a, N> {
     const fn of(pairs: Pairs<'a>) -> Self {
         let mut i = 1;
         while i < pairs.len() {
-            assert!(
-                is_below(pairs.key(i - 1), pairs.key(i)),
-                "the keys do not ascend"
-            );
+            assert!(is_below(pairs.key(i - 1), pairs.key(i)), "the keys do not ascend");
             i += 1;
         }
-        let mut filled = Filled {
-            pairs,
-            bytes: [0; N],
-            len: 0,
-        };
+        let mut filled = Filled { pairs, bytes: [0; N], len: 0 };
         if pairs.len() > 0 {
-            filled.put_trie(Window {
-                from: 0,
-                to: pairs.len(),
-                depth: 0,
-            });
+            filled.put_trie(Window { from: 0, to: pairs.len(), depth: 0 });
         }
         filled
     }
@@ -104,10 +93,7 @@ impl<'a, const N: usize> Filled<'a, N> {
     }
 
     const fn put_ascii(&mut self, byte: u8) {
-        assert!(
-            byte.is_ascii(),
-            "Non-ASCII cannot be added to an ASCII-only trie"
-        );
+        assert!(byte.is_ascii(), "Non-ASCII cannot be added to an ASCII-only trie");
         self.put(byte);
     }
 
@@ -133,17 +119,9 @@ impl<'a, const N: usize> Filled<'a, N> {
             depth += 1;
         }
         let has_value = key.len() == depth;
-        let from = if has_value {
-            window.from + 1
-        } else {
-            window.from
-        };
+        let from = if has_value { window.from + 1 } else { window.from };
         if from < window.to {
-            let rest = Window {
-                from,
-                to: window.to,
-                depth,
-            };
+            let rest = Window { from, to: window.to, depth };
             if self.pairs.key(from)[depth] == last[depth] {
                 self.put_trie(rest);
             } else {
@@ -178,11 +156,7 @@ impl<'a, const N: usize> Filled<'a, N> {
     }
 
     const fn put_targets(&mut self, window: Window) -> Targets {
-        let mut targets = Targets {
-            edges: [0; 256],
-            lens: [0; 256],
-            count: 0,
-        };
+        let mut targets = Targets { edges: [0; 256], lens: [0; 256], count: 0 };
         let mut to = window.to;
         while to > window.from {
             let edge = self.pairs.key(to - 1)[window.depth];
@@ -191,11 +165,7 @@ impl<'a, const N: usize> Filled<'a, N> {
                 from -= 1;
             }
             let end = self.len;
-            self.put_trie(Window {
-                from,
-                to,
-                depth: window.depth + 1,
-            });
+            self.put_trie(Window { from, to, depth: window.depth + 1 });
             targets.edges[targets.count] = edge;
             targets.lens[targets.count] = self.len - end;
             targets.count += 1;
@@ -343,21 +313,11 @@ mod tests {
     fn pairs(seed: u64, letters: &[u8], count: usize) -> Vec<(Vec<u8>, usize)> {
         let mut state = seed;
         let mut next = |below: usize| {
-            state = state
-                .wrapping_mul(6364136223846793005)
-                .wrapping_add(1442695040888963407);
+            state = state.wrapping_mul(6364136223846793005).wrapping_add(1442695040888963407);
             (state >> 33) as usize % below
         };
-        let mut pairs: Vec<(Vec<u8>, usize)> = (0..count)
-            .map(|_| {
-                (
-                    (0..next(12))
-                        .map(|_| letters[next(letters.len())])
-                        .collect(),
-                    next(1 << 18),
-                )
-            })
-            .collect();
+        let mut pairs: Vec<(Vec<u8>, usize)> =
+            (0..count).map(|_| ((0..next(12)).map(|_| letters[next(letters.len())]).collect(), next(1 << 18))).collect();
         pairs.sort();
         pairs.dedup_by(|a, b| a.0 == b.0);
         pairs
@@ -369,10 +329,7 @@ mod tests {
         for seed in 0..600 {
             let letters = [b"ab".as_slice(), b"abcdefgh", &every][seed as usize % 3];
             let pairs = pairs(seed, letters, [3, 20, 300][seed as usize / 3 % 3]);
-            let pairs: Vec<(&[u8], usize)> = pairs
-                .iter()
-                .map(|(key, value)| (key.as_slice(), *value))
-                .collect();
+            let pairs: Vec<(&[u8], usize)> = pairs.iter().map(|(key, value)| (key.as_slice(), *value)).collect();
             let filled = Filled::<16384>::of(Pairs::Bytes(&pairs));
             let built = ZeroTrieSimpleAscii::try_from_sorted_slice(&pairs).unwrap();
             assert_eq!(&filled.bytes[16384 - filled.len..], built.as_bytes());
@@ -382,19 +339,10 @@ mod tests {
 
     #[test]
     fn a_wrong_length_says_the_right_one() {
-        for (len, said) in [
-            (0, "0"),
-            (7, "7"),
-            (10, "10"),
-            (16384, "16384"),
-            (usize::MAX, "18446744073709551615"),
-        ] {
+        for (len, said) in [(0, "0"), (7, "7"), (10, "10"), (16384, "16384"), (usize::MAX, "18446744073709551615")] {
             let panic = std::panic::catch_unwind(|| wrong_length(len)).unwrap_err();
             let text = panic.downcast_ref::<alloc::string::String>().unwrap();
-            assert_eq!(
-                text,
-                &alloc::format!("the array must have the trie's length: {said}")
-            );
+            assert_eq!(text, &alloc::format!("the array must have the trie's length: {said}"));
         }
     }
 }

@@ -30,29 +30,17 @@ mod trie;
 #[path = ""]
 mod made {
     pub mod rstd;
-    #[allow(clippy::all)]
     pub mod zerotrie_all;
-    #[allow(clippy::all)]
     pub mod zerotrie_any;
-    #[allow(clippy::all)]
     pub mod zerotrie_ascii;
-    #[allow(clippy::all)]
     pub mod zerotrie_base;
-    #[allow(clippy::all)]
     pub mod zerotrie_build;
-    #[allow(clippy::all)]
     pub mod zerotrie_core;
-    #[allow(clippy::all)]
     pub mod zerotrie_hashed;
-    #[allow(clippy::all)]
     pub mod zerotrie_index;
-    #[allow(clippy::all)]
     pub mod zerotrie_reverse;
-    #[allow(clippy::all)]
     pub mod zerotrie_sealed;
-    #[allow(clippy::all)]
     pub mod zerotrie_search;
-    #[allow(clippy::all)]
     pub mod zerotrie_sets;
 }
 #[cfg(not(feature = "__internal"))]
@@ -63,10 +51,11 @@ pub use made::*;
 
 pub use any::{Trie, ZeroTrie};
 pub use listing::{
-    Matches, Nearest, NearestPairs, Pairs, Reversed, Sorted, SortedMatches, SortedPairs, SortedSearch, Values, ZeroTrieIterator, ZeroTrieKeys, ZeroTrieStringIterator, ZeroTrieStringKeys,
-    ZeroTrieValues,
+    Matches, Nearest, NearestPairs, Pairs, Reversed, Sorted, SortedMatches, SortedPairs, SortedSearch, Values, ZeroTrieIterator,
+    ZeroTrieKeys, ZeroTrieStringIterator, ZeroTrieStringKeys, ZeroTrieValues,
 };
 pub use look_ups::LookUps;
+pub use made::rstd::alloc::AllocError;
 pub use reverse::{KeysByValue, first_key_by_places};
 pub use sealed::Sealed;
 pub use trie::{ZeroAsciiIgnoreCaseTrie, ZeroTrieExtendedCapacity, ZeroTriePerfectHash, ZeroTrieSimpleAscii};

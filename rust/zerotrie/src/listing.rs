@@ -4,9 +4,7 @@ use crate::any::last;
 use crate::by_kind;
 use crate::rstd::alloc::{AllocError, Global};
 use crate::zerotrie_core::{self, PairStream, TrieKind, ZeroTrieWithOptions};
-use crate::zerotrie_search::{
-    Automaton, Fuzzy, KeyRange, ZeroTrieNearest, ZeroTrieSearch, ZeroTrieSorted, ZeroTrieSortedSearch,
-};
+use crate::zerotrie_search::{Automaton, Fuzzy, KeyRange, ZeroTrieNearest, ZeroTrieSearch, ZeroTrieSorted, ZeroTrieSortedSearch};
 use crate::zerotrie_sets::{Change, Combined, Diff, Keep, Operation};
 use alloc::alloc::{Layout, handle_alloc_error};
 use alloc::string::String;
@@ -24,8 +22,7 @@ pub(crate) fn allocated<T>(result: Result<T, AllocError>) -> T {
 /// Returns a key as a string. The keys of valid tries over ASCII are strings. What malformed bytes
 /// list may be none, and is then replaced in part.
 pub(crate) fn string(key: Vec<u8>) -> String {
-    String::from_utf8(key)
-        .unwrap_or_else(|no_text| String::from_utf8_lossy(no_text.as_bytes()).into_owned())
+    String::from_utf8(key).unwrap_or_else(|no_text| String::from_utf8_lossy(no_text.as_bytes()).into_owned())
 }
 
 /// A listing of pairs.
@@ -44,6 +41,8 @@ pub(crate) fn string(key: Vec<u8>) -> String {
 /// assert_eq!(trie.stream().map(|(_key, value)| value).sum::<usize>(), 3);
 /// # Ok::<(), zerotrie::ZeroTrieBuildError>(())
 /// ```
+#[must_use = "a listing does nothing until it is read"]
+#[derive(Clone)]
 pub struct Pairs<S> {
     pairs: S,
 }
@@ -128,11 +127,7 @@ impl<S: PairStream> Pairs<S> {
     /// assert_eq!(some.collect::<Vec<_>>(), [(b"on".to_vec(), 2)]);
     /// # Ok::<(), zerotrie::ZeroTrieBuildError>(())
     /// ```
-    pub fn combine<T: PairStream>(
-        self,
-        other: Pairs<T>,
-        operation: Operation,
-    ) -> Pairs<Combined<S, T>> {
+    pub fn combine<T: PairStream>(self, other: Pairs<T>, operation: Operation) -> Pairs<Combined<S, T>> {
         Pairs::new(Combined::new(self.pairs, other.pairs, operation))
     }
 
@@ -165,9 +160,7 @@ impl<S: PairStream> Pairs<S> {
     /// # Ok::<(), zerotrie::ZeroTrieBuildError>(())
     /// ```
     pub fn diff<T: PairStream>(self, other: Pairs<T>) -> Changes<S, T> {
-        Changes {
-            changes: Diff::new(self.pairs, other.pairs),
-        }
+        Changes { changes: Diff::new(self.pairs, other.pairs) }
     }
 
     /// Returns what the library lists.
@@ -183,6 +176,13 @@ impl<S: PairStream> Iterator for Pairs<S> {
         self.advance().then(|| (self.key().to_vec(), self.value()))
     }
 }
+
+// after the last pair there is none, as in each listing of the library
+impl FusedIterator for ZeroTrieIterator<'_> {}
+impl<T: Automaton> FusedIterator for Matches<'_, T> {}
+impl FusedIterator for Sorted<'_, '_> {}
+impl<T: Automaton> FusedIterator for SortedMatches<'_, '_, T> {}
+impl<T: Fuzzy> FusedIterator for Nearest<'_, T> {}
 
 impl<S> fmt::Debug for Pairs<S> {
     fn fmt(&self, f: &mut fmt::Formatter<'_>) -> fmt::Result {
@@ -209,10 +209,7 @@ impl<'a> ZeroTrieIterator<'a> {
     /// Lists the pairs of a trie after a key, of those whose keys begin with a prefix.
     #[inline]
     pub(crate) fn after(kind: TrieKind, bytes: &'a [u8], prefix: &[u8], key: &[u8]) -> Self {
-        Pairs::new(allocated(by_kind!(
-            kind,
-            stream_after::<_>(bytes, prefix, key)
-        )))
+        Pairs::new(allocated(by_kind!(kind, stream_after::<_>(bytes, prefix, key))))
     }
 
     /// Passes over the pairs to come whose keys begin with the first `depth` bytes of the current
@@ -293,19 +290,48 @@ impl<'a, T: Automaton> Matches<'a, T> {
 }
 
 /// A listing in the order of bytes, as that of `Sorted`.
-pub struct SortedPairs<'a, 'p>(ZeroTrieSorted<'a, 'p>);
+#[derive(Clone)]
+pub struct SortedPairs<'a, 'p> {
+    pairs: ZeroTrieSorted<'a, 'p>,
+    kind: TrieKind,
+    bytes: &'a [u8],
+    /// Between which bounds pairs are left for the end.
+    bounds: KeyRange<'p>,
+    is_begun: bool,
+    is_ended: bool,
+    /// The key of the pair that was listed last from the end: those to come are below it.
+    behind: Option<Vec<u8>>,
+}
 
 impl PairStream for SortedPairs<'_, '_> {
     fn advance(&mut self) -> Result<bool, AllocError> {
-        self.0.advance()
+        self.is_begun = true;
+        self.is_ended = !self.pairs.advance()? || self.behind.as_deref().is_some_and(|behind| self.pairs.key() >= behind);
+        Ok(!self.is_ended)
     }
 
     fn key(&self) -> &[u8] {
-        self.0.key()
+        self.pairs.key()
     }
 
     fn value(&self) -> usize {
-        self.0.value()
+        self.pairs.value()
+    }
+}
+
+impl DoubleEndedIterator for Sorted<'_, '_> {
+    /// Lists the last of the pairs that are left. It costs about two look-ups.
+    fn next_back(&mut self) -> Option<Self::Item> {
+        let SortedPairs { pairs, kind, bytes, bounds, is_begun, is_ended, behind } = &self.pairs;
+        if *is_ended {
+            return None;
+        }
+        let from = if *is_begun { Bound::Excluded(pairs.key()) } else { bounds.from };
+        let to = behind.as_deref().map_or(bounds.to, Bound::Excluded);
+        let pair = last(*kind, bytes, KeyRange { from, to });
+        // no key is below the empty one, so the end stays the end
+        self.pairs.behind = Some(pair.as_ref().map_or(Vec::new(), |(key, _)| key.clone()));
+        pair
     }
 }
 
@@ -315,7 +341,8 @@ pub type Sorted<'a, 'p> = Pairs<SortedPairs<'a, 'p>>;
 impl<'a, 'p> Sorted<'a, 'p> {
     /// Lists the pairs of a trie between two bounds.
     pub(crate) fn of(kind: TrieKind, bytes: &'a [u8], bounds: KeyRange<'p>) -> Self {
-        Pairs::new(SortedPairs(allocated(by_kind!(kind, sorted_of::<_>(bytes, bounds)))))
+        let pairs = allocated(by_kind!(kind, sorted_of::<_>(bytes, bounds)));
+        Pairs::new(SortedPairs { pairs, kind, bytes, bounds, is_begun: false, is_ended: false, behind: None })
     }
 
     /// Passes over the pairs to come whose keys begin with the first `depth` bytes of the current key.
@@ -330,8 +357,10 @@ impl<'a, 'p> Sorted<'a, 'p> {
     /// assert_eq!(pairs.next(), Some((b"on".to_vec(), 3)));
     /// # Ok::<(), zerotrie::ZeroTrieBuildError>(())
     /// ```
+    ///
+    /// `next_back` lists them all the same.
     pub fn skip_below(&mut self, depth: usize) {
-        allocated(self.pairs.0.skip(depth));
+        allocated(self.pairs.pairs.skip(depth));
     }
 }
 
@@ -352,6 +381,7 @@ fn sorted_of<'a, 'p, K: ZeroTrieWithOptions>(
 /// assert_eq!(last, [(b"to".to_vec(), 3), (b"on".to_vec(), 2)]);
 /// # Ok::<(), zerotrie::ZeroTrieBuildError>(())
 /// ```
+#[must_use = "a listing does nothing until it is read"]
 #[derive(Clone, Debug)]
 pub struct Reversed<'a, 'p> {
     kind: TrieKind,
@@ -364,12 +394,7 @@ pub struct Reversed<'a, 'p> {
 impl<'a, 'p> Reversed<'a, 'p> {
     /// Lists the pairs of a trie between two bounds.
     pub(crate) fn of(kind: TrieKind, bytes: &'a [u8], bounds: KeyRange<'p>) -> Self {
-        Reversed {
-            kind,
-            bytes,
-            bounds,
-            listed: None,
-        }
+        Reversed { kind, bytes, bounds, listed: None }
     }
 }
 
@@ -390,6 +415,7 @@ impl Iterator for Reversed<'_, '_> {
 impl FusedIterator for Reversed<'_, '_> {}
 
 /// A search in the order of bytes, as the listing of `SortedMatches`.
+#[derive(Clone)]
 pub struct SortedSearch<'a, 'p, T: Automaton>(ZeroTrieSortedSearch<'a, 'p, T>);
 
 impl<T: Automaton> PairStream for SortedSearch<'_, '_, T> {
@@ -413,9 +439,7 @@ impl<'a, 'p, T: Automaton> SortedMatches<'a, 'p, T> {
     /// Lists the pairs of a trie between two bounds that an automaton accepts.
     pub(crate) fn of(kind: TrieKind, bytes: &'a [u8], bounds: KeyRange<'p>, automaton: T) -> Self {
         let pairs = allocated(by_kind!(kind, sorted_of::<_>(bytes, bounds)));
-        Pairs::new(SortedSearch(ZeroTrieSortedSearch::new(
-            Global, pairs, automaton,
-        )))
+        Pairs::new(SortedSearch(ZeroTrieSortedSearch::new(Global, pairs, automaton)))
     }
 
     /// Returns the automaton.
@@ -450,6 +474,7 @@ impl<'a, 'p, T: Automaton> SortedMatches<'a, 'p, T> {
 }
 
 /// The pairs whose keys are near a word, as the listing of `Nearest`.
+#[derive(Clone)]
 pub struct NearestPairs<'a, T: Fuzzy>(ZeroTrieNearest<'a, T>);
 
 impl<T: Fuzzy> PairStream for NearestPairs<'_, T> {
@@ -472,10 +497,7 @@ pub type Nearest<'a, T> = Pairs<NearestPairs<'a, T>>;
 impl<'a, T: Fuzzy> Nearest<'a, T> {
     /// Lists the pairs of a trie.
     pub(crate) fn of(kind: TrieKind, bytes: &'a [u8], word: T) -> Self {
-        Pairs::new(NearestPairs(allocated(by_kind!(
-            kind,
-            nearest_of::<_, T>(bytes, word)
-        ))))
+        Pairs::new(NearestPairs(allocated(by_kind!(kind, nearest_of::<_, T>(bytes, word)))))
     }
 
     /// Returns how many edits make the current key of the word.
@@ -495,10 +517,7 @@ impl<'a, T: Fuzzy> Nearest<'a, T> {
     }
 }
 
-fn nearest_of<K: ZeroTrieWithOptions, T: Fuzzy>(
-    bytes: &[u8],
-    word: T,
-) -> Result<ZeroTrieNearest<'_, T>, AllocError> {
+fn nearest_of<K: ZeroTrieWithOptions, T: Fuzzy>(bytes: &[u8], word: T) -> Result<ZeroTrieNearest<'_, T>, AllocError> {
     ZeroTrieNearest::new::<K>(Global, bytes, word)
 }
 
@@ -523,6 +542,8 @@ pub type Difference<'a> = Changes<SortedPairs<'a, 'static>, SortedPairs<'a, 'sta
 /// assert_eq!(changes, [(b"on".to_vec(), Change::Removed(2)), (b"to".to_vec(), Change::Added(3))]);
 /// # Ok::<(), zerotrie::ZeroTrieBuildError>(())
 /// ```
+#[must_use = "a listing does nothing until it is read"]
+#[derive(Clone)]
 pub struct Changes<S: PairStream, T: PairStream> {
     changes: Diff<S, T>,
 }
@@ -590,8 +611,11 @@ impl<S: PairStream, T: PairStream> fmt::Debug for Changes<S, T> {
 }
 
 /// Lists the pairs of a trie over ASCII keys, with keys as strings.
-#[derive(Debug)]
+#[must_use = "a listing does nothing until it is read"]
+#[derive(Clone, Debug)]
 pub struct ZeroTrieStringIterator<'a>(pub(crate) ZeroTrieIterator<'a>);
+
+impl FusedIterator for ZeroTrieStringIterator<'_> {}
 
 impl Iterator for ZeroTrieStringIterator<'_> {
     type Item = (String, usize);
@@ -602,8 +626,11 @@ impl Iterator for ZeroTrieStringIterator<'_> {
 }
 
 /// Lists the keys of a trie.
-#[derive(Debug)]
+#[must_use = "a listing does nothing until it is read"]
+#[derive(Clone, Debug)]
 pub struct ZeroTrieKeys<'a>(pub(crate) ZeroTrieIterator<'a>);
+
+impl FusedIterator for ZeroTrieKeys<'_> {}
 
 impl Iterator for ZeroTrieKeys<'_> {
     type Item = Vec<u8>;
@@ -614,8 +641,11 @@ impl Iterator for ZeroTrieKeys<'_> {
 }
 
 /// Lists the keys of a trie over ASCII keys, as strings.
-#[derive(Debug)]
+#[must_use = "a listing does nothing until it is read"]
+#[derive(Clone, Debug)]
 pub struct ZeroTrieStringKeys<'a>(pub(crate) ZeroTrieIterator<'a>);
+
+impl FusedIterator for ZeroTrieStringKeys<'_> {}
 
 impl Iterator for ZeroTrieStringKeys<'_> {
     type Item = String;
@@ -626,7 +656,8 @@ impl Iterator for ZeroTrieStringKeys<'_> {
 }
 
 /// Lists the values of a listing of pairs. Copies no key.
-#[derive(Debug)]
+#[must_use = "a listing does nothing until it is read"]
+#[derive(Clone, Debug)]
 pub struct Values<S>(Pairs<S>);
 
 impl<S: PairStream> Iterator for Values<S> {
@@ -636,6 +667,8 @@ impl<S: PairStream> Iterator for Values<S> {
         self.0.advance().then(|| self.0.value())
     }
 }
+
+impl FusedIterator for ZeroTrieValues<'_> {}
 
 /// Lists the values of a trie.
 pub type ZeroTrieValues<'a> = Values<zerotrie_core::ZeroTrieStream<'a>>;

@@ -23,9 +23,7 @@ use alloc::vec::Vec;
 #[derive(Debug)]
 pub struct KeysByValue<'a>(zerotrie_reverse::KeysByValue<'a>);
 
-fn table<K: ZeroTrieWithOptions>(
-    bytes: &[u8],
-) -> Result<zerotrie_reverse::KeysByValue<'_>, AllocError> {
+fn table<K: ZeroTrieWithOptions>(bytes: &[u8]) -> Result<zerotrie_reverse::KeysByValue<'_>, AllocError> {
     zerotrie_reverse::KeysByValue::new::<K>(Global, bytes)
 }
 
@@ -93,11 +91,7 @@ fn first_key<K: ZeroTrieWithOptions>(
 /// ```
 ///
 /// Places of another trie do no harm, but the result is unspecified.
-pub fn first_key_by_places<T: Trie + ?Sized>(
-    trie: &T,
-    places: &[u32],
-    value: usize,
-) -> Option<Vec<u8>> {
+pub fn first_key_by_places<T: Trie + ?Sized>(trie: &T, places: &[u32], value: usize) -> Option<Vec<u8>> {
     let key = by_kind!(trie.kind(), first_key::<_>(trie.as_bytes(), places, value));
     allocated(key).map(|key| key.into_inner())
 }

@@ -87,10 +87,9 @@
 pub use crate::by_automaton;
 pub use crate::zerotrie_core::ByteSet;
 pub use crate::zerotrie_search::{
-    AnyAutomaton, Automaton, BeginsWith, Both, ByKind, CharsState, Either, Fuzzy, Glob, GlobChars,
-    GlobError, GlobState, KeyRange, Levenshtein, LevenshteinChars, LevenshteinState, Not, Osa,
-    OsaChars, OsaCharsState, OsaState, SearchBy, StartsWith, Subsequence, WORD_LIMIT, WordError,
-    accepts, fold_by, fold_word,
+    AnyAutomaton, Automaton, BeginsWith, Both, ByKind, CharsState, Either, Fuzzy, Glob, GlobChars, GlobError, GlobState,
+    KeyRange, Levenshtein, LevenshteinChars, LevenshteinState, Not, Osa, OsaChars, OsaCharsState, OsaState, SearchBy, StartsWith,
+    Subsequence, WORD_LIMIT, WordError, accepts, fold_by, fold_word,
 };
 
 use crate::Trie;
@@ -126,10 +125,7 @@ impl<'a> KeysOf<'a> {
     /// # Ok::<(), zerotrie::ZeroTrieBuildError>(())
     /// ```
     pub fn new<T: Trie + ?Sized>(trie: &'a T) -> Self {
-        KeysOf(by_kind!(
-            trie.kind(),
-            zerotrie_search::KeysOf::new::<_>(trie.as_bytes())
-        ))
+        KeysOf(by_kind!(trie.kind(), zerotrie_search::KeysOf::new::<_>(trie.as_bytes())))
     }
 
     /// Returns the value that the other trie has for the key before a state.
@@ -175,10 +171,7 @@ macro_rules! bounds {
     ($range:ident, $bounds:ident => $from:expr, $to:expr) => {
         impl<'p, K: AsRef<[u8]> + ?Sized> From<$range<&'p K>> for KeyRange<'p> {
             fn from($bounds: $range<&'p K>) -> Self {
-                KeyRange {
-                    from: $from,
-                    to: $to,
-                }
+                KeyRange { from: $from, to: $to }
             }
         }
     };
@@ -192,10 +185,7 @@ bounds!(RangeInclusive, it => Bound::Included((*it.start()).as_ref()), Bound::In
 
 impl From<RangeFull> for KeyRange<'_> {
     fn from(_all: RangeFull) -> Self {
-        KeyRange {
-            from: Bound::Unbounded,
-            to: Bound::Unbounded,
-        }
+        KeyRange { from: Bound::Unbounded, to: Bound::Unbounded }
     }
 }
 

@@ -1,9 +1,7 @@
 //! Tries through serde, in the forms of the crate of ICU4X: a map from keys to values in formats that people read, and bytes in others.
 
 use crate::any::{Trie, sorted};
-use crate::{
-    TrieKind, ZeroAsciiIgnoreCaseTrie, ZeroTrie, ZeroTrieExtendedCapacity, ZeroTriePerfectHash, ZeroTrieSimpleAscii,
-};
+use crate::{TrieKind, ZeroAsciiIgnoreCaseTrie, ZeroTrie, ZeroTrieExtendedCapacity, ZeroTriePerfectHash, ZeroTrieSimpleAscii};
 use alloc::vec::Vec;
 use core::{fmt, str};
 use serde::de::{Deserialize, Deserializer, Error, MapAccess, SeqAccess, Visitor};

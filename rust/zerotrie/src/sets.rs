@@ -52,6 +52,7 @@ use core::fmt;
 /// assert!(!rows.advance());
 /// # Ok::<(), zerotrie::ZeroTrieBuildError>(())
 /// ```
+#[must_use = "a listing does nothing until it is read"]
 pub struct MergeAll<S: PairStream> {
     rows: zerotrie_sets::MergeAll<S>,
 }
@@ -68,15 +69,8 @@ impl<S: PairStream> MergeAll<S> {
     /// # Ok::<(), zerotrie::ZeroTrieBuildError>(())
     /// ```
     pub fn new(listings: impl IntoIterator<Item = Pairs<S>>) -> Self {
-        let streams = allocated(
-            listings
-                .into_iter()
-                .map(Pairs::into_inner)
-                .collect_in(Global),
-        );
-        MergeAll {
-            rows: allocated(zerotrie_sets::MergeAll::new(Global, streams)),
-        }
+        let streams = allocated(listings.into_iter().map(Pairs::into_inner).collect_in(Global));
+        MergeAll { rows: allocated(zerotrie_sets::MergeAll::new(Global, streams)) }
     }
 
     /// Moves to the next key, and returns whether there is one.
@@ -192,6 +186,8 @@ impl<S: PairStream> fmt::Debug for MergeAll<S> {
 /// assert_eq!((rows.key(), rows.first(), rows.second()), (b"on".as_slice(), Some(2), Some(3)));
 /// # Ok::<(), zerotrie::ZeroTrieBuildError>(())
 /// ```
+#[must_use = "a listing does nothing until it is read"]
+#[derive(Clone)]
 pub struct Merge<S: PairStream, T: PairStream> {
     rows: zerotrie_sets::Merge<S, T>,
 }
@@ -272,9 +268,7 @@ impl<S: PairStream> Pairs<S> {
     /// # Ok::<(), zerotrie::ZeroTrieBuildError>(())
     /// ```
     pub fn merge<T: PairStream>(self, other: Pairs<T>) -> Merge<S, T> {
-        Merge {
-            rows: zerotrie_sets::Merge::new(self.into_inner(), other.into_inner()),
-        }
+        Merge { rows: zerotrie_sets::Merge::new(self.into_inner(), other.into_inner()) }
     }
 }
 

@@ -13,9 +13,7 @@ use crate::rstd::alloc::Global;
 use crate::sealed::Sealed;
 use crate::zerotrie_any::{self, LoadError, NotWellFormed, TagError};
 use crate::zerotrie_build::{Refusal, why_slice_refused};
-use crate::zerotrie_core::{
-    self, CommonPrefixes, Ext, Fault, Hash, Ignore, Simple, TrieKind, ZeroTrieBuildError,
-};
+use crate::zerotrie_core::{self, CommonPrefixes, Ext, Fault, Hash, Ignore, Simple, TrieKind, ZeroTrieBuildError};
 use crate::zerotrie_sealed::{self, SealError};
 use crate::zerotrie_search::{Automaton, Fuzzy, KeyRange};
 use crate::zerotrie_sets::{Keep, Operation};
@@ -42,7 +40,7 @@ use core::ops::Bound;
 /// Two of one map have the same bytes. One can be built in a constant:
 /// [`from_sorted_str_tuples`](ZeroTrieSimpleAscii::from_sorted_str_tuples).
 #[repr(transparent)]
-#[derive(Debug, Default, Clone, Copy, PartialEq, Eq)]
+#[derive(Debug, Default, Clone, Copy, PartialEq, Eq, Hash)]
 pub struct ZeroTrieSimpleAscii<Store: ?Sized> {
     #[doc(hidden)]
     pub store: Store,
@@ -61,7 +59,7 @@ pub struct ZeroTrieSimpleAscii<Store: ?Sized> {
 /// assert_eq!(mixed, Err(ZeroTrieBuildError::MixedCase));
 /// ```
 #[repr(transparent)]
-#[derive(Debug, Default, Clone, Copy, PartialEq, Eq)]
+#[derive(Debug, Default, Clone, Copy, PartialEq, Eq, Hash)]
 pub struct ZeroAsciiIgnoreCaseTrie<Store: ?Sized> {
     #[doc(hidden)]
     pub store: Store,
@@ -78,7 +76,7 @@ pub struct ZeroAsciiIgnoreCaseTrie<Store: ?Sized> {
 /// assert_eq!(trie.get("bazzoo"), None);
 /// ```
 #[repr(transparent)]
-#[derive(Debug, Default, Clone, Copy, PartialEq, Eq)]
+#[derive(Debug, Default, Clone, Copy, PartialEq, Eq, Hash)]
 pub struct ZeroTriePerfectHash<Store: ?Sized> {
     #[doc(hidden)]
     pub store: Store,
@@ -93,7 +91,7 @@ pub struct ZeroTriePerfectHash<Store: ?Sized> {
 /// assert_eq!(trie.get("foo"), Some(1));
 /// ```
 #[repr(transparent)]
-#[derive(Debug, Default, Clone, Copy, PartialEq, Eq)]
+#[derive(Debug, Default, Clone, Copy, PartialEq, Eq, Hash)]
 pub struct ZeroTrieExtendedCapacity<Store: ?Sized> {
     #[doc(hidden)]
     pub store: Store,
@@ -430,6 +428,16 @@ macro_rules! kind {
             }
         }
 
+        /// Lists the pairs, as `iter` does.
+        impl<'a, Store: AsRef<[u8]> + ?Sized> IntoIterator for &'a $name<Store> {
+            type Item = <$iter<'a> as Iterator>::Item;
+            type IntoIter = $iter<'a>;
+
+            fn into_iter(self) -> $iter<'a> {
+                self.iter()
+            }
+        }
+
         impl<Store: AsRef<[u8]> + ?Sized> AsRef<$name<[u8]>> for $name<Store> {
             fn as_ref(&self) -> &$name<[u8]> {
                 self.as_borrowed()
@@ -467,34 +475,10 @@ macro_rules! kind {
     };
 }
 
-kind!(
-    ZeroTrieSimpleAscii,
-    Simple,
-    String,
-    ZeroTrieStringIterator(ZeroTrieStringIterator),
-    ZeroTrieStringKeys
-);
-kind!(
-    ZeroAsciiIgnoreCaseTrie,
-    Ignore,
-    String,
-    ZeroTrieStringIterator(ZeroTrieStringIterator),
-    ZeroTrieStringKeys
-);
-kind!(
-    ZeroTriePerfectHash,
-    Hash,
-    Vec<u8>,
-    ZeroTrieIterator(),
-    ZeroTrieKeys
-);
-kind!(
-    ZeroTrieExtendedCapacity,
-    Ext,
-    Vec<u8>,
-    ZeroTrieIterator(),
-    ZeroTrieKeys
-);
+kind!(ZeroTrieSimpleAscii, Simple, String, ZeroTrieStringIterator(ZeroTrieStringIterator), ZeroTrieStringKeys);
+kind!(ZeroAsciiIgnoreCaseTrie, Ignore, String, ZeroTrieStringIterator(ZeroTrieStringIterator), ZeroTrieStringKeys);
+kind!(ZeroTriePerfectHash, Hash, Vec<u8>, ZeroTrieIterator(), ZeroTrieKeys);
+kind!(ZeroTrieExtendedCapacity, Ext, Vec<u8>, ZeroTrieIterator(), ZeroTrieKeys);
 
 /// Lets a `ZeroTrie` be of a kind.
 macro_rules! into_zerotrie {

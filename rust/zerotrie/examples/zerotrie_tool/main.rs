@@ -1,5 +1,6 @@
 // Made from crates/zerotrie_tool/src/main.rt by rust/make: edit that.
 //! Runs the commands of standard input, which build tries from pairs and look keys up in them.
+#![cfg_attr(rustfmt, rustfmt::skip)]
 #![deny(unused_must_use)]
 #![allow(dead_code, missing_docs, unused_imports, unused_variables)]
 

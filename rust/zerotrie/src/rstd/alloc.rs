@@ -20,17 +20,25 @@ impl<A: Allocator> Allocator for &A {}
 impl core::error::Error for AllocError {}
 
 impl fmt::Display for AllocError {
-    fn fmt(&self, f: &mut fmt::Formatter<'_>) -> fmt::Result { f.write_str("out of memory") }
+    fn fmt(&self, f: &mut fmt::Formatter<'_>) -> fmt::Result {
+        f.write_str("out of memory")
+    }
 }
 
 impl From<alloc::collections::TryReserveError> for AllocError {
-    fn from(_: alloc::collections::TryReserveError) -> Self { AllocError }
+    fn from(_: alloc::collections::TryReserveError) -> Self {
+        AllocError
+    }
 }
 
 impl<T> From<AllocFailed<T>> for AllocError {
-    fn from(_: AllocFailed<T>) -> Self { AllocError }
+    fn from(_: AllocFailed<T>) -> Self {
+        AllocError
+    }
 }
 
 impl<T> From<AllocFailed<T>> for alloc::boxed::Box<dyn core::error::Error> {
-    fn from(_: AllocFailed<T>) -> Self { AllocError.into() }
+    fn from(_: AllocFailed<T>) -> Self {
+        AllocError.into()
+    }
 }

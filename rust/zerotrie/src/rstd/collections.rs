@@ -13,7 +13,9 @@ pub struct BTreeMap<K, V, A = Global> {
 super::over!(BTreeMap<K, V>, pairs, own::BTreeMap<K, V>);
 
 impl<K: Ord, V, A> BTreeMap<K, V, A> {
-    pub fn new(_: A) -> Self { BTreeMap { pairs: own::BTreeMap::new(), alloc: PhantomData } }
+    pub fn new(_: A) -> Self {
+        BTreeMap { pairs: own::BTreeMap::new(), alloc: PhantomData }
+    }
 
     pub fn from_iter<I: IntoIterator<Item = (K, V)>>(_: A, pairs: I) -> Result<Self, AllocError> {
         Ok(BTreeMap { pairs: pairs.into_iter().collect(), alloc: PhantomData })
@@ -23,14 +25,20 @@ impl<K: Ord, V, A> BTreeMap<K, V, A> {
         BTreeMap::from_iter(alloc, pairs)
     }
 
-    pub fn insert(&mut self, key: K, value: V) -> Result<Option<V>, AllocError> { Ok(self.pairs.insert(key, value)) }
+    pub fn insert(&mut self, key: K, value: V) -> Result<Option<V>, AllocError> {
+        Ok(self.pairs.insert(key, value))
+    }
 
     /// Returns Rust's own `BTreeMap`.
-    pub fn into_inner(self) -> own::BTreeMap<K, V> { self.pairs }
+    pub fn into_inner(self) -> own::BTreeMap<K, V> {
+        self.pairs
+    }
 }
 
 impl<K, V> From<own::BTreeMap<K, V>> for BTreeMap<K, V> {
-    fn from(pairs: own::BTreeMap<K, V>) -> Self { BTreeMap { pairs, alloc: PhantomData } }
+    fn from(pairs: own::BTreeMap<K, V>) -> Self {
+        BTreeMap { pairs, alloc: PhantomData }
+    }
 }
 
 #[derive(Clone, Debug, PartialEq, Eq)]
@@ -41,8 +49,12 @@ pub struct BTreeSet<K, A = Global> {
 super::over!(BTreeSet<K>, items, own::BTreeSet<K>);
 
 impl<K: Ord, A> BTreeSet<K, A> {
-    pub fn new(_: A) -> Self { BTreeSet { items: own::BTreeSet::new(), alloc: PhantomData } }
-    pub fn insert(&mut self, item: K) -> Result<bool, AllocError> { Ok(self.items.insert(item)) }
+    pub fn new(_: A) -> Self {
+        BTreeSet { items: own::BTreeSet::new(), alloc: PhantomData }
+    }
+    pub fn insert(&mut self, item: K) -> Result<bool, AllocError> {
+        Ok(self.items.insert(item))
+    }
 }
 
 #[derive(Clone, Debug)]
@@ -53,10 +65,18 @@ pub struct VecDeque<T, A = Global> {
 super::over!(VecDeque<T>, items, own::VecDeque<T>);
 
 impl<T, A: Allocator> VecDeque<T, A> {
-    pub fn new(alloc: A) -> Self { VecDeque { items: own::VecDeque::new(), alloc } }
-    pub fn from_vec(vec: Vec<T, A>) -> Self { VecDeque { items: vec.items.into(), alloc: vec.alloc } }
-    pub fn into_vec(self) -> Vec<T, A> { Vec { items: self.items.into(), alloc: self.alloc } }
-    pub fn reserve(&mut self, more: usize) -> Result<(), AllocError> { Ok(self.items.try_reserve(more)?) }
+    pub fn new(alloc: A) -> Self {
+        VecDeque { items: own::VecDeque::new(), alloc }
+    }
+    pub fn from_vec(vec: Vec<T, A>) -> Self {
+        VecDeque { items: vec.items.into(), alloc: vec.alloc }
+    }
+    pub fn into_vec(self) -> Vec<T, A> {
+        Vec { items: self.items.into(), alloc: self.alloc }
+    }
+    pub fn reserve(&mut self, more: usize) -> Result<(), AllocError> {
+        Ok(self.items.try_reserve(more)?)
+    }
 
     pub fn push_front(&mut self, item: T) -> Result<(), AllocError> {
         self.reserve(1)?;
@@ -64,6 +84,10 @@ impl<T, A: Allocator> VecDeque<T, A> {
         Ok(())
     }
 
-    pub fn allocator(&self) -> &A { &self.alloc }
-    pub fn push_front_reserved(&mut self, item: T) { self.items.push_front(item); }
+    pub fn allocator(&self) -> &A {
+        &self.alloc
+    }
+    pub fn push_front_reserved(&mut self, item: T) {
+        self.items.push_front(item);
+    }
 }

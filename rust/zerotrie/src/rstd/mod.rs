@@ -53,7 +53,9 @@ pub mod boxed {
     pub struct BoxedSlice<T>(pub alloc::boxed::Box<[T]>);
 
     impl<T> BoxedSlice<T> {
-        pub fn as_slice(&self) -> &[T] { &self.0 }
+        pub fn as_slice(&self) -> &[T] {
+            &self.0
+        }
     }
 }
 
@@ -79,7 +81,9 @@ pub mod string {
     use super::alloc::{AllocError, Allocator};
     use alloc::string::String;
 
-    pub fn new<A: Allocator>(_: A) -> String { String::new() }
+    pub fn new<A: Allocator>(_: A) -> String {
+        String::new()
+    }
 
     pub fn from_str<A: Allocator>(_: A, text: &str) -> Result<String, AllocError> {
         let mut copy = String::new();

@@ -26,8 +26,12 @@ impl Value {
         if let Value::Number(Number::Whole(number)) = self { Some(*number) } else { None }
     }
 
-    pub fn as_str(&self) -> Option<&str> { if let Value::String(text) = self { Some(text) } else { None } }
-    pub fn as_array(&self) -> Option<&Vec<Value>> { if let Value::Array(items) = self { Some(items) } else { None } }
+    pub fn as_str(&self) -> Option<&str> {
+        if let Value::String(text) = self { Some(text) } else { None }
+    }
+    pub fn as_array(&self) -> Option<&Vec<Value>> {
+        if let Value::Array(items) = self { Some(items) } else { None }
+    }
 
     pub fn as_object(&self) -> Option<&Map<String, Value>> {
         if let Value::Object(members) = self { Some(members) } else { None }
@@ -35,11 +39,15 @@ impl Value {
 }
 
 impl From<usize> for Value {
-    fn from(number: usize) -> Self { Value::Number(Number::Whole(number as u64)) }
+    fn from(number: usize) -> Self {
+        Value::Number(Number::Whole(number as u64))
+    }
 }
 
 impl From<u8> for Value {
-    fn from(number: u8) -> Self { usize::from(number).into() }
+    fn from(number: u8) -> Self {
+        usize::from(number).into()
+    }
 }
 
 pub fn put<A: Allocator>(members: &mut Map<String, Value>, alloc: A, key: &str, value: Value) -> Result<(), AllocError> {

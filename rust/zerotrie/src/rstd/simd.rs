@@ -17,7 +17,9 @@ macro_rules! lanes {
 
         impl $name {
             #[inline(always)]
-            pub fn from_slice(bytes: &[u8]) -> Self { $name(*bytes.first_chunk().expect("enough bytes")) }
+            pub fn from_slice(bytes: &[u8]) -> Self {
+                $name(*bytes.first_chunk().expect("enough bytes"))
+            }
 
             #[inline(always)]
             pub fn splat(byte: u8) -> Self {
@@ -36,10 +38,14 @@ macro_rules! lanes {
             }
 
             #[inline(always)]
-            pub fn simd_eq(self, other: Self) -> $mask { self.by_sixteens(other, lanes::eq) }
+            pub fn simd_eq(self, other: Self) -> $mask {
+                self.by_sixteens(other, lanes::eq)
+            }
 
             #[inline(always)]
-            pub fn simd_ge(self, other: Self) -> $mask { self.by_sixteens(other, lanes::ge) }
+            pub fn simd_ge(self, other: Self) -> $mask {
+                self.by_sixteens(other, lanes::ge)
+            }
 
             #[inline(always)]
             pub fn simd_ne(self, other: Self) -> $mask {
@@ -54,7 +60,9 @@ macro_rules! lanes {
 
         impl $mask {
             #[inline(always)]
-            pub fn to_bitmask(self) -> u64 { self.0 }
+            pub fn to_bitmask(self) -> u64 {
+                self.0
+            }
         }
     };
 }
@@ -72,10 +80,14 @@ pub struct m32x16(u64);
 
 impl u32x16 {
     #[inline(always)]
-    pub fn from_slice(words: &[u32]) -> Self { u32x16(*words.first_chunk().expect("enough words")) }
+    pub fn from_slice(words: &[u32]) -> Self {
+        u32x16(*words.first_chunk().expect("enough words"))
+    }
 
     #[inline(always)]
-    pub fn splat(word: u32) -> Self { u32x16([word; 16]) }
+    pub fn splat(word: u32) -> Self {
+        u32x16([word; 16])
+    }
 
     #[inline(always)]
     pub fn simd_eq(self, other: Self) -> m32x16 {
@@ -89,5 +101,7 @@ impl u32x16 {
 
 impl m32x16 {
     #[inline(always)]
-    pub fn to_bitmask(self) -> u64 { self.0 }
+    pub fn to_bitmask(self) -> u64 {
+        self.0
+    }
 }

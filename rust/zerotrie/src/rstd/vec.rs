@@ -13,7 +13,9 @@ pub struct Vec<T, A = Global> {
 super::over!(Vec<T>, items, Own<T>);
 
 impl<T, A: Allocator> Vec<T, A> {
-    pub fn new(alloc: A) -> Self { Vec { items: Own::new(), alloc } }
+    pub fn new(alloc: A) -> Self {
+        Vec { items: Own::new(), alloc }
+    }
 
     pub fn with_capacity(alloc: A, count: usize) -> Result<Self, AllocError> {
         let mut items = Own::new();
@@ -34,13 +36,23 @@ impl<T, A: Allocator> Vec<T, A> {
         Ok(())
     }
 
-    pub fn push_reserved(&mut self, item: T) { self.items.push(item); }
-    pub fn reserve(&mut self, more: usize) -> Result<(), AllocError> { Ok(self.items.try_reserve(more)?) }
-    pub fn allocator(&self) -> &A { &self.alloc }
-    pub fn into_boxed_slice(self) -> BoxedSlice<T> { BoxedSlice(self.items.into_boxed_slice()) }
+    pub fn push_reserved(&mut self, item: T) {
+        self.items.push(item);
+    }
+    pub fn reserve(&mut self, more: usize) -> Result<(), AllocError> {
+        Ok(self.items.try_reserve(more)?)
+    }
+    pub fn allocator(&self) -> &A {
+        &self.alloc
+    }
+    pub fn into_boxed_slice(self) -> BoxedSlice<T> {
+        BoxedSlice(self.items.into_boxed_slice())
+    }
 
     /// Returns Rust's own `Vec`.
-    pub fn into_inner(self) -> Own<T> { self.items }
+    pub fn into_inner(self) -> Own<T> {
+        self.items
+    }
 }
 
 impl<T: Clone, A: Allocator> Vec<T, A> {
@@ -71,33 +83,47 @@ impl<T: Clone, A: Allocator> Vec<T, A> {
 }
 
 impl<T, A> Borrow<[T]> for Vec<T, A> {
-    fn borrow(&self) -> &[T] { &self.items }
+    fn borrow(&self) -> &[T] {
+        &self.items
+    }
 }
 
 impl<T: PartialEq, A> PartialEq for Vec<T, A> {
-    fn eq(&self, other: &Self) -> bool { self.items == other.items }
+    fn eq(&self, other: &Self) -> bool {
+        self.items == other.items
+    }
 }
 
 impl<T: Eq, A> Eq for Vec<T, A> {}
 
 impl<T: Ord, A> PartialOrd for Vec<T, A> {
-    fn partial_cmp(&self, other: &Self) -> Option<Ordering> { Some(self.cmp(other)) }
+    fn partial_cmp(&self, other: &Self) -> Option<Ordering> {
+        Some(self.cmp(other))
+    }
 }
 
 impl<T: Ord, A> Ord for Vec<T, A> {
-    fn cmp(&self, other: &Self) -> Ordering { self.items.cmp(&other.items) }
+    fn cmp(&self, other: &Self) -> Ordering {
+        self.items.cmp(&other.items)
+    }
 }
 
 impl<T: fmt::Debug, A> fmt::Debug for Vec<T, A> {
-    fn fmt(&self, f: &mut fmt::Formatter<'_>) -> fmt::Result { self.items.fmt(f) }
+    fn fmt(&self, f: &mut fmt::Formatter<'_>) -> fmt::Result {
+        self.items.fmt(f)
+    }
 }
 
 impl<T> From<Own<T>> for Vec<T> {
-    fn from(items: Own<T>) -> Self { Vec { items, alloc: Global } }
+    fn from(items: Own<T>) -> Self {
+        Vec { items, alloc: Global }
+    }
 }
 
 impl<T> From<Vec<T>> for Own<T> {
-    fn from(vec: Vec<T>) -> Self { vec.items }
+    fn from(vec: Vec<T>) -> Self {
+        vec.items
+    }
 }
 
 /// `collect` into a `Vec`.

@@ -2,8 +2,6 @@
 //! Two-dimensional tables: from a prefix and a suffix to a number, where many prefixes share
 //! suffixes.
 
-use crate::rstd::prelude::*;
-
 mod build;
 mod get;
 mod laws;

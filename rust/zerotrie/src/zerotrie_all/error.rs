@@ -1,7 +1,6 @@
 // Made from crates/zerotrie/src/error.rt by rust/make: edit that.
 //! One error for a program.
 
-use crate::rstd::prelude::*;
 use crate::zerotrie_all::dense::RecordError;
 use crate::rstd::alloc::AllocError;
 use crate::zerotrie_any::{JsonError, LoadError, NotWellFormed, TagError};

@@ -34,6 +34,7 @@ impl core::error::Error for NotWellFormed {}
 /// # Ok::<(), Fail>(())
 /// ```
 #[derive(Clone, PartialEq, Eq, Debug)]
+#[cfg_attr(not(feature = "__internal"), non_exhaustive)]
 pub enum TagError {
     /// There are no bytes.
     Empty,
@@ -74,6 +75,7 @@ impl TagError {
 /// # Ok::<(), Fail>(())
 /// ```
 #[derive(Clone, PartialEq, Eq, Debug)]
+#[cfg_attr(not(feature = "__internal"), non_exhaustive)]
 pub enum LoadError {
     /// There are no bytes, or the first is not the tag of a kind that is read.
     Tag(TagError),

@@ -1,8 +1,6 @@
 // Made from crates/zerotrie_any/src/json.rt by rust/make: edit that.
 //! Tries as JSON values: an object from keys to numbers, or a list of pairs.
 
-use crate::rstd::prelude::*;
-
 mod no_pair;
 mod reading;
 mod writing;
@@ -21,6 +19,7 @@ use crate::zerotrie_core::ZeroTrieBuildError;
 /// assert!(rt; error == Some(JsonError::Shape));
 /// ```
 #[derive(Clone, PartialEq, Eq, Debug)]
+#[cfg_attr(not(feature = "__internal"), non_exhaustive)]
 pub enum JsonError {
     /// The value is neither an object from text to numbers nor a list of pairs.
     /// `why_json_refused` returns the part of it that is no pair.

@@ -1,7 +1,6 @@
 // Made from crates/zerotrie_any/src/kind.rt by rust/make: edit that.
 //! The kind of a trie of pairs, if the caller names none.
 
-use crate::rstd::prelude::*;
 use crate::zerotrie_base::{TriePair, are_ascii};
 use crate::zerotrie_core::TrieKind;
 

@@ -1,7 +1,6 @@
 // Made from crates/zerotrie_base/src/error.rt by rust/make: edit that.
 //! Errors of builds.
 
-use crate::rstd::prelude::*;
 use crate::rstd::alloc::{AllocError, AllocFailed};
 
 /// Why a build of a trie failed.
@@ -20,6 +19,7 @@ use crate::rstd::alloc::{AllocError, AllocFailed};
 /// `NonAsciiError`, `MixedCase`, `DuplicateKey` and `Unsorted`, `why_slice_refused` and
 /// `why_iter_refused` return the keys that cause the error.
 #[derive(Clone, PartialEq, Eq, Debug)]
+#[cfg_attr(not(feature = "__internal"), non_exhaustive)]
 pub enum ZeroTrieBuildError {
     /// A key has a byte of 128 or more, and this kind of trie takes only ASCII keys.
     NonAsciiError,

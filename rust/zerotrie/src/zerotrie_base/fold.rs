@@ -1,7 +1,6 @@
 // Made from crates/zerotrie_base/src/fold.rt by rust/make: edit that.
 //! Bytes as a kind compares them: `Ignore` ignores the case of ASCII letters.
 
-use crate::rstd::prelude::*;
 use crate::zerotrie_base::options::ZeroTrieWithOptions;
 
 /// Each byte, with ASCII letters in lower case.

@@ -1,7 +1,6 @@
 // Made from crates/zerotrie_base/src/kind.rt by rust/make: edit that.
 //! The kind of a trie as a value, for code that learns the kind when the program runs.
 
-use crate::rstd::prelude::*;
 use crate::zerotrie_base::options::{Ext, Hash, Ignore, Simple, ZeroTrieBuilderOptions, ZeroTrieWithOptions};
 
 /// A kind of trie.
@@ -14,6 +13,7 @@ use crate::zerotrie_base::options::{Ext, Hash, Ignore, Simple, ZeroTrieBuilderOp
 /// # Ok::<(), Fail>(())
 /// ```
 #[derive(Clone, Copy, PartialEq, Eq, Debug)]
+#[cfg_attr(not(feature = "__internal"), non_exhaustive)]
 pub enum TrieKind {
     /// Keys are ASCII.
     Simple,

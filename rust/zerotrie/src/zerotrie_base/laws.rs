@@ -3,8 +3,6 @@
 //!
 //! Each function does nothing: a call brings its law into a proof.
 
-use crate::rstd::prelude::*;
-
 /// Each number below 2^64 has exactly one spelling in each form. Other metadata changes only its
 /// own bits, and no spelling is the beginning of a longer one.
 pub fn one_spelling() {}

@@ -1,8 +1,6 @@
 // Made from crates/zerotrie_base/src/options.rt by rust/make: edit that.
 //! The kinds of trie, as types.
 
-use crate::rstd::prelude::*;
-
 /// The constants of a kind of trie.
 ///
 /// `TAG` is the number of the kind in tagged bytes. It is the sum of 1, 2, 4 and 8 for each of the

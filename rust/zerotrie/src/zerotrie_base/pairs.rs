@@ -1,7 +1,6 @@
 // Made from crates/zerotrie_base/src/pairs.rt by rust/make: edit that.
 //! Pairs of a key and a value.
 
-use crate::rstd::prelude::*;
 use crate::zerotrie_base::store::TrieKey;
 
 /// A pair of a key and a value, as a build takes it.

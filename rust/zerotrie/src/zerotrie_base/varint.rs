@@ -11,7 +11,6 @@
 //! | `meta3` | 3 bits | 4 | values, lengths of spans |
 //! | `meta2` | 2 bits | 5 | heads of branches |
 
-use crate::rstd::prelude::*;
 use crate::rstd::arrayvec::ArrayVec;
 
 /// Reads a number of two to four bytes, as most longer ones are. None of them is too large, so the

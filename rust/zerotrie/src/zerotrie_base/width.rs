@@ -1,8 +1,6 @@
 // Made from crates/zerotrie_base/src/width.rt by rust/make: edit that.
 //! The width of the offsets of a branch.
 
-use crate::rstd::prelude::*;
-
 /// Returns the least width field of a branch whose targets have this many bytes in total: the least
 /// number w with `total` below 256^(w + 1).
 ///

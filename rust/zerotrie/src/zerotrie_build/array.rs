@@ -1,8 +1,6 @@
 // Made from crates/zerotrie_build/src/array.rt by rust/make: edit that.
 //! The array builder, which writes a text from its end.
 
-use crate::rstd::prelude::*;
-
 mod fill;
 mod text;
 mod walk;

@@ -1,7 +1,6 @@
 // Made from crates/zerotrie_build/src/number.rt by rust/make: edit that.
 //! The numbers that nodes begin with: their bytes and their lengths.
 
-use crate::rstd::prelude::*;
 use crate::rstd::arrayvec::ArrayVec;
 use crate::zerotrie_base::{write_varint_meta2, write_varint_meta3};
 

@@ -2,7 +2,6 @@
 //! The order that the keys of a kind have: the tests that items are in it, that no key comes twice,
 //! and that keys have bytes of the kind alone.
 
-use crate::rstd::prelude::*;
 use crate::zerotrie_build::items::{ByteSliceWithIndices, IndexedItems};
 use crate::zerotrie_base::{Simple, ZeroTrieBuildError, ZeroTrieWithOptions, folded};
 

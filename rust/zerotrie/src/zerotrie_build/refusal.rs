@@ -1,7 +1,6 @@
 // Made from crates/zerotrie_build/src/refusal.rt by rust/make: edit that.
 //! Which keys show why a build returns an error.
 
-use crate::rstd::prelude::*;
 use crate::zerotrie_build::items::item_at;
 use crate::zerotrie_build::order::{common_front_len, first_foreign, first_unordered};
 use crate::zerotrie_build::sort::{KeyPrefix, items_at, sorted_prefixes};
@@ -20,6 +19,7 @@ use crate::zerotrie_base::{Simple, TrieKey, ZeroTrieBuildError, ZeroTrieWithOpti
 /// # Ok::<(), Fail>(())
 /// ```
 #[derive(Clone, PartialEq, Eq, Debug)]
+#[cfg_attr(not(feature = "__internal"), non_exhaustive)]
 pub struct Refusal {
     /// Why: `Unsorted`, `DuplicateKey`, `NonAsciiError` or `MixedCase`.
     pub error: ZeroTrieBuildError,

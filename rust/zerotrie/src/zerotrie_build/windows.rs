@@ -1,7 +1,6 @@
 // Made from crates/zerotrie_build/src/windows.rt by rust/make: edit that.
 //! What is first in the text of a window of the items.
 
-use crate::rstd::prelude::*;
 use crate::zerotrie_build::items::IndexedItems;
 use crate::zerotrie_base::ZeroTrieWithOptions;
 
@@ -29,6 +28,7 @@ pub(in crate::made::zerotrie_build) enum Step {
     /// The value of the first item, whose key ends here.
     Value(usize),
     /// A byte that all keys have.
+    #[allow(dead_code)] // a proof reads it
     Literal(u8),
     /// So many bytes from 128 on, which all keys have.
     Span(usize),

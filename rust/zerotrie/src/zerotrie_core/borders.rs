@@ -1,7 +1,6 @@
 // Made from crates/zerotrie_core/src/borders.rt by rust/make: edit that.
 //! The longest prefix of a text that is a key and ends at a border of the text.
 
-use crate::rstd::prelude::*;
 use crate::zerotrie_core::prefixes::CommonPrefixes;
 use crate::zerotrie_base::ZeroTrieWithOptions;
 

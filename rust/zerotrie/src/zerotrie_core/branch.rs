@@ -6,7 +6,6 @@
 //! edges. Each target but the first has an offset, which is where it begins. The highest bytes of
 //! all offsets come first, then the next bytes, and so on.
 
-use crate::rstd::prelude::*;
 use crate::zerotrie_core::offsets::{end_at, offset_at, offsets_and_targets, short_offset_at};
 use crate::zerotrie_core::simd::edge_search::{before_end, place_in};
 use crate::zerotrie_core::simd::lanes::{first_in_16, first_in_32, first_in_64};

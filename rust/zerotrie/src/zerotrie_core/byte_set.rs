@@ -1,8 +1,6 @@
 // Made from crates/zerotrie_core/src/byte_set.rt by rust/make: edit that.
 //! Sets of bytes.
 
-use crate::rstd::prelude::*;
-
 /// A set of bytes, as a bit for each byte.
 ///
 /// ```

@@ -4,12 +4,12 @@
 //! A cursor follows the edges of a trie. The bytes that are left are again a trie: its keys are the
 //! rests of all keys that begin with the edges so far. Nothing is copied or allocated.
 
-use crate::rstd::prelude::*;
 use crate::zerotrie_core::edges::{edge_like, edge_numbered};
 use crate::zerotrie_base::{ZeroTrieWithOptions, read_varint_meta3};
 
 /// The result of a probe in a trie over ASCII keys.
 #[derive(Clone, Copy, Debug, PartialEq, Eq)]
+#[cfg_attr(not(feature = "__internal"), non_exhaustive)]
 pub struct AsciiProbeResult {
     /// The byte of the edge.
     pub byte: u8,

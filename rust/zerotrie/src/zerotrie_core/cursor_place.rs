@@ -1,7 +1,6 @@
 // Made from crates/zerotrie_core/src/cursor_place.rt by rust/make: edit that.
 //! A cursor by numbers, for callers that keep no slices.
 
-use crate::rstd::prelude::*;
 use crate::zerotrie_core::cursor::take_value;
 use crate::zerotrie_core::edges::Along;
 use crate::zerotrie_core::span_cursor::{ByteProbeResult, SpanCursor, like_at, numbered_at};

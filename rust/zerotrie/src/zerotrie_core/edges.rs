@@ -4,7 +4,6 @@
 //! A literal is one edge. So is each byte of a span, which has the rest of the run after it. A
 //! branch has one edge for each target. A value before an edge is skipped.
 
-use crate::rstd::prelude::*;
 use crate::zerotrie_core::branch::Branch;
 use crate::zerotrie_core::node::{Node, first_node};
 use crate::zerotrie_base::{ZeroTrieWithOptions, folded};

@@ -16,6 +16,7 @@ use crate::zerotrie_base::ZeroTrieWithOptions;
 
 /// The rule of the format that fails.
 #[derive(Clone, Copy, PartialEq, Eq, Debug)]
+#[cfg_attr(not(feature = "__internal"), non_exhaustive)]
 pub enum FaultCause {
     /// No node of the kind begins with these bytes.
     ///
@@ -84,6 +85,7 @@ impl FaultCause {
 
 /// The first fault of malformed bytes.
 #[derive(Clone, Copy, PartialEq, Eq, Debug)]
+#[cfg_attr(not(feature = "__internal"), non_exhaustive)]
 pub struct Fault {
     /// The number of bytes before the malformed node, or before the end that comes too early.
     pub place: usize,

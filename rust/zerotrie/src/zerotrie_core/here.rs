@@ -1,7 +1,6 @@
 // Made from crates/zerotrie_core/src/here.rt by rust/make: edit that.
 //! A part of the bytes that is still to be read, with the bytes after it.
 
-use crate::rstd::prelude::*;
 use crate::zerotrie_core::simd::lanes::{first_other_in_16, highs_in_16};
 
 /// The bytes that are still to be read, and all bytes from there on.

@@ -3,8 +3,6 @@
 //!
 //! Each function does nothing: a call brings its law into a proof.
 
-use crate::rstd::prelude::*;
-
 pub use crate::zerotrie_base::laws::{
     canonical_exactly, equal_exactly_if_maps_are, length_is_size, meant_fits, one_meaning,
     one_spelling, same_keys_answer_alike,

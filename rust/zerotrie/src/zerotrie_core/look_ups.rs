@@ -4,7 +4,6 @@
 //! All keys begin at the first node, which usually is the largest branch. So the target of each
 //! first byte is found once, and later keys with this byte begin there.
 
-use crate::rstd::prelude::*;
 use crate::zerotrie_core::laws::steps_look_ahead;
 use crate::zerotrie_core::reader::get;
 use crate::zerotrie_core::span_cursor::SpanCursor;

@@ -1,7 +1,6 @@
 // Made from crates/zerotrie_core/src/node.rt by rust/make: edit that.
 //! The first node of some bytes, as a value.
 
-use crate::rstd::prelude::*;
 use crate::zerotrie_core::branch::Branch;
 use crate::zerotrie_base::{ZeroTrieWithOptions, read_varint_meta3};
 

@@ -2,8 +2,6 @@
 //! The offsets of a branch. Their bytes are in blocks: the highest bytes of all offsets, then the
 //! next bytes, and so on.
 
-use crate::rstd::prelude::*;
-
 /// Reads an offset of up to three bytes, the highest first, one from each block.
 #[inline(always)]
 pub(in crate::made::zerotrie_core) fn short_offset_at(table: &[u8], place: usize, count: usize, width: usize) -> usize {

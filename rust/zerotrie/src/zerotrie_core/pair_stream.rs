@@ -1,7 +1,6 @@
 // Made from crates/zerotrie_core/src/pair_stream.rt by rust/make: edit that.
 //! What lists pairs, each key borrowed from one buffer.
 
-use crate::rstd::prelude::*;
 use crate::zerotrie_core::stream::ZeroTrieStream;
 use crate::rstd::alloc::{AllocError, Allocator};
 

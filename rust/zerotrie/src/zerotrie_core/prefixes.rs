@@ -1,7 +1,6 @@
 // Made from crates/zerotrie_core/src/prefixes.rt by rust/make: edit that.
 //! The keys that some text begins with.
 
-use crate::rstd::prelude::*;
 use crate::zerotrie_core::laws::steps_look_ahead;
 use crate::zerotrie_core::span_cursor::SpanCursor;
 use crate::zerotrie_base::{ZeroTrieBuilderOptions, ZeroTrieWithOptions, by_kind};

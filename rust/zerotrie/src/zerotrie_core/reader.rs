@@ -7,7 +7,6 @@
 //! equals both its cases. On malformed bytes the result is unspecified; it never panics or reads
 //! outside them.
 
-use crate::rstd::prelude::*;
 use crate::zerotrie_core::branch::Branch;
 use crate::zerotrie_core::node::{Node, first_node};
 use crate::zerotrie_core::simd::literals::common_literals;

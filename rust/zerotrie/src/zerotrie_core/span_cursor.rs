@@ -1,13 +1,13 @@
 // Made from crates/zerotrie_core/src/span_cursor.rt by rust/make: edit that.
 //! The cursor of any kind, which may be inside a span.
 
-use crate::rstd::prelude::*;
 use crate::zerotrie_core::cursor::take_value;
 use crate::zerotrie_core::edges::{Along, edge_like, edge_numbered, run_edge_like, run_edge_numbered};
 use crate::zerotrie_base::ZeroTrieWithOptions;
 
 /// The result of a probe in a trie of any kind.
 #[derive(Clone, Copy, Debug, PartialEq, Eq)]
+#[cfg_attr(not(feature = "__internal"), non_exhaustive)]
 pub struct ByteProbeResult {
     /// The byte of the edge.
     pub byte: u8,

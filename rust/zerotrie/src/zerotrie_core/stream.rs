@@ -53,6 +53,7 @@ pub enum Reached {
 /// begins. Of any n bytes it lists at most n pairs. To prove that a loop over a stream ends, write
 /// `for _ in 0..=bytes.len()` and `break` at the end.
 #[derive(Debug)]
+#[derive(Clone)]
 pub struct ZeroTrieStream<'a, A: Allocator = Global> {
     options: ZeroTrieBuilderOptions,
     here: Here<'a>,

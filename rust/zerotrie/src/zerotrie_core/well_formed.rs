@@ -6,8 +6,6 @@
 //! with the longest one. A shorter target has less than half of the bytes, so few calls are open at
 //! once. Nothing is allocated.
 
-use crate::rstd::prelude::*;
-
 pub(in crate::made::zerotrie_core) mod branches;
 pub(in crate::made::zerotrie_core) mod known_table;
 

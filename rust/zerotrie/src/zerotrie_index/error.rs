@@ -1,11 +1,11 @@
 // Made from crates/zerotrie_index/src/error.rt by rust/make: edit that.
 //! Errors of builds.
 
-use crate::rstd::prelude::*;
 use crate::rstd::alloc::{AllocError, AllocFailed};
 
 /// Why a build of an index failed.
 #[derive(Clone, PartialEq, Eq, Debug)]
+#[cfg_attr(not(feature = "__internal"), non_exhaustive)]
 pub enum ZeroIndexBuildError {
     /// The keys do not strictly ascend by their bytes. Returned exactly if they don't.
     Unsorted,

@@ -1,8 +1,6 @@
 // Made from crates/zerotrie_index/src/hash.rt by rust/make: edit that.
 //! The hash of a key, on which the bytes of an index depend.
 
-use crate::rstd::prelude::*;
-
 /// The first 64 bits of the fraction of pi.
 const PI: u64 = 0x243F_6A88_85A3_08D3;
 

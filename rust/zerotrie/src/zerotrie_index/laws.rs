@@ -1,7 +1,6 @@
 // Made from crates/zerotrie_index/src/laws.rt by rust/make: edit that.
 //! Laws of the definitions alone, as contracts that a caller's proof can cite.
 
-use crate::rstd::prelude::*;
 use crate::zerotrie_sealed::laws::index_is_behind;
 
 /// Pairs with distinct keys return the same in each order.

@@ -1,7 +1,6 @@
 // Made from crates/zerotrie_index/src/reader.rt by rust/make: edit that.
 //! Look-ups in the bytes of an index.
 
-use crate::rstd::prelude::*;
 use crate::zerotrie_index::hash::hash_of;
 use crate::zerotrie_base::read_varint_meta2;
 

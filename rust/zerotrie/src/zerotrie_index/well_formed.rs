@@ -1,7 +1,6 @@
 // Made from crates/zerotrie_index/src/well_formed.rt by rust/make: edit that.
 //! Validation of the bytes of an index.
 
-use crate::rstd::prelude::*;
 use crate::zerotrie_index::builder::BUCKET_LIMIT;
 use crate::zerotrie_index::hash::hash_of;
 use crate::zerotrie_index::reader::{bucket_of, find_in, parts_of, read_record, read_word};

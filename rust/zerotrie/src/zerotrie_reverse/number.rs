@@ -1,8 +1,6 @@
 // Made from crates/zerotrie_reverse/src/number.rt by rust/make: edit that.
 //! Numbers of variable length, read from any bytes.
 
-use crate::rstd::prelude::*;
-
 /// Returns the number with one more digit, if it is below 2^64.
 #[inline(always)]
 fn with_digit(latent: u8, value: usize, byte: u8) -> Option<usize> {

@@ -1,7 +1,6 @@
 // Made from crates/zerotrie_reverse/src/tries.rt by rust/make: edit that.
 //! Reverse look-ups in every trie.
 
-use crate::rstd::prelude::*;
 use crate::zerotrie_reverse::table::KeysByValue;
 use crate::rstd::alloc::{AllocError, Global};
 use crate::zerotrie_core::{Trie, by_kind};

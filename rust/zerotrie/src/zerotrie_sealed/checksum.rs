@@ -1,7 +1,6 @@
 // Made from crates/zerotrie_sealed/src/checksum.rt by rust/make: edit that.
 //! CRC-32C of bytes, sixteen at a time.
 
-use crate::rstd::prelude::*;
 use crate::zerotrie_sealed::tables::POWERS;
 
 /// Returns the CRC-32C of the bytes, which is also called Castagnoli's.

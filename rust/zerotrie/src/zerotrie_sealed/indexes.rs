@@ -1,7 +1,6 @@
 // Made from crates/zerotrie_sealed/src/indexes.rt by rust/make: edit that.
 //! Opening of indexes: an index, or its table, of a sealed file.
 
-use crate::rstd::prelude::*;
 use crate::zerotrie_sealed::blocks::{are_sums, block_count};
 use crate::zerotrie_sealed::reading::{SealError, has_checksum, length_in, number_in, whole_in};
 use crate::zerotrie_sealed::writing::{BLOCKS_NUMBER, HEADER_LEN, INDEX_NUMBER};

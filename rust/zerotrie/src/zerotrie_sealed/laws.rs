@@ -3,8 +3,6 @@
 //!
 //! Each function does nothing: a call brings its law into a proof.
 
-use crate::rstd::prelude::*;
-
 /// A file is the seal of one trie at most, in one kind.
 pub fn one_trie() {}
 

@@ -1,7 +1,6 @@
 // Made from crates/zerotrie_sealed/src/reading.rt by rust/make: edit that.
 //! Opening: the trie of a sealed file, or what is wrong with the file.
 
-use crate::rstd::prelude::*;
 use crate::zerotrie_sealed::checksum::crc32c_of_both;
 use crate::zerotrie_sealed::writing::{FRONT_LEN, HEADER_LEN, MAGIC, VERSION};
 use crate::rstd::io;
@@ -10,6 +9,7 @@ use crate::zerotrie_base::TrieKind;
 
 /// Why a file is not taken for a sealed one.
 #[derive(Clone, Copy, PartialEq, Eq, Debug)]
+#[cfg_attr(not(feature = "__internal"), non_exhaustive)]
 pub enum SealError {
     /// The file does not begin with the magic of sealed files.
     NoMagic,
@@ -32,7 +32,7 @@ impl core::fmt::Display for SealError {
     #[inline]
     fn fmt(&self, f: &mut core::fmt::Formatter<'_>) -> core::fmt::Result {
         match self {
-            Self::NoMagic => write!(f, "the file does not begin as a sealed one"),
+            Self::NoMagic => write!(f, "the file does not begin as a sealed one: give its bytes, not its path"),
             Self::UnknownVersion(field) => write!(f, "the file has the version {field} of the format, and only version 1 is known"),
             Self::UnknownKind(field) => write!(f, "the file has the number {field}, which stands for nothing that is asked for"),
             Self::CutShort => write!(f, "the file is cut short: get all of it"),

@@ -1,8 +1,6 @@
 // Made from crates/zerotrie_sealed/src/tables.rt by rust/make: edit that.
 //! The table of the checksum, which is proved to be that of its definition.
 
-use crate::rstd::prelude::*;
-
 /// The byte b times x^(8 (k + 1)) at the place 256 k + b.
 pub(in crate::made::zerotrie_sealed) static POWERS: [u32; 4096] = [
     0x00000000, 0xF26B8303, 0xE13B70F7, 0x1350F3F4, 0xC79A971F, 0x35F1141C, 0x26A1E7E8, 0xD4CA64EB,

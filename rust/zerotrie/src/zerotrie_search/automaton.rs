@@ -1,7 +1,6 @@
 // Made from crates/zerotrie_search/src/automaton.rt by rust/make: edit that.
 //! What reads a key byte by byte, and accepts it or not.
 
-use crate::rstd::prelude::*;
 use crate::zerotrie_core::ByteSet;
 
 /// A set of keys that is decided byte by byte.

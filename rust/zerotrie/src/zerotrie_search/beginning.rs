@@ -1,7 +1,6 @@
 // Made from crates/zerotrie_search/src/beginning.rt by rust/make: edit that.
 //! Keys that continue another automaton's keys.
 
-use crate::rstd::prelude::*;
 use crate::zerotrie_search::automaton::Automaton;
 use crate::zerotrie_core::ByteSet;
 

@@ -1,7 +1,6 @@
 // Made from crates/zerotrie_search/src/combination.rt by rust/make: edit that.
 //! Automata that are made of others.
 
-use crate::rstd::prelude::*;
 use crate::zerotrie_search::automaton::Automaton;
 use crate::zerotrie_core::ByteSet;
 

@@ -1,7 +1,6 @@
 // Made from crates/zerotrie_search/src/cursors.rt by rust/make: edit that.
 //! Searches of what remains below a cursor.
 
-use crate::rstd::prelude::*;
 use crate::zerotrie_search::automaton::Automaton;
 use crate::zerotrie_search::search::ZeroTrieSearch;
 use crate::rstd::alloc::{AllocError, Global};

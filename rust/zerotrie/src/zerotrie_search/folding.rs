@@ -1,7 +1,6 @@
 // Made from crates/zerotrie_search/src/folding.rt by rust/make: edit that.
 //! Automata over keys as a kind compares them.
 
-use crate::rstd::prelude::*;
 use crate::zerotrie_search::any::SearchBy;
 use crate::zerotrie_search::automaton::Automaton;
 use crate::zerotrie_search::fuzzy::Fuzzy;

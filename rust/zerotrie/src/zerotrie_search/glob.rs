@@ -1,8 +1,6 @@
 // Made from crates/zerotrie_search/src/glob.rt by rust/make: edit that.
 //! Keys that a pattern of a shell matches.
 
-use crate::rstd::prelude::*;
-
 mod chars;
 mod masks;
 mod pattern;
@@ -17,6 +15,7 @@ use crate::zerotrie_core::ByteSet;
 
 /// Why a pattern is an error.
 #[derive(Clone, Copy, Debug, PartialEq, Eq)]
+#[cfg_attr(not(feature = "__internal"), non_exhaustive)]
 pub enum GlobError {
     /// A class has no end, no letter, or a range that ends before it begins, a group has no end or is
     /// in another one, a brace ends no group, or a backslash at the end escapes nothing.

@@ -1,7 +1,6 @@
 // Made from crates/zerotrie_search/src/keys_of.rt by rust/make: edit that.
 //! The keys of another trie.
 
-use crate::rstd::prelude::*;
 use crate::zerotrie_search::automaton::Automaton;
 use crate::zerotrie_core::laws::steps_look_ahead;
 use crate::zerotrie_core::{

@@ -3,7 +3,6 @@
 //!
 //! Each function does nothing: a call brings its law into a proof.
 
-use crate::rstd::prelude::*;
 use crate::zerotrie_core::laws::listing_is_the_map;
 
 /// The distance of two words, which is defined by a recursion over both, is what the crate strsim

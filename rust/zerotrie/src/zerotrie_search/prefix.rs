@@ -1,7 +1,6 @@
 // Made from crates/zerotrie_search/src/prefix.rt by rust/make: edit that.
 //! Keys that begin with given bytes.
 
-use crate::rstd::prelude::*;
 use crate::zerotrie_search::automaton::Automaton;
 use crate::zerotrie_core::ByteSet;
 

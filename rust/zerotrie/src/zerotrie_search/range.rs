@@ -1,7 +1,6 @@
 // Made from crates/zerotrie_search/src/range.rt by rust/make: edit that.
 //! Keys between two bounds.
 
-use crate::rstd::prelude::*;
 use crate::zerotrie_search::automaton::Automaton;
 use crate::rstd::cmp::Ordering;
 use crate::rstd::ops::Bound;

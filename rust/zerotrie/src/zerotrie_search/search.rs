@@ -30,6 +30,7 @@ use crate::zerotrie_core::{PairStream, Reached, ZeroTrieStream};
 /// automaton does not want. It allocates for the longest key alone, and
 /// nothing for each pair: the stream's buffer, and one state a byte, which keys that begin alike
 /// share. If an allocation for a state fails, it reads the next key from an earlier byte.
+#[derive(Clone)]
 pub struct ZeroTrieSearch<'a, T: Automaton, A: Allocator = Global> {
     pairs: ZeroTrieStream<'a, A>,
     automaton: T,

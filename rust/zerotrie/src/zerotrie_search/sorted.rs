@@ -47,6 +47,7 @@ use crate::zerotrie_core::{
 /// upper case comes before lower case. It allocates for the longest key alone: the key, and the open
 /// branches on the way to it. Each has the set of its edges that are left, so that no edge is read
 /// twice. Of any n bytes it lists at most n pairs.
+#[derive(Clone)]
 pub struct ZeroTrieSorted<'a, 'p, A: Allocator = Global> {
     options: ZeroTrieBuilderOptions,
     bytes: &'a [u8],

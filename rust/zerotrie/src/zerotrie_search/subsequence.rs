@@ -1,7 +1,6 @@
 // Made from crates/zerotrie_search/src/subsequence.rt by rust/make: edit that.
 //! Keys that have given bytes in their order, with any bytes between them.
 
-use crate::rstd::prelude::*;
 use crate::zerotrie_search::automaton::Automaton;
 
 /// Accepts the keys that have these bytes in this order, whatever comes before, between and after

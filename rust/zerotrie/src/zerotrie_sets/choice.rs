@@ -1,7 +1,6 @@
 // Made from crates/zerotrie_sets/src/choice.rt by rust/make: edit that.
 //! What is chosen of the rows of a merge.
 
-use crate::rstd::prelude::*;
 use crate::zerotrie_sets::merge::Merge;
 use crate::rstd::alloc::AllocError;
 use crate::zerotrie_core::PairStream;

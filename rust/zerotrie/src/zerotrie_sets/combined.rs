@@ -1,7 +1,6 @@
 // Made from crates/zerotrie_sets/src/combined.rt by rust/make: edit that.
 //! Unions, intersections and differences of two streams.
 
-use crate::rstd::prelude::*;
 use crate::zerotrie_sets::choice::{Choice, next_chosen};
 use crate::zerotrie_sets::merge::Merge;
 use crate::rstd::alloc::AllocError;
@@ -78,6 +77,7 @@ impl Choice for Operation {
 ///
 /// It is a stream itself, so a union of many is a union of unions. It does not allocate, apart from
 /// what the streams do.
+#[derive(Clone)]
 pub struct Combined<S: PairStream, T: PairStream> {
     rows: Merge<S, T>,
     operation: Operation,

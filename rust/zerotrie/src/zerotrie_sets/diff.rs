@@ -1,7 +1,6 @@
 // Made from crates/zerotrie_sets/src/diff.rt by rust/make: edit that.
 //! What changed from one stream to another.
 
-use crate::rstd::prelude::*;
 use crate::zerotrie_sets::choice::{Choice, next_chosen};
 use crate::zerotrie_sets::merge::Merge;
 use crate::rstd::alloc::AllocError;
@@ -9,6 +8,7 @@ use crate::zerotrie_core::PairStream;
 
 /// How a key changed from the first stream to the second.
 #[derive(Clone, Copy, Debug, PartialEq, Eq)]
+#[cfg_attr(not(feature = "__internal"), non_exhaustive)]
 pub enum Change {
     /// Only the second stream has the key, with this value.
     Added(usize),
@@ -60,6 +60,7 @@ impl Choice for Changes {
 /// ```
 ///
 /// It does not allocate, apart from what the streams do.
+#[derive(Clone)]
 pub struct Diff<S: PairStream, T: PairStream> {
     rows: Merge<S, T>,
     change: Change,

@@ -1,7 +1,6 @@
 // Made from crates/zerotrie_sets/src/input.rt by rust/make: edit that.
 //! One input of a merge: a stream, and what became of its current pair.
 
-use crate::rstd::prelude::*;
 use crate::rstd::alloc::AllocError;
 use crate::rstd::cmp::Ordering;
 use crate::zerotrie_core::PairStream;
@@ -18,6 +17,7 @@ pub enum Held {
 }
 
 /// One input of a merge.
+#[derive(Clone)]
 pub struct Input<S> {
     pub stream: S,
     pub held: Held,

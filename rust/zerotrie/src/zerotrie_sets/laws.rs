@@ -3,8 +3,6 @@
 //!
 //! Each function does nothing: a call brings its law into a proof.
 
-use crate::rstd::prelude::*;
-
 /// The rows of a merge of two ascending lists ascend, and their keys are those of either list, each
 /// with what each list has for it.
 pub fn rows_are_of_maps() {}

@@ -1,7 +1,6 @@
 // Made from crates/zerotrie_sets/src/merge.rt by rust/make: edit that.
 //! Two streams merged: a row for each key of either.
 
-use crate::rstd::prelude::*;
 use crate::zerotrie_sets::input::{Held, Input};
 use crate::rstd::alloc::AllocError;
 use crate::rstd::cmp::Ordering;
@@ -27,6 +26,7 @@ use crate::zerotrie_core::PairStream;
 ///
 /// It does not allocate, apart from what the streams do. If the pairs of a stream do not ascend, it
 /// takes the lesser of the two first keys at each step.
+#[derive(Clone)]
 pub struct Merge<S: PairStream, T: PairStream> {
     first: Input<S>,
     second: Input<T>,

@@ -1,10 +1,9 @@
 // Made from crates/zerotrie_sets/src/selection.rt by rust/make: edit that.
 //! What is taken of any number of streams: which keys, and one value of each.
 
-use crate::rstd::prelude::*;
-
 /// Which keys are taken of any number of streams.
 #[derive(Clone, Copy, Debug, PartialEq, Eq)]
+#[cfg_attr(not(feature = "__internal"), non_exhaustive)]
 pub enum Selection {
     /// The keys of any stream.
     Union,
@@ -18,6 +17,7 @@ pub enum Selection {
 
 /// Which value a key gets, if more than one stream has it.
 #[derive(Clone, Copy, Debug, PartialEq, Eq)]
+#[cfg_attr(not(feature = "__internal"), non_exhaustive)]
 pub enum Rule {
     /// The value of the first stream that has the key.
     First,
@@ -37,6 +37,7 @@ pub enum Rule {
 
 /// Why the values of a key are not made one.
 #[derive(Clone, Copy, Debug, PartialEq, Eq)]
+#[cfg_attr(not(feature = "__internal"), non_exhaustive)]
 pub enum RuleError {
     /// More than one stream has the key, and the rule is `Refuse`.
     SeveralValues,

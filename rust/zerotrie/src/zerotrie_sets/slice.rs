@@ -1,7 +1,6 @@
 // Made from crates/zerotrie_sets/src/slice.rt by rust/make: edit that.
 //! Sorted slices as streams.
 
-use crate::rstd::prelude::*;
 use crate::rstd::alloc::AllocError;
 use crate::zerotrie_core::PairStream;
 
@@ -16,6 +15,7 @@ use crate::zerotrie_core::PairStream;
 /// ```
 ///
 /// It does not allocate.
+#[derive(Clone)]
 pub struct SortedSlice<'a, 'k> {
     pairs: &'a [(&'k [u8], usize)],
     current: usize,

@@ -1,7 +1,6 @@
 // Made from crates/zerotrie_sets/src/sorted.rt by rust/make: edit that.
 //! Sorted listings of tries as streams.
 
-use crate::rstd::prelude::*;
 use crate::rstd::alloc::{AllocError, Allocator, Global};
 use crate::rstd::ops::Bound;
 use crate::zerotrie_core::PairStream;

@@ -1,4 +1,5 @@
 // Made from the examples of the docs by rust/make: edit that.
+#![cfg_attr(rustfmt, rustfmt::skip)]
 #![deny(unused_must_use)]
 use crate::rstd::prelude::*;
 use crate::rstd::test::Fail;

@@ -1,7 +1,6 @@
 // Made from crates/zerotrie_c/src/answers.rt by rust/make: edit that.
 //! What is found, as C is told of it.
 
-use crate::rstd::prelude::*;
 use crate::zerotrie_core::ByteProbeResult;
 
 /// Returns whether something is found, and then sets `value` to it.

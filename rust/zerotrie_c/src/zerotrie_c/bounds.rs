@@ -1,8 +1,6 @@
 // Made from crates/zerotrie_c/src/bounds.rt by rust/make: edit that.
 //! How many bytes a build needs at most.
 
-use crate::rstd::prelude::*;
-
 /// Returns a number of bytes that is enough for each build of so many pairs whose keys have so many
 /// bytes together: 20 for a pair and 2 for a byte of a key, or the greatest number if that is more.
 pub fn zerotrie_build_bound(count: usize, key_bytes: usize) -> usize {

@@ -1,7 +1,6 @@
 // Made from crates/zerotrie_c/src/cursors.rt by rust/make: edit that.
 //! Cursors, which the caller keeps as numbers.
 
-use crate::rstd::prelude::*;
 use crate::zerotrie_c::answers::{tell, tell_edge};
 use crate::zerotrie_c::numbers::kind_of;
 use crate::zerotrie_core::{CursorPlace, ZeroTrieWithOptions, by_kind};

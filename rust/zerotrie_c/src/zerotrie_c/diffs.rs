@@ -1,7 +1,6 @@
 // Made from crates/zerotrie_c/src/diffs.rt by rust/make: edit that.
 //! What changed from one trie to another, a part at a time.
 
-use crate::rstd::prelude::*;
 use crate::zerotrie_c::numbers::{
     BUFFER_TOO_SMALL, DONE, MALFORMED_TRIE, OUT_OF_MEMORY, UNKNOWN_KIND, UNKNOWN_SEARCH, trie_of,
 };

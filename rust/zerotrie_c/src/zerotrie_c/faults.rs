@@ -1,7 +1,6 @@
 // Made from crates/zerotrie_c/src/faults.rt by rust/make: edit that.
 //! The first fault of malformed bytes.
 
-use crate::rstd::prelude::*;
 use crate::zerotrie_c::numbers::{DONE, OUT_OF_MEMORY, UNKNOWN_KIND, trie_of};
 use crate::rstd::alloc::Global;
 use crate::zerotrie_core::{FaultCause, Trie};

@@ -1,7 +1,6 @@
 // Made from crates/zerotrie_c/src/files.rt by rust/make: edit that.
 //! Sealed files, and what is in a file.
 
-use crate::rstd::prelude::*;
 use crate::zerotrie_c::builds::hand_out;
 use crate::zerotrie_c::numbers::{
     BUFFER_TOO_SMALL, DAMAGED, DONE, OUT_OF_MEMORY, UNKNOWN_KIND, UNKNOWN_VERSION, kind_of,

@@ -1,7 +1,6 @@
 // Made from crates/zerotrie_c/src/fronts.rt by rust/make: edit that.
 //! The keys that a text begins with.
 
-use crate::rstd::prelude::*;
 use crate::zerotrie_c::answers::tell_both;
 use crate::zerotrie_c::numbers::trie_of;
 use crate::zerotrie_core::Trie;

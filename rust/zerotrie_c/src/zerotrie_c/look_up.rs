@@ -1,7 +1,6 @@
 // Made from crates/zerotrie_c/src/look_up.rt by rust/make: edit that.
 //! Look-ups.
 
-use crate::rstd::prelude::*;
 use crate::zerotrie_c::answers::{tell, tell_both};
 use crate::zerotrie_c::numbers::{DONE, UNKNOWN_KIND, kind_of, trie_of};
 use crate::zerotrie_core::{LookUps, Trie, ZeroTrieWithOptions, by_kind, get};

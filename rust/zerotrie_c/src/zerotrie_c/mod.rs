@@ -3,10 +3,9 @@
 //!
 //! Each export is a call of the library, with the clauses of that call. `bindings/c/zerotrie.h`
 //! declares the exports, and says what a caller must keep to: nothing checks it.
+#![cfg_attr(rustfmt, rustfmt::skip)]
 #![deny(unused_must_use)]
 #![allow(dead_code, missing_docs, unused_imports, unused_variables)]
-
-use crate::rstd::prelude::*;
 
 mod answers;
 pub mod bounds;

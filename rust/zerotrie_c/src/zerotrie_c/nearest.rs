@@ -1,7 +1,6 @@
 // Made from crates/zerotrie_c/src/nearest.rt by rust/make: edit that.
 //! The keys that few edits make of a word, the nearest first.
 
-use crate::rstd::prelude::*;
 use crate::zerotrie_c::folding::{fold_copy, ignores_case};
 use crate::zerotrie_c::numbers::{
     BUFFER_TOO_SMALL, DONE, MALFORMED_SEARCH, OUT_OF_MEMORY, SEARCH_TOO_LONG, UNKNOWN_KIND,

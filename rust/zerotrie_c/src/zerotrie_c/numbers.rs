@@ -1,7 +1,6 @@
 // Made from crates/zerotrie_c/src/numbers.rt by rust/make: edit that.
 //! The numbers of kinds and of statuses, and what is found by a number.
 
-use crate::rstd::prelude::*;
 use crate::zerotrie_core::{TrieKind, TrieRef, ZeroTrieBuildError};
 
 /// Returns the kind with this number, or `None` if no kind has it.

@@ -1,7 +1,6 @@
 // Made from crates/zerotrie_c/src/parts.rt by rust/make: edit that.
 //! Listings, a part at a time.
 
-use crate::rstd::prelude::*;
 use crate::zerotrie_c::numbers::{BUFFER_TOO_SMALL, DONE, OUT_OF_MEMORY, UNKNOWN_KIND, trie_of};
 use crate::rstd::alloc::{AllocError, Global};
 use crate::zerotrie_core::{PairStream, Trie, TrieRef, ZeroTrieStream, by_kind};

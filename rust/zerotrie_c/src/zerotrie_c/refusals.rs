@@ -1,7 +1,6 @@
 // Made from crates/zerotrie_c/src/refusals.rt by rust/make: edit that.
 //! Which keys show why a build is refused.
 
-use crate::rstd::prelude::*;
 use crate::zerotrie_c::builds::{Pair, items_of};
 use crate::zerotrie_c::numbers::{DONE, OUT_OF_MEMORY, UNKNOWN_KIND, kind_of, status_of};
 use crate::rstd::alloc::{AllocError, Global};

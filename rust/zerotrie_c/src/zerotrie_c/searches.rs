@@ -1,7 +1,6 @@
 // Made from crates/zerotrie_c/src/searches.rt by rust/make: edit that.
 //! Searches, a part at a time.
 
-use crate::rstd::prelude::*;
 use crate::zerotrie_c::folding;
 use crate::zerotrie_c::folding::FoldedTexts;
 use crate::zerotrie_c::numbers::{

@@ -1,7 +1,6 @@
 // Made from crates/zerotrie_c/src/sorted.rt by rust/make: edit that.
 //! Listings in the order of bytes, a part at a time.
 
-use crate::rstd::prelude::*;
 use crate::zerotrie_c::numbers::{
     BUFFER_TOO_SMALL, DONE, OUT_OF_MEMORY, UNKNOWN_KIND, UNKNOWN_SEARCH, trie_of,
 };

@@ -1,7 +1,6 @@
 // Made from crates/zerotrie_c/src/tags.rt by rust/make: edit that.
 //! Tagged bytes, which begin with the number of a kind, and the validation of bytes.
 
-use crate::rstd::prelude::*;
 use crate::zerotrie_c::numbers::{BUFFER_TOO_SMALL, DONE, INVALID_TAG, NO_TAG, UNKNOWN_KIND, is_kind, trie_of};
 use crate::zerotrie_core::Trie;
 

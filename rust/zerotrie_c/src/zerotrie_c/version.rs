@@ -2,8 +2,6 @@
 //! The version of the library.
 
 // The version is 0.3.0.
-use crate::rstd::prelude::*;
-
 const MAJOR: u32 = 0;
 
 const MINOR: u32 = 3;

@@ -1,8 +1,7 @@
 // Made from crates/zerotrie_session/src/lib.rt by rust/make: edit that.
 //! Runs the commands of an input: builds tries from its pairs, and looks keys up in them.
+#![cfg_attr(rustfmt, rustfmt::skip)]
 #![deny(unused_must_use)]
-use crate::rstd::prelude::*;
-
 mod answer;
 mod command;
 mod noted;

@@ -1,7 +1,6 @@
 // Made from crates/zerotrie_session/src/noted.rt by rust/make: edit that.
 //! Readers and writers that remember whether a call failed or found the end.
 
-use crate::rstd::prelude::*;
 use crate::rstd::io;
 use crate::rstd::io::{Read, Write};
 

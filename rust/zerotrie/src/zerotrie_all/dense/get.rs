@@ -1,7 +1,6 @@
 // Made from crates/zerotrie/src/dense/get.rt by rust/make: edit that.
 //! Look-ups in a dense table.
 
-use crate::rstd::prelude::*;
 use crate::zerotrie_all::dense::laws::answer_is_entry;
 use crate::zerotrie_all::dense::table::ZeroAsciiDenseSparse2dTrieBorrowed;
 use crate::zerotrie_core::{Simple, laws, step, take_value};

@@ -1,7 +1,6 @@
 // Made from crates/zerotrie/src/dense/laws.rt by rust/make: edit that.
 //! Laws of dense tables, over the definitions alone, as contracts that a caller's proof can cite.
 
-use crate::rstd::prelude::*;
 use crate::zerotrie_core::laws;
 
 /// States that no 65,535 consecutive numbers have more of a row's values than its window.

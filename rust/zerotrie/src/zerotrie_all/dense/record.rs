@@ -8,6 +8,7 @@ use crate::zerotrie_ascii::ZeroTrieSimpleAscii;
 
 /// Bytes are not the record of a dense table.
 #[derive(Clone, PartialEq, Eq, Debug)]
+#[cfg_attr(not(feature = "__internal"), non_exhaustive)]
 pub enum RecordError {
     /// There are fewer bytes than the first ones say.
     Truncated,

@@ -17,7 +17,7 @@ use crate::zerotrie_base::store::TrieStore;
 use builder::{find, placed_keys};
 pub use cached_owned::PerfectByteHashMapCacheOwned;
 use remainders::remainder;
-use crate::rstd::alloc::{AllocError, Allocator, Global};
+use crate::rstd::alloc::{Allocator, Global};
 
 /// The greatest `q` for which [`f2`] turns nothing.
 const Q_FAST_MAX: u8 = 95;

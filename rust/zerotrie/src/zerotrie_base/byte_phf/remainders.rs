@@ -1,7 +1,6 @@
 // Made from crates/zerotrie_base/src/byte_phf/remainders.rt by rust/make: edit that.
 //! Buckets and places without division.
 
-use crate::rstd::prelude::*;
 use super::{f1, mixed, turned};
 
 /// The remainders of all bytes by a number, each computed once.

@@ -1,7 +1,6 @@
 // Made from crates/zerotrie_build/src/array/text.rt by rust/make: edit that.
 //! A text that is written from its last byte to its first.
 
-use crate::rstd::prelude::*;
 use crate::zerotrie_build::number::{BRANCH, VALUE, number_bytes};
 use crate::zerotrie_base::least_width;
 

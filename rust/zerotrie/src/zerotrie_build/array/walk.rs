@@ -4,7 +4,6 @@
 //! In front is the text of what lies under the first bytes of one key, and after it the targets of
 //! open branches, the siblings, of which the one that was set aside last comes first.
 
-use crate::rstd::prelude::*;
 use crate::zerotrie_build::array::text::{Sibling, Text, total};
 use crate::zerotrie_build::items::ByteSliceWithIndices;
 use crate::zerotrie_build::order::common_front_len;

@@ -1,7 +1,6 @@
 // Made from crates/zerotrie_core/src/simd/edge_search.rt by rust/make: edit that.
 //! Binary search for a byte among sorted edges.
 
-use crate::rstd::prelude::*;
 use crate::zerotrie_base::{ZeroTrieWithOptions, folded};
 
 /// Returns `half` if `middle` is not above `byte`, and 0 otherwise, without a jump.

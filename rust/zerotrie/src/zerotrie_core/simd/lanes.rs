@@ -1,7 +1,6 @@
 // Made from crates/zerotrie_core/src/simd/lanes.rt by rust/make: edit that.
 //! Compares many bytes at once.
 
-use crate::rstd::prelude::*;
 use crate::rstd::simd::prelude::*;
 
 /// Returns the first place of one of two bytes among sixteen; 64 if there is none.

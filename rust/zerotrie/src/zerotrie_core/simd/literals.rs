@@ -1,7 +1,6 @@
 // Made from crates/zerotrie_core/src/simd/literals.rt by rust/make: edit that.
 //! Compares runs of literals with a key, many bytes at a time.
 
-use crate::rstd::prelude::*;
 use crate::zerotrie_core::simd::lanes::{are_same_in_16, first_other_in_16};
 use crate::zerotrie_base::{ZeroTrieWithOptions, folded};
 

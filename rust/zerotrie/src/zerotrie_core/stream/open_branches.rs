@@ -9,6 +9,7 @@ use crate::rstd::alloc::{AllocError, Allocator};
 
 /// The open branches, the innermost beside the others. Only the innermost may have no target left.
 #[derive(Debug)]
+#[derive(Clone)]
 pub(in crate::made::zerotrie_core) struct OpenBranches<'a, A: Allocator> {
     top: OpenBranch<'a>,
     outer: Vec<OpenBranch<'a>, A>,

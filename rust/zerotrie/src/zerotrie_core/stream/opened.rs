@@ -1,7 +1,6 @@
 // Made from crates/zerotrie_core/src/stream/opened.rt by rust/make: edit that.
 //! One branch that a stream has opened.
 
-use crate::rstd::prelude::*;
 use crate::zerotrie_core::branch::Branch;
 use crate::zerotrie_core::byte_set::ByteSet;
 use crate::zerotrie_core::here::Here;

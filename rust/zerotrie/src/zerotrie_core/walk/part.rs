@@ -1,8 +1,6 @@
 // Made from crates/zerotrie_core/src/walk/part.rt by rust/make: edit that.
 //! A part of the bytes of a trie, and its place.
 
-use crate::rstd::prelude::*;
-
 /// A part of the bytes of a trie, and how it is reached.
 #[derive(Clone, Copy, Debug)]
 pub struct Part<'a> {

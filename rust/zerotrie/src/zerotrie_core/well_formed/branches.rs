@@ -1,7 +1,6 @@
 // Made from crates/zerotrie_core/src/well_formed/branches.rt by rust/make: edit that.
 //! Validation of a branch: its search table, the width of its offsets, and where its targets end.
 
-use crate::rstd::prelude::*;
 use crate::zerotrie_core::branch::Branch;
 use crate::zerotrie_core::here::Here;
 use crate::zerotrie_core::simd::lanes::rising_in_17;

@@ -3,7 +3,6 @@
 //!
 //! Many branches have the same table. Then the hashes of its edges are computed once.
 
-use crate::rstd::prelude::*;
 use crate::zerotrie_base::PerfectByteHashMap;
 
 fn is_perfect(table: &[u8], edges: &[u8]) -> bool {

@@ -1,7 +1,6 @@
 // Made from crates/zerotrie_search/src/glob/chars.rt by rust/make: edit that.
 //! Keys that a pattern of characters matches.
 
-use crate::rstd::prelude::*;
 use super::GlobError;
 use super::masks::{Masks, takers_of};
 use super::pattern::Text;

@@ -1,7 +1,6 @@
 // Made from crates/zerotrie_search/src/glob/masks.rt by rust/make: edit that.
 //! A pattern as masks: a bit for each item, and one for the end.
 
-use crate::rstd::prelude::*;
 use super::GlobError;
 use super::pattern::{Role, Text, cases, first_item};
 use crate::zerotrie_search::WORD_LIMIT;

@@ -1,8 +1,6 @@
 // Made from crates/zerotrie_search/src/glob/pattern.rt by rust/make: edit that.
 //! The items of a pattern, read one by one from its text.
 
-use crate::rstd::prelude::*;
-
 const ANY: u32 = b'?' as u32;
 
 const CARET: u32 = b'^' as u32;

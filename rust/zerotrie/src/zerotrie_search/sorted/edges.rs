@@ -1,7 +1,6 @@
 // Made from crates/zerotrie_search/src/sorted/edges.rt by rust/make: edit that.
 //! The edges of a place in the order of bytes.
 
-use crate::rstd::prelude::*;
 use crate::zerotrie_core::laws::steps_answer_stored_bytes;
 use crate::zerotrie_core::{CursorPlace, ZeroTrieBuilderOptions, ZeroTrieWithOptions, by_kind};
 

@@ -30,6 +30,7 @@ use crate::rstd::alloc::{AllocError, Allocator, Global};
 /// Once no accepted key begins with the bytes so far, it skips the pairs that begin with them and reads
 /// no node of them. It allocates for the longest key alone: the listing, and one state a byte, which
 /// keys that begin alike share.
+#[derive(Clone)]
 pub struct ZeroTrieSortedSearch<'a, 'p, T: Automaton, A: Allocator = Global> {
     pairs: ZeroTrieSorted<'a, 'p, A>,
     automaton: T,

@@ -1,4 +1,5 @@
 // Made from crates/zerotrie_tests/src/tests.rt by rust/make: edit that.
+#![cfg_attr(rustfmt, rustfmt::skip)]
 #![deny(unused_must_use)]
 use crate::rstd::prelude::*;
 

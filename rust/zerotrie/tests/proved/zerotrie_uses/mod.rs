@@ -4,6 +4,7 @@
 //! Copy a function, the words of `specs/` that its contract cites, and the folder of its name in
 //! `proofs/`. They use `zerotrie` alone: the definitions of `Rattle.zerotrie.specs` and the lemmas of
 //! `Rattle.zerotrie.proofs`.
+#![cfg_attr(rustfmt, rustfmt::skip)]
 #![deny(unused_must_use)]
 use crate::rstd::prelude::*;
 
