@@ -98,6 +98,14 @@ impl MemoryDisk {
         held_after(self.steps.as_slice(), path)
     }
 
+    /// Puts a file at a path, whatever its name.
+    pub fn put(&mut self, path: &str, bytes: &[u8]) -> io::Result<()> {
+        let name = String::from_str(self.alloc, path)?;
+        let content = Vec::from_slice(self.alloc, bytes)?;
+        self.steps.push(Step::Wrote(name, content))?;
+        Ok(())
+    }
+
     /// Removes a file, if that can be done.
     fn try_remove(&mut self, path: &str) -> io::Result<()>
         ensures done { OnOk result (IsRemoval path.now self.old.steps.items self.new.steps.items) }

@@ -22,7 +22,7 @@ fn disk_with(alloc: Global, name: &str) -> io::Result<MemoryDisk> {
 fn ends_so(alloc: Global, name: &str, wanted: Result<(), ErrorKind>) -> io::Result<bool> {
     let mut store = Store::new(disk_with(alloc, name)?);
     let ended = match store.replace(alloc, name, b"new") {
-        Ok(()) => Ok(()),
+        Ok(_) => Ok(()),
         Err(error) => Err(error.kind()),
     };
     let held: &[u8] = if ended.is_ok() { b"new" } else { b"old" };
@@ -40,6 +40,20 @@ fn files_of_a_user_stay(rt: HostRuntime) -> Result<(), Fail> {
     assert!(rt; ends_so(alloc, "full", Err(ErrorKind::StorageFull))?);
     assert!(rt; ends_so(alloc, "held", Err(ErrorKind::StorageFull))?);
     assert!(rt; ends_so(alloc, "locked", Err(ErrorKind::PermissionDenied))?);
+    Ok(())
+}
+
+#[test]
+fn a_file_of_a_killed_build_is_removed(rt: HostRuntime) -> Result<(), Fail> {
+    let alloc = rt.alloc();
+    let mut store = Store::new({
+        let mut disk = disk_with(alloc, "a")?;
+        disk.put(".a.zerotrie-7-7", b"ztri")?;
+        disk
+    });
+    assert!(rt; store.replace(alloc, "a", b"new")? == 1);
+    assert!(rt; store.disk().held(".a.zerotrie-7-7") == None);
+    assert!(rt; are_planted(alloc, store.disk(), "a")?);
     Ok(())
 }
 

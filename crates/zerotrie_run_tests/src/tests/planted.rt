@@ -3,7 +3,6 @@
 use crate::memory::MemoryDisk;
 use std::alloc::Global;
 use std::io;
-use zerotrie_files::Disk;
 
 /// What comes before and after the name of the file that is replaced. Some of these names are such
 /// as the program gives, for the first numbers that the disk in memory draws.
@@ -18,25 +17,28 @@ pub const AROUND: [(&str, &str); 8] = [
     (".", ""),
 ];
 
+/// What they hold.
+const HELD: &[u8] = b"of a user";
+
 /// Returns the path that a new file gets beside these.
 pub fn free_path(alloc: Global, name: &str) -> io::Result<String> {
     Ok(format!(in alloc; ".{name}.zerotrie-1-2")?)
 }
 
-/// Makes empty files of all these names.
+/// Makes files of all these names.
 pub fn plant(alloc: Global, disk: &mut MemoryDisk, name: &str) -> io::Result<()> {
     for (before, after) in AROUND {
         let path = format!(in alloc; "{before}{name}{after}")?;
-        disk.make(path.as_str())?;
+        disk.put(path.as_str(), HELD)?;
     }
     Ok(())
 }
 
-/// Returns whether all of them are there and empty, and no file is left at the path of a new one.
+/// Returns whether all of them are there as they were, and no file is left at the path of a new one.
 pub fn are_planted(alloc: Global, disk: &MemoryDisk, name: &str) -> io::Result<bool> {
     for (before, after) in AROUND {
         let path = format!(in alloc; "{before}{name}{after}")?;
-        if disk.held(path.as_str()) != Some(b"") {
+        if disk.held(path.as_str()) != Some(HELD) {
             return Ok(false);
         }
     }
