@@ -519,13 +519,13 @@ zerotrie_status zerotrie_get_many(zerotrie_kind_number kind, const uint8_t *byte
                                   size_t values_len);
 
 /**
- * Returns whether the text begins with a key, the empty one too, and then sets *key_len and *value
+ * Returns whether the text begins with a key, the empty one too, and then sets *len and *value
  * to the length and the value of the longest one; otherwise both stay. The length is at most
  * `text_len`, whatever the bytes are.
  */
 ZEROTRIE_ANSWERS
-bool zerotrie_longest_prefix(zerotrie_kind_number kind, const uint8_t *bytes, size_t len,
-                             const uint8_t *text, size_t text_len, size_t *key_len, size_t *value);
+bool zerotrie_longest_prefix(zerotrie_kind_number kind, const uint8_t *bytes, size_t bytes_len,
+                             const uint8_t *text, size_t text_len, size_t *len, size_t *value);
 
 /**
  * Returns whether the text begins with a key after which it ends or continues with one of the
@@ -546,8 +546,8 @@ bool zerotrie_longest_prefix_at(zerotrie_kind_number kind, const uint8_t *bytes,
  */
 ZEROTRIE_NONNULL
 size_t zerotrie_common_prefixes(zerotrie_kind_number kind, const uint8_t *bytes, size_t len,
-                                const uint8_t *text, size_t text_len, size_t *lens,
-                                size_t lens_room, size_t *values, size_t values_room);
+                                const uint8_t *text, size_t text_len, size_t *lens, size_t lens_len,
+                                size_t *values, size_t values_len);
 
 /** Returns the cursor before all keys, of a trie of any kind. The calls below get the same bytes
  * and the same kind each time. */
@@ -742,8 +742,8 @@ zerotrie_kind zerotrie_auto_kind(const zerotrie_pair *pairs, size_t count);
 /** Writes the kind's number and then the bytes to `out`, so that the bytes say their kind.
  * ZEROTRIE_DONE and ZEROTRIE_BUFFER_TOO_SMALL as in a build. */
 ZEROTRIE_ANSWERS
-zerotrie_status zerotrie_tagged(zerotrie_kind_number kind, const uint8_t *bytes, size_t len,
-                                uint8_t *out, size_t out_len, size_t *tagged_len);
+zerotrie_status zerotrie_tagged(zerotrie_kind_number kind, const uint8_t *bytes, size_t bytes_len,
+                                uint8_t *out, size_t out_len, size_t *len);
 
 /** Writes a sealed file to `out`, which knows when it is damaged: ZEROTRIE_SEAL_LEN bytes, with the
  * kind, the length and a checksum, and then the bytes. zerotrie_open() reads it. The bytes are not
@@ -771,7 +771,7 @@ zerotrie_status zerotrie_seal(zerotrie_kind_number kind, const uint8_t *bytes, s
  * not validated, and the result is unspecified. Does not allocate.
  */
 ZEROTRIE_ANSWERS
-zerotrie_status zerotrie_dense_get(const uint8_t *record, size_t len, const uint8_t *prefix,
+zerotrie_status zerotrie_dense_get(const uint8_t *bytes, size_t len, const uint8_t *prefix,
                                    size_t prefix_len, const uint8_t *suffix, size_t suffix_len,
                                    size_t *value);
 
@@ -796,10 +796,10 @@ zerotrie_status zerotrie_dense_get(const uint8_t *record, size_t len, const uint
  */
 ZEROTRIE_ANSWERS
 zerotrie_status zerotrie_dense_build(const uint8_t *prefixes, size_t prefixes_len,
-                                     const size_t *prefix_ends, size_t prefix_count,
+                                     const size_t *prefix_ends, size_t prefix_ends_len,
                                      const uint8_t *suffixes, size_t suffixes_len,
-                                     const size_t *suffix_ends, size_t suffix_count,
-                                     const size_t *values, size_t value_count, uint8_t delimiter,
+                                     const size_t *suffix_ends, size_t suffix_ends_len,
+                                     const size_t *values, size_t values_len, uint8_t delimiter,
                                      uint8_t *out, size_t out_len, size_t *len);
 /** @} */
 
@@ -945,10 +945,10 @@ zerotrie_status zerotrie_sorted_some(zerotrie_kind_number kind, const uint8_t *b
  *                                   ZEROTRIE_EXCLUDED, "b", 1, key, sizeof key, &key_len, &value);
  *
  * To list backwards, call again with the key that was found as an excluded upper bound; it may not
- * be in `key`.
+ * be in `out`.
  *
- * ZEROTRIE_DONE: the key is the first *key_len bytes of `key`, whose rest stays, and *value is its
- * value. ZEROTRIE_BUFFER_TOO_SMALL: both are set, and `key` stays; call again with a room of
+ * ZEROTRIE_DONE: the key is the first *key_len bytes of `out`, whose rest stays, and *value is its
+ * value. ZEROTRIE_BUFFER_TOO_SMALL: both are set, and `out` stays; call again with a room of
  * *key_len bytes. Otherwise nothing is written: ZEROTRIE_NO_ENTRY, if no key is there;
  * ZEROTRIE_UNKNOWN_SEARCH, of a number that no bound has; ZEROTRIE_UNKNOWN_KIND or
  * ZEROTRIE_OUT_OF_MEMORY.
@@ -960,7 +960,7 @@ ZEROTRIE_ANSWERS
 zerotrie_status zerotrie_last_within(zerotrie_kind_number kind, const uint8_t *bytes, size_t len,
                                      zerotrie_bound from_bound, const uint8_t *from,
                                      size_t from_len, zerotrie_bound to_bound, const uint8_t *to,
-                                     size_t to_len, uint8_t *key, size_t key_room, size_t *key_len,
+                                     size_t to_len, uint8_t *out, size_t out_len, size_t *key_len,
                                      size_t *value);
 
 /**
@@ -992,8 +992,8 @@ zerotrie_status zerotrie_diff_some(const zerotrie_trie *first, const zerotrie_tr
 /**
  * Finds the first key, in the order of zerotrie_list(), that has this value.
  *
- * ZEROTRIE_DONE: it is the first *key_len bytes of `key`, and the rest stays.
- * ZEROTRIE_BUFFER_TOO_SMALL: it has *key_len bytes, and `key` stays; call again with a room of as
+ * ZEROTRIE_DONE: it is the first *key_len bytes of `out`, and the rest stays.
+ * ZEROTRIE_BUFFER_TOO_SMALL: it has *key_len bytes, and `out` stays; call again with a room of as
  * many. Otherwise nothing is written: ZEROTRIE_NO_ENTRY, if no key has the value;
  * ZEROTRIE_UNKNOWN_KIND or ZEROTRIE_OUT_OF_MEMORY.
  *
@@ -1002,8 +1002,7 @@ zerotrie_status zerotrie_diff_some(const zerotrie_trie *first, const zerotrie_tr
  */
 ZEROTRIE_ANSWERS
 zerotrie_status zerotrie_first_key_of(zerotrie_kind_number kind, const uint8_t *bytes, size_t len,
-                                      size_t value, uint8_t *key, size_t key_room,
-                                      size_t *key_len);
+                                      size_t value, uint8_t *out, size_t out_len, size_t *key_len);
 
 /**
  * Makes the table by which zerotrie_reverse_key() finds the first key of a value: a place for each
@@ -1032,7 +1031,7 @@ zerotrie_status zerotrie_reverse_places(zerotrie_kind_number kind, const uint8_t
 ZEROTRIE_ANSWERS
 zerotrie_status zerotrie_reverse_key(zerotrie_kind_number kind, const uint8_t *bytes, size_t len,
                                      const uint32_t *places, size_t places_len, size_t value,
-                                     uint8_t *key, size_t key_room, size_t *key_len);
+                                     uint8_t *out, size_t out_len, size_t *key_len);
 /** @} */
 
 /** @name Indexes

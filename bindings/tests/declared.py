@@ -1,11 +1,13 @@
-"""Compares what is declared for C and Python with what the library exports: names, and each
-parameter and result by its size, and that of what it points to. Arguments: the folder bindings, and
-the shared library. Without a library, nothing is asked of it: what is declared is compared with the
-sources alone, which needs no proof.
+"""Makes what is declared for C and Python of the functions that the library exports: their prototypes in
+zerotrie.h, and the table of _library.py. With --write in front it writes them, and without it, or with --check,
+it compares.
+It also compares the numbers and texts of the languages. Arguments: the folder bindings, and if there is
+one the shared library, whose exports are compared too.
+
+The comment before a prototype is written by hand, but for that of a new export, which is the one of
+its source and gets its place there: after the export before it.
 """
 
-import ast
-import ctypes
 import pathlib
 import re
 import subprocess
@@ -14,44 +16,48 @@ import sys
 sys.dont_write_bytecode = True
 import pages  # noqa: E402
 
-here, library = pathlib.Path(sys.argv[1]), sys.argv[2] if len(sys.argv) > 2 else None
-NUMBERS = {
-    "u8": 1,
-    "u16": 2,
-    "u32": 4,
-    "u64": 8,
-    "usize": 8,
-    "bool": "bool",
-    "Bytes": 16,
-    "Cursor": 24,
-    "CursorPlace": 24,
-    "Pair": 24,
-    "Search": 56,
-    "Source": 24,
-    "Changed": 32,
+WRITES = "--write" in sys.argv
+arguments = [it for it in sys.argv[1:] if it not in ("--write", "--check")]
+here, library = pathlib.Path(arguments[0]), (arguments[1:] or [None])[0]
+HEADER, TABLE = here / "c/zerotrie.h", here / "python/zerotrie/_library.py"
+#: Types of the sources, with those of C and of ctypes.
+TYPES = {
+    "u8": ("uint8_t", "c_uint8"),
+    "u16": ("uint16_t", "c_uint16"),
+    "u32": ("uint32_t", "c_uint32"),
+    "u64": ("uint64_t", "c_uint64"),
+    "usize": ("size_t", "c_size_t"),
+    "bool": ("bool", "c_bool"),
+    "CursorPlace": ("zerotrie_cursor", "CursorPlace"),
+    "Pair": ("zerotrie_pair", "Pair"),
+    "Search": ("zerotrie_search", "RawSearch"),
+    "Source": ("zerotrie_trie", "RawTrie"),
+    "Changed": ("zerotrie_change", "RawChange"),
 }
-C_NUMBERS = {
-    "uint8_t": 1,
-    "uint16_t": 2,
-    "uint32_t": 4,
-    "uint64_t": 8,
-    "size_t": 8,
-    "bool": "bool",
-    "void": None,
-    "zerotrie_kind": 4,
-    "zerotrie_kind_number": 4,
-    "zerotrie_status": 4,
-    "zerotrie_fault": 4,
-    "zerotrie_bound": 4,
-    "zerotrie_search_by": 4,
-    "zerotrie_bytes": 16,
-    "zerotrie_cursor": 24,
-    "zerotrie_pair": 24,
-    "zerotrie_search": 56,
-    "zerotrie_selection": 4,
-    "zerotrie_rule": 4,
-    "zerotrie_trie": 24,
-    "zerotrie_change": 32,
+#: What C calls the u32 of a parameter of this name.
+NUMBERS = {
+    "kind": "zerotrie_kind_number",
+    "selection": "zerotrie_selection",
+    "rule": "zerotrie_rule",
+    "by": "zerotrie_search_by",
+    "from_bound": "zerotrie_bound",
+    "to_bound": "zerotrie_bound",
+}
+#: What C calls the u32 that these return. The others return a status.
+ANSWERS = {
+    "zerotrie_version": "uint32_t",
+    "zerotrie_first_fault": "zerotrie_fault",
+    "zerotrie_auto_kind": "zerotrie_kind",
+}
+#: The lengths of these slices have names of their own.
+WHOLE = {"bytes": "len", "tagged": "len", "file": "len", "index": "len", "pairs": "count", "tries": "count"}
+#: The types that the table of Python has a name for.
+SHORT = {
+    "c_char_p, c_size_t": "*TEXT",
+    "c_void_p, c_size_t": "*BYTES",
+    "POINTER(c_size_t), c_size_t": "*SIZES",
+    "POINTER(c_size_t)": "SIZE",
+    "POINTER(Pair), c_size_t": "*RAW_PAIRS",
 }
 #: the statuses whose texts are those of the library's errors, in the order of docs/CALLING.md
 OF_ERRORS = {
@@ -61,81 +67,119 @@ OF_ERRORS = {
 }
 
 
-def parts(text):
-    return [part.strip() for part in re.sub(r"\s+", " ", text).split(",") if part.strip()]
+class Export:
+    """An export as it is written in Rattle: an allocator is nothing, and a slice is a pointer and a
+    length.
+    """
+
+    def __init__(self, comment, name, taken, answer):
+        plain = re.sub(r"<[^>]*>|'\w+ ", "", " ".join(taken.split()))
+        self.comment, self.name, self.answer = comment, name, answer
+        #: The parameters, each with its name, its type, and whether it is mutable, a slice, a reference.
+        self.parameters = []
+        for part in filter(None, re.split(r", ?", plain)):
+            word, kind = part.split(": ")
+            if kind != "Global":
+                lent, mutable, bracket, of = re.fullmatch(r"(&?)(mut )?(\[?)(\w+)\]?", kind).groups()
+                self.parameters.append((word, of, bool(mutable), bool(bracket), bool(lent)))
+
+    def takes_slice(self):
+        return any(is_slice for _, _, _, is_slice, _ in self.parameters)
+
+    def in_c(self):
+        """The prototype, in lines of at most 100 columns."""
+        words = {word for word, *_ in self.parameters}
+        taken = []
+        for word, of, mutable, is_slice, lent in self.parameters:
+            kind = TYPES[of][0] if lent or of != "u32" else NUMBERS.get(word, "uint32_t")
+            if not lent:
+                taken.append(f"{kind} {word}")
+                continue
+            taken.append(f"{'' if mutable else 'const '}{kind} *{word}")
+            if is_slice:
+                length = WHOLE.get(word, f"{word}_len")
+                taken.append(f"size_t {f'{word}_len' if length in words else length}")
+        answer = TYPES[self.answer][0] if self.answer else "void"
+        if self.answer == "u32":
+            answer = ANSWERS.get(self.name, "zerotrie_status")
+        front = f"{answer} {self.name}("
+        lines = [front]
+        for place, part in enumerate(taken or ["void"]):
+            part += ");" if place >= len(taken) - 1 else ","
+            if len(lines[-1]) + len(part) + (place > 0) > 100:
+                lines.append(" " * len(front) + part)
+            else:
+                lines[-1] += f" {part}" if place else part
+        return "\n".join(lines)
+
+    def in_python(self):
+        """The row of the table."""
+        taken = []
+        for word, of, mutable, is_slice, lent in self.parameters:
+            kind = TYPES[of][1]
+            if of == "u8" and is_slice:
+                # what is written, and tries, may be a buffer of any type
+                kind = "c_void_p" if mutable or WHOLE.get(word) == "len" else "c_char_p"
+            elif lent:
+                kind = f"POINTER({kind})"
+            kind = f"{kind}, c_size_t" if is_slice else kind
+            taken.append(SHORT.get(kind, kind))
+        answer = TYPES[self.answer][1] if self.answer else "None"
+        row = f'    "{self.name}": ({answer}, [{", ".join(taken)}]),'
+        if len(row) <= 100:
+            return row
+        lines = [f'    "{self.name}": (', f"        {answer},", "        ["]
+        for place, part in enumerate(taken):
+            part += "]" if place == len(taken) - 1 else ","
+            if len(lines[-1]) + len(part) + 1 > 99:
+                lines.append(f"         {part}")
+            else:
+                lines[-1] += part if lines[-1].endswith("[") else f" {part}"
+        return "\n".join([*lines[:-1], f"{lines[-1]}),"])
 
 
 def exported():
-    """The exports as they are written in Rattle: a slice is a pointer and a length, and an
-    allocator is nothing.
-    """
+    """The exports in the order of the sources, each after the one that is before it in its file."""
     found = {}
-    for file in (here / "../crates/zerotrie_c/src").glob("*.rt"):
-        for name, taken, answer in re.findall(
+    for file in sorted((here / "../crates/zerotrie_c/src").glob("*.rt")):
+        before = None
+        for comment, name, taken, answer in re.findall(
+            r"((?:^///[^\n]*\n)*)"
             r'#\[unsafe\(no_mangle\)\]\npub extern "C" fn (\w+)'
             r"(?:<[^>]*>)?\((.*?)\)(?: -> (\w+))?\n",
             file.read_text(),
-            re.S,
+            re.S | re.M,
         ):
-            sizes = []
-            for part in parts(re.sub(r"<[^>]*>|'\w+ ", "", taken)):
-                kind = part.split(": ")[1]
-                if kind == "Global":
-                    continue
-                slice_of = re.fullmatch(r"&(?:mut )?\[(\w+)\]", kind)
-                lent = re.fullmatch(r"&(?:mut )?(\w+)", kind)
-                if slice_of:
-                    sizes += [("to", NUMBERS[slice_of[1]]), 8]
-                else:
-                    sizes.append(("to", NUMBERS[lent[1]]) if lent else NUMBERS[kind])
-            found[name] = (sizes, NUMBERS[answer] if answer else None)
+            found[name] = (Export(comment, name, taken, answer), before)
+            before = name
     return found
 
 
-def in_c():
-    found = {}
-    text = re.sub(r"/\*.*?\*/", "", (here / "c/zerotrie.h").read_text(), flags=re.S)
-    for answer, name, taken in re.findall(r"^(\w+) (zerotrie_\w+)\(([^)]*)\);", text, re.M):
-        sizes = []
-        for part in parts("" if taken == "void" else taken):
-            kind, star = re.fullmatch(r"(?:const )?(\w+) (\*?)\w+", part).groups()
-            sizes.append(("to", C_NUMBERS[kind]) if star else C_NUMBERS[kind])
-        found[name] = (sizes, C_NUMBERS[answer])
-    return found
+def declared_in_c(text):
+    """The names that the header declares, in its order, and where."""
+    return {it[1]: it for it in re.finditer(r"^\w+ (zerotrie_\w+)\([^){]*\);", text, re.M)}
 
 
-def declared_in_python():
-    """The table of the functions. Its module runs up to that table, since what follows loads the
-    library.
-    """
-    for path in sorted((here / "python/zerotrie").glob("*.py")):
-        module = ast.parse(path.read_text(), str(path))
-        ends = [
-            place
-            for place, line in enumerate(module.body, 1)
-            if ast.unparse(line).split(" = ")[0].split(":")[0] == "_DECLARED"
-        ]
-        if ends:
-            module.body = [line for line in module.body[: ends[0]] if not getattr(line, "level", 0)]
-            names = {"__name__": "zerotrie", "__file__": str(path), "__path__": [str(path.parent)]}
-            exec(compile(module, str(path), "exec"), names)
-            return names["_DECLARED"]
-    raise SystemExit("python: no table _DECLARED")
+def header_made(text):
+    """The header with the prototypes of the exports."""
+    for name in declared_in_c(text).keys() - want.keys():
+        raise SystemExit(f"zerotrie.h: {name} is no export")
+    for name, (one, before) in want.items():
+        found = declared_in_c(text).get(name)
+        if found:
+            text = text[: found.start()] + one.in_c() + text[found.end() :]
+        else:
+            at = declared_in_c(text)[before].end() if before else text.index("\n#ifdef __cplusplus\n}")
+            lines = "".join(f" *{line[3:]}\n" for line in one.comment.splitlines())
+            text = f"{text[:at]}\n\n/**\n{lines} */\nZEROTRIE_ANSWERS\n{one.in_c()}{text[at:]}"
+    return text
 
 
-def in_python():
-    def size(kind):
-        if kind is ctypes.c_bool:
-            return "bool"
-        if kind in (ctypes.c_char_p, ctypes.c_void_p):
-            return ("to", 1)
-        to = getattr(kind, "_type_", None)
-        return ("to", ctypes.sizeof(to)) if isinstance(to, type) else ctypes.sizeof(kind)
-
-    return {
-        name: ([size(kind) for kind in taken], answer and size(answer))
-        for name, (answer, taken) in declared_in_python().items()
-    }
+def table_made(text, names):
+    """The module with the table of the exports."""
+    front, rest = text.split("_DECLARED: dict[str, tuple[Any, list[Any]]] = {\n")
+    rows = "\n".join(want[name][0].in_python() for name in names)
+    return f"{front}_DECLARED: dict[str, tuple[Any, list[Any]]] = {{\n{rows}\n}}\n" + rest.split("\n}\n", 1)[1]
 
 
 def numbers_of(header, enum):
@@ -227,17 +271,18 @@ if library:
     assert sorted(line.split()[2] for line in symbols.splitlines() if " T " in line) == sorted(
         want
     ), symbols
-for language, have in [("c", in_c()), ("python", in_python())]:
-    for name in sorted(set(want) | set(have)):
-        assert want.get(name) == have.get(name), (language, name, want.get(name), have.get(name))
+header = header_made(HEADER.read_text())
+for file, made in [(HEADER, header), (TABLE, table_made(TABLE.read_text(), declared_in_c(header)))]:
+    if WRITES:
+        file.write_text(made)
+    elif file.read_text() != made:
+        sys.exit(f"{file} is not made of the exports: run bindings/tests/declared.py --write bindings")
+
+
 def each_takes_null():
     """null.c calls each export that takes a pointer and a length."""
     called = re.findall(r"(?:CALL|MAKE)\((\w+),", (here / "tests/null.c").read_text())
-    wanted = [
-        name
-        for name, (sizes, _) in want.items()
-        if any(isinstance(one, tuple) and after == 8 for one, after in zip(sizes, sizes[1:]))
-    ]
+    wanted = [name for name, (one, _) in want.items() if one.takes_slice()]
     assert wanted and not set(wanted) - set(called), set(wanted) - set(called)
 
 

@@ -75,42 +75,44 @@ SIZES = [POINTER(c_size_t), c_size_t]
 SIZE = POINTER(c_size_t)
 RAW_PAIRS = [POINTER(Pair), c_size_t]
 
-#: What each function returns and takes. The test compares this with zerotrie.h.
+#: What each function returns and takes. bindings/tests/declared.py makes it of the exports.
 _DECLARED: dict[str, tuple[Any, list[Any]]] = {
     "zerotrie_version": (c_uint32, []),
     "zerotrie_is_well_formed": (c_bool, [c_uint32, *BYTES]),
-    "zerotrie_first_fault": (c_uint32, [c_uint32, *BYTES, SIZE]),
     "zerotrie_get": (c_bool, [c_uint32, *BYTES, *TEXT, SIZE]),
     "zerotrie_get_many": (c_uint32, [c_uint32, *BYTES, *TEXT, *SIZES, c_size_t, *SIZES]),
     "zerotrie_longest_prefix": (c_bool, [c_uint32, *BYTES, *TEXT, SIZE, SIZE]),
     "zerotrie_longest_prefix_at": (c_bool, [c_uint32, *BYTES, *TEXT, *TEXT, SIZE, SIZE]),
     "zerotrie_common_prefixes": (c_size_t, [c_uint32, *BYTES, *TEXT, *SIZES, *SIZES]),
-    "zerotrie_cursor_new": (CursorPlace, BYTES),
+    "zerotrie_cursor_new": (CursorPlace, [*BYTES]),
     "zerotrie_with_prefix": (CursorPlace, [c_uint32, *BYTES, *TEXT]),
     "zerotrie_cursor_step": (
-        c_bool, [c_uint32, *BYTES, POINTER(CursorPlace), c_uint8, POINTER(c_uint8)]),
+        c_bool,
+        [c_uint32, *BYTES, POINTER(CursorPlace), c_uint8, POINTER(c_uint8)]),
     "zerotrie_cursor_take_value": (c_bool, [*BYTES, POINTER(CursorPlace), SIZE]),
     "zerotrie_cursor_probe": (
         c_bool,
         [c_uint32, *BYTES, POINTER(CursorPlace), c_size_t, POINTER(c_uint8), POINTER(c_uint16)]),
     "zerotrie_tagged_kind": (c_uint32, [*BYTES, POINTER(c_uint32)]),
     "zerotrie_open": (c_uint32, [*BYTES, POINTER(c_uint32), SIZE, SIZE]),
+    "zerotrie_first_fault": (c_uint32, [c_uint32, *BYTES, SIZE]),
     "zerotrie_build": (c_uint32, [c_uint32, *RAW_PAIRS, *BYTES, SIZE]),
     "zerotrie_build_sorted": (c_uint32, [c_uint32, *RAW_PAIRS, *BYTES, SIZE]),
     "zerotrie_build_many": (c_uint32, [c_uint32, *TEXT, *SIZES, *SIZES, *BYTES, SIZE]),
     "zerotrie_combine": (
-        c_uint32, [c_uint32, c_uint32, POINTER(RawTrie), c_size_t, c_uint32, *BYTES, SIZE]),
+        c_uint32,
+        [c_uint32, c_uint32, POINTER(RawTrie), c_size_t, c_uint32, *BYTES, SIZE]),
     "zerotrie_build_bound": (c_size_t, [c_size_t, c_size_t]),
     "zerotrie_encoded_len": (c_uint32, [c_uint32, *RAW_PAIRS, SIZE]),
     "zerotrie_why_refused": (c_uint32, [c_uint32, *RAW_PAIRS, SIZE, SIZE]),
-    "zerotrie_auto_kind": (c_uint32, RAW_PAIRS),
+    "zerotrie_auto_kind": (c_uint32, [*RAW_PAIRS]),
     "zerotrie_tagged": (c_uint32, [c_uint32, *BYTES, *BYTES, SIZE]),
     "zerotrie_seal": (c_uint32, [c_uint32, *BYTES, *BYTES, SIZE]),
     "zerotrie_dense_get": (c_uint32, [*BYTES, *TEXT, *TEXT, SIZE]),
     "zerotrie_dense_build": (
-        c_uint32, [*TEXT, *SIZES, *TEXT, *SIZES, *SIZES, c_uint8, *BYTES, SIZE]),
-    "zerotrie_list": (
-        c_uint32, [c_uint32, *BYTES, *TEXT, *BYTES, *SIZES, *SIZES, SIZE, SIZE]),
+        c_uint32,
+        [*TEXT, *SIZES, *TEXT, *SIZES, *SIZES, c_uint8, *BYTES, SIZE]),
+    "zerotrie_list": (c_uint32, [c_uint32, *BYTES, *TEXT, *BYTES, *SIZES, *SIZES, SIZE, SIZE]),
     "zerotrie_list_some": (
         c_uint32,
         [c_uint32, *BYTES, *TEXT, c_bool, *TEXT, *BYTES, *SIZES, *SIZES, SIZE, SIZE]),
@@ -119,30 +121,30 @@ _DECLARED: dict[str, tuple[Any, list[Any]]] = {
         [c_uint32, *BYTES, *TEXT, POINTER(RawSearch), c_bool, *TEXT, *BYTES, *SIZES, *SIZES, SIZE,
          SIZE]),
     "zerotrie_search_check": (c_uint32, [POINTER(RawSearch)]),
+    "zerotrie_nearest": (
+        c_uint32,
+        [c_uint32, *BYTES, c_uint32, *TEXT, c_uint32, *BYTES, *SIZES, *SIZES, *SIZES, SIZE, SIZE]),
     "zerotrie_sorted_some": (
         c_uint32,
         [c_uint32, *BYTES, c_uint32, *TEXT, c_uint32, *TEXT, *BYTES, *SIZES, *SIZES, SIZE, SIZE]),
     "zerotrie_last_within": (
         c_uint32,
         [c_uint32, *BYTES, c_uint32, *TEXT, c_uint32, *TEXT, *BYTES, SIZE, SIZE]),
-    "zerotrie_nearest": (
-        c_uint32,
-        [c_uint32, *BYTES, c_uint32, *TEXT, c_uint32, *BYTES, *SIZES, *SIZES, *SIZES, SIZE, SIZE]),
     "zerotrie_diff_some": (
         c_uint32,
         [POINTER(RawTrie), POINTER(RawTrie), c_uint32, *TEXT, c_uint32, *TEXT, *BYTES,
          POINTER(RawChange), c_size_t, SIZE, SIZE]),
+    "zerotrie_first_key_of": (c_uint32, [c_uint32, *BYTES, c_size_t, *BYTES, SIZE]),
     "zerotrie_reverse_places": (c_uint32, [c_uint32, *BYTES, POINTER(c_uint32), c_size_t, SIZE]),
     "zerotrie_reverse_key": (
         c_uint32,
         [c_uint32, *BYTES, POINTER(c_uint32), c_size_t, c_size_t, *BYTES, SIZE]),
-    "zerotrie_first_key_of": (c_uint32, [c_uint32, *BYTES, c_size_t, *BYTES, SIZE]),
     "zerotrie_index_get": (c_bool, [*BYTES, *TEXT, SIZE]),
-    "zerotrie_index_is_valid": (c_bool, BYTES),
-    "zerotrie_open_index": (c_uint32, [*BYTES, SIZE, SIZE]),
-    "zerotrie_seal_index": (c_uint32, [*BYTES, *BYTES, SIZE]),
+    "zerotrie_index_is_valid": (c_bool, [*BYTES]),
     "zerotrie_index_build": (c_uint32, [c_uint64, *RAW_PAIRS, *BYTES, SIZE]),
     "zerotrie_index_build_many": (c_uint32, [c_uint64, *TEXT, *SIZES, *SIZES, *BYTES, SIZE]),
+    "zerotrie_open_index": (c_uint32, [*BYTES, SIZE, SIZE]),
+    "zerotrie_seal_index": (c_uint32, [*BYTES, *BYTES, SIZE]),
 }
 
 #: The functions that take less time than to let other threads run. A cursor is whole after each.
