@@ -36,7 +36,7 @@ def shown():
     (project / "Cargo.toml").write_text(MANIFEST.format(RUST / "zerotrie"))
     blocks = [(page, it) for page in PAGES for it in re.findall(r"^```rs\n(.*?)^```", page.read_text(), re.M | re.S)]
     for number, (_, block) in enumerate(blocks):
-        (project / f"src/bin/page{number}.rs").write_text(MAIN.format(block))
+        (project / f"src/bin/page{number}.rs").write_text(block if "fn main()" in block else MAIN.format(block))
     for number, (page, block) in enumerate(blocks):
         compare(page, block, run("cargo", "run", "--quiet", "--bin", f"page{number}", where=project))
     return len(blocks)
