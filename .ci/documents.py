@@ -40,7 +40,7 @@ LIMITS = {
     "docs/ARCHITECTURE.md": 1290,
     "docs/CALLING.md": 2150,
     "docs/DECISIONS.md": 1860,
-    "docs/DIFFERENCES.md": 1310,
+    "docs/DIFFERENCES.md": 1315,
     "docs/FORMAT.md": 4290,
     "docs/MODEL.md": 1640,
     "docs/README.md": 190,
