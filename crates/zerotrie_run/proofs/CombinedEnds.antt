@@ -1,4 +1,4 @@
--- How a run ends in which no trie file is made of others.
+-- How a run ends in which no file is made of pairs, or of other files.
 use Rattle.std.proofs.Common.{◌≡◌, ℕ, List, Option, Some, None, Bool, true, false, Result, Ok, Err, Vec, Global, refl, inl, inr}
 use Rattle.std.specs.Prelude.{unwrap_or}
 use Rattle.std.specs.declared.alloc.AllocError.{AllocError}
@@ -6,12 +6,14 @@ use Rattle.zerotrie_queries.specs.declared.file.OpenError.TheVariants as unopene
 use Rattle.zerotrie_making.specs.declared.error.MakeError.{MakeError}
 use Rattle.zerotrie_making.specs.declared.error.MakeError.TheVariants as made
 use Rattle.zerotrie_run.specs.Combined.{EndsCombine, FailsCombine, RunsCombine, combine_refusal}
-use Rattle.zerotrie_run.specs.Runs.{World}
+use Rattle.zerotrie_run.specs.Runs.{World, EndsBuild, FailsBuild, RunsBuild, build_refusal}
 use Rattle.zerotrie_run.specs.Statuses.{failure, made_refusal}
 use Rattle.zerotrie_run.specs.Told.{ended}
+use Rattle.zerotrie_run.specs.declared.build.BuildError.{BuildError}
 use Rattle.zerotrie_run.specs.declared.build.BuildError.TheVariants as build
 use Rattle.zerotrie_run.specs.declared.combine.CombineError.{CombineError}
 use Rattle.zerotrie_run.specs.declared.combine.CombineError.TheVariants.{Unopened, NoTrie, NoValue, NotBuilt}
+use Rattle.zerotrie_run.specs.declared.command.Build.{Build}
 use Rattle.zerotrie_run.specs.declared.command.Combine.{Combine}
 use Rattle.zerotrie_run.specs.declared.status.Status.{Status}
 use Rattle.zerotrie_run.specs.declared.status.Status.TheVariants.{Done, Absent, Refused, Taken, BadUsage, BadInput, BadKeys, Unread, Unwritten, OutOfMemory, Closed}
@@ -97,3 +99,39 @@ end_by read write closed (Some Closed) (Ok text) ends = elim ends [ ]
 pub combine_end : (read write closed : Bool) (e : CombineError) (status result : Status) (r : Result (Vec ℕ Global) AllocError) → status ≡ unwrap_or (combine_refusal e) (failure read write closed) → result ≡ ended status r
     → IsEnd read write closed (combine_refusal e) result
 combine_end read write closed e status result r is ends = rw (ends, is) (end_by read write closed (combine_refusal e) r (ends_of e))
+
+build_ends_of : (e : BuildError) → Ends (build_refusal e)
+build_ends_of (build.Unread e) = failed
+build_ends_of (build.NotMade e) = made_ends e
+build_ends_of (build.Unwritten e) = failed
+build_ends_of build.Taken = taken
+build_ends_of (build.Unfound e) = failed
+
+build_fails : (b : Build) (i : Option (List ℕ)) (before after : World) (read write closed : Bool) → FailsBuild b i before after → RunsBuild b i before after (failure read write closed)
+build_fails b i before after true write closed h = h
+build_fails b i before after false false closed h = h
+build_fails b i before after false true true h = h
+build_fails b i before after false true false h = h
+
+build_ends_by : (b : Build) (i : Option (List ℕ)) (before after : World) (read write closed : Bool) (refusal : Option Status) (r : Result (Vec ℕ Global) AllocError) → Ends refusal
+    → EndsBuild b i before after refusal → RunsBuild b i before after (ended (unwrap_or refusal (failure read write closed)) r)
+build_ends_by b i before after read write closed None (Ok text) failed h = build_fails b i before after read write closed h
+build_ends_by b i before after read write closed None (Err x) failed h = h
+build_ends_by b i before after read write closed (Some Refused) (Ok text) refused h = h
+build_ends_by b i before after read write closed (Some Refused) (Err x) refused h = inl h.5
+build_ends_by b i before after read write closed (Some Taken) (Ok text) taken h = h
+build_ends_by b i before after read write closed (Some Taken) (Err x) taken h = inl h.2
+build_ends_by b i before after read write closed (Some BadInput) (Ok text) input h = h
+build_ends_by b i before after read write closed (Some BadInput) (Err x) input h = inl h.5
+build_ends_by b i before after read write closed (Some Done) r ends h = elim ends [ ]
+build_ends_by b i before after read write closed (Some Absent) r ends h = elim ends [ ]
+build_ends_by b i before after read write closed (Some BadUsage) r ends h = elim ends [ ]
+build_ends_by b i before after read write closed (Some BadKeys) r ends h = elim ends [ ]
+build_ends_by b i before after read write closed (Some Unread) r ends h = elim ends [ ]
+build_ends_by b i before after read write closed (Some Unwritten) r ends h = elim ends [ ]
+build_ends_by b i before after read write closed (Some OutOfMemory) r ends h = elim ends [ ]
+build_ends_by b i before after read write closed (Some Closed) r ends h = elim ends [ ]
+
+pub build_ends : (b : Build) (i : Option (List ℕ)) (before after : World) (read write closed : Bool) (e : BuildError) (status result : Status) (r : Result (Vec ℕ Global) AllocError)
+    → EndsBuild b i before after (build_refusal e) → status ≡ unwrap_or (build_refusal e) (failure read write closed) → result ≡ ended status r → RunsBuild b i before after result
+build_ends b i before after read write closed e status result r h is ends = rw (ends, is) (build_ends_by b i before after read write closed (build_refusal e) r (build_ends_of e) h)

@@ -4,7 +4,7 @@ use Rattle.zerotrie_queries.specs.Finders.{TrieFinds}
 use Rattle.zerotrie_queries.proofs.ChoiceLemmas.{on_err_so}
 use Rattle.zerotrie_run.specs.declared.command.Keys.TheVariants.{Lines}
 use Rattle.zerotrie_run.proofs.AskLemmas.{keys_of_more, part_of_more, by_table}
-use Rattle.zerotrie_run.proofs.LineLemmas.{lines_first, lines_stops}
+use Rattle.zerotrie_run.proofs.LineLemmas.{none_begun}
 use Rattle.zerotrie_run.proofs.ask.answer_by_table.Goals as goal
 
 pub returns-clause-answered : goal.returns-clause-answered
@@ -32,4 +32,4 @@ returns-in-Err-clause-part g c =
     let input = g.R.Read.remaining c.args.input.now.inner in
     let old = writer_contents g.W.Write.contents c.args.output.now.inner in
     let Has = TrieFinds c.args.trie.now.kind c.args.trie.now.bytes.now in
-    lines_stops c.args.query Has input input _ old old _ (lines_first c.args.query Has input old)
+    none_begun c.args.query Has input old

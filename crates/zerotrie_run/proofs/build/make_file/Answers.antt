@@ -20,11 +20,13 @@ returns-in-Ok-write_place-clause-done g c = λ ok.
       c.in-Ok.ensures.read,
       made,
       c.in-Ok-make.ensures.ok,
-      left.1.0,
-      Appends-trans old mid new _ (told_left c.args.build.summary (target_name c.args.build.to) left.1.0) (subst (Appends old mid)
-          (made_is c.is_told-is_told.result c.as_slice-in-Ok-write_place.result.now c.in_ok-done.done.items c.target_name-place.result.now _ made.keys c.len.result (length made.file.items) c.as_slice-in-Ok-write_place.ensures.value c.in_ok-done.ensures c.target_name-place.ensures len
-          ∙ ap (λ told. told_made told (target_name c.args.build.to) made.keys (length made.file.items)) c.is_told-is_told.ensures)
-          told.1) left.1.1,
+      (
+        left.1.0,
+        Appends-trans old mid new _ (told_left c.args.build.summary (target_name c.args.build.to) left.1.0) (subst (Appends old mid)
+            (made_is c.is_told-is_told.result c.as_slice-in-Ok-write_place.result.now c.in_ok-done.done.items c.target_name-place.result.now _ made.keys c.len.result (length made.file.items) c.as_slice-in-Ok-write_place.ensures.value c.in_ok-done.ensures c.target_name-place.ensures len
+            ∙ ap (λ told. told_made told (target_name c.args.build.to) made.keys (length made.file.items)) c.is_told-is_told.ensures)
+            told.1) left.1.1,
+      ),
     )
 
 pub returns-in-Ok-write_place-clause-tells : goal.returns-in-Ok-write_place-clause-tells

@@ -57,9 +57,11 @@ returns-in-Ok-clause-done g c = λ ok.
       c.in_ok-made.made,
       c.in_ok-made.several,
       (map (λ bytes. bytes.items) c.as_slice.result.now, read, c.in_ok-made.ensures.ok),
-      left.1.0,
-      Appends-trans old mid (contents c.tell_removed.new.messages.inner) _ (told_left c.args.combine.summary (target_name c.args.combine.to) left.1.0)
-          (subst (λ text. Appends old mid text) (c.as_slice-in-Ok.ensures.value ∙ c.in_ok-done.ensures) told.1) left.1.1,
+      (
+        left.1.0,
+        Appends-trans old mid (contents c.tell_removed.new.messages.inner) _ (told_left c.args.combine.summary (target_name c.args.combine.to) left.1.0)
+            (subst (λ text. Appends old mid text) (c.as_slice-in-Ok.ensures.value ∙ c.in_ok-done.ensures) told.1) left.1.1,
+      ),
     )
 
 pub returns-clause-err : goal.returns-clause-err

@@ -1,10 +1,22 @@
 use Rattle.std.proofs.Common.{◌||◌, ap, refl}
 use Rattle.std.specs.Io.Buffered.{writer_contents}
-use Rattle.zerotrie_run.specs.Runs.{ask_refusal, build_refusal}
+use Rattle.zerotrie_run.specs.Runs.{ask_refusal, build_refusal, world}
 use Rattle.zerotrie_run.proofs.AskLemmas.{is_not}
+use Rattle.zerotrie_run.proofs.CombinedEnds.{build_ends}
 use Rattle.zerotrie_run.proofs.ToldLemmas.{build_told, ask_told, ask_ends, ask_end, leaves, not_open, end_unread, end_unwritten, end_closed, end_not_closed, end_pipe_closed}
 use Rattle.zerotrie_run.proofs.NoteLemmas.{was_refused}
 use Rattle.zerotrie_run.proofs.program.run.Goals as goal
+
+pub returns-in-Err-clause-runs : goal.returns-in-Err-clause-runs
+returns-in-Err-clause-runs g c =
+    let printed = writer_contents g.W.Write.contents in
+    let story = g.D.Disk.story in
+    let read = c.build.new.input.failed || c.build.new.files.unread in
+    let write = c.build.new.output.failed || c.build.new.files.unwritten in
+    let closed = c.build.new.output.closed || c.build.new.files.closed in
+    let ends = build_ends c.in-Build.plan (g.R.Read.remaining c.args.input.now.inner) (world (story c.args.files.now.disk) (printed c.args.output.now.inner)) (world (story c.build.new.files.disk) (printed c.build.new.output.inner))
+    read write closed c.in-Err.error c.end_of-status.result c.end.result c.build_text.result c.in-Err.ensures.err (rw c.refusal.ensures at c.end_of-status.ensures) c.end.ensures.status in
+    rw c.in-Build.is ends
 
 pub returns-in-Err-clause-told : goal.returns-in-Err-clause-told
 returns-in-Err-clause-told g c = λ ok.
