@@ -223,12 +223,21 @@ function* beginnings(cursor, text) {
     }
 }
 
-/** Returns the numbers of a branch's edges in the order of their bytes; undefined if that is theirs. */
-function inOrder(bytes, { edges, count }) {
+/** Returns the numbers of a branch's edges in the order of their bytes; undefined if that is theirs. The first target whose
+ *  offsets fall is left out, with all that follow, as in the order of the trie. So no byte is listed twice. */
+function inOrder(cursor, branch) {
+    const { bytes } = cursor;
+    const { edges, count, len } = branch;
     let number = 1;
     while (number < count && bytes[edges + number - 1] < bytes[edges + number]) number++;
     if (number >= count) return undefined;
-    return Array.from({ length: count }, (_, place) => place).sort((one, other) => bytes[edges + one] - bytes[edges + other]);
+    const numbers = [];
+    for (let end = 0; numbers.length < count; numbers.push(numbers.length)) {
+        const from = end;
+        end = cursor.endOf(branch, numbers.length);
+        if (from > end || end > len) break;
+    }
+    return numbers.sort((one, other) => bytes[edges + one] - bytes[edges + other]);
 }
 
 /** The pairs of a trie one after another: those below a prefix, in the order of bytes if `isSorted`, from a key on if
@@ -263,8 +272,9 @@ class Listing {
         const branch = cursor.branch();
         const byte = branch ? undefined : cursor.takeByte();
         if (branch) {
-            const order = this.isSorted ? inOrder(cursor.bytes, branch) : undefined;
-            this.open.push({ branch, order, next: 0, keyLen: key.length, isBelow: this.isBelow });
+            const order = this.isSorted ? inOrder(cursor, branch) : undefined;
+            const count = order?.length ?? branch.count;
+            this.open.push({ branch, order, count, next: 0, keyLen: key.length, isBelow: this.isBelow });
         }
         if (byte === undefined) cursor.at = cursor.end;
         else this.add(byte);
@@ -276,7 +286,7 @@ class Listing {
         for (; open.length > 0; open.pop()) {
             const last = open[open.length - 1];
             const place = last.next++;
-            const edge = place < last.branch.count ? cursor.enter(last.branch, last.order?.[place] ?? place) : undefined;
+            const edge = place < last.count ? cursor.enter(last.branch, last.order?.[place] ?? place) : undefined;
             if (edge !== undefined) {
                 this.key.length = last.keyLen;
                 this.isBelow = last.isBelow;

@@ -206,6 +206,11 @@ function malformed() {
         for (const key of ["a", "b", "c", "ab"]) assert.equal(trie.get(key), undefined);
         assert.deepEqual([...trie], []);
     }
+    // a branch of a, c and b in twenty of its kind, where both a and b would have all that is left
+    let nested = [0x81];
+    for (let depth = 0; depth < 20; depth++) nested = [...hex("C3 616362"), nested.length, 0, ...nested];
+    const trie = new ZeroTrie(Uint8Array.from(nested), Kind.PERFECT_HASH);
+    assert.deepEqual([[...trie], trie.size], [[["a".repeat(20), 1]], 1]);
 }
 
 /** A listing reads no further than it is asked, and a mistake in the middle ends that part alone. */
