@@ -1,6 +1,6 @@
 """Compares the page of each language with what is public in it, by the sources alone.
 
-The pages are C.md, CPP.md, RUST.md, PYTHON.md and JAVASCRIPT.md in docs. Each public function, class and method is
+The pages are C.md, CPP.md, PYTHON.md and JAVASCRIPT.md in docs. Each public function, class and method is
 named in code on its page, a method in a section whose heading names its class. Each name on a page
 that is called, as `name(`, or named with its class, as `Class::name`, is public.
 """
