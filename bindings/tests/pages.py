@@ -10,7 +10,7 @@ import re
 
 #: What the pages call beside the library.
 OTHERS = set(
-    "BigInt Uint8Array arrayBuffer bool bytes fetch find_package free hash help len malloc map mmap "
+    "BigInt Uint8Array arrayBuffer bool bytes fetch find_package free hash help len main malloc map mmap "
     "memoryview readFileSync realloc rename reversed target_link_libraries what zerotrie_c".split()
 )
 
