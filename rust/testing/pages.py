@@ -10,6 +10,7 @@ TOP, ROOM = (pathlib.Path(it).resolve() for it in sys.argv[1:3])
 RUST = TOP / "rust"
 PAGES = [TOP / "README.md", TOP / "docs/RUST.md"]
 MANIFEST = '[package]\nname = "pages"\nversion = "0.0.0"\nedition = "2024"\n[dependencies]\nzerotrie = {{ path = "{}" }}\n[workspace]\n'
+BUILD = '[build-dependencies]\nzerotrie = {{ path = "{}" }}\n[workspace]'
 MAIN = "fn main() -> Result<(), Box<dyn std::error::Error>> {{\n{}Ok(())\n}}\n"
 
 
@@ -42,6 +43,18 @@ def shown():
     return len(blocks)
 
 
+def table():
+    """Runs the program whose files a page shows, each below its name."""
+    files = dict(re.findall(r"^```rust\n// (\S+)\n(.*?)^```", PAGES[1].read_text(), re.M | re.S))
+    project = ROOM / "files"
+    (project / "src").mkdir(parents=True)
+    (project / "Cargo.toml").write_text(MANIFEST.format(RUST / "zerotrie").replace("[workspace]", BUILD.format(RUST / "zerotrie")))
+    for name, text in files.items():
+        (project / name).write_text(text)
+    compare(PAGES[1], files["src/main.rs"], run("cargo", "run", "--quiet", where=project))
+    return len(files)
+
+
 def examples():
     """Runs the programs of the package: the one over words twice, as the second time the file is there."""
     programs = sorted((RUST / "zerotrie/examples").glob("*.rs"))
@@ -63,4 +76,4 @@ def program():
 
 
 program()
-print(f"{shown()} blocks of pages, {examples()} examples and the program for lines print what they show")
+print(f"{shown() + table()} blocks of pages, {examples()} examples and the program for lines print what they show")
