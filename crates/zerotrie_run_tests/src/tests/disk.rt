@@ -8,7 +8,7 @@ use std::os::fd::AsRawFd;
 use std::os::unix::fs::{PermissionsExt, symlink};
 use std::process::Abort;
 use std::test::Fail;
-use zerotrie_files::{Disk, Store, SystemDisk};
+use zerotrie_files::{Store, SystemDisk};
 
 /// Files of a user beside one called `planted`, some of them of a form that the program gives.
 const PLANTED: [&str; 6] = [
@@ -171,14 +171,6 @@ fn a_file_that_is_written_is_spared(rt: HostRuntime) -> Result<(), Fail> {
     other.unlock()?;
     assert!(rt; removes(&rt, "busy")? == 1);
     assert!(rt; count_of(&rt, ".", ".busy")? == 0);
-    Ok(())
-}
-
-#[test]
-fn new_files_have_other_numbers(rt: HostRuntime) -> Result<(), Fail> {
-    let disk = disk_of(&rt);
-    // two of them are equal once in four billion times
-    assert!(rt; disk.draw(0) != disk.draw(0) || disk.draw(0) != disk.draw(0));
     Ok(())
 }
 
