@@ -8,7 +8,7 @@ use std::os::fd::AsRawFd;
 use std::os::unix::fs::{PermissionsExt, symlink};
 use std::process::Abort;
 use std::test::Fail;
-use zerotrie_files::{Store, SystemDisk};
+use zerotrie_files::{Disk, Store, SystemDisk};
 
 /// Files of a user beside one called `planted`, some of them of a form that the program gives.
 const PLANTED: [&str; 6] = [
