@@ -91,8 +91,23 @@ impl Random {
     }
 }
 
+/// Branches, one inside another, with the edges a, a and b. The targets of the first and the last are all bytes behind the offsets, so
+/// few bytes have many ways.
+fn nested(random: &mut Random) -> Vec<u8> {
+    let mut bytes = random.pick(&[[0xFF; 20].as_slice(), b"\x81".as_slice(), b"x\x81".as_slice()]).to_vec();
+    for _ in 0..random.below(39) {
+        let mut branch = vec![0xC3, b'a', b'a', b'b', bytes.len() as u8, 0];
+        branch.extend(&bytes);
+        bytes = branch;
+    }
+    bytes
+}
+
 /// A text, or bytes that were one before a change, or none at all.
 fn bytes_for(random: &mut Random, kind: Kind, pairs: &BTreeMap<Vec<u8>, usize>) -> Vec<u8> {
+    if random.below(16) == 0 {
+        return nested(random);
+    }
     if random.below(4) == 0 {
         return (0..random.below(30)).map(|_| random.byte()).collect();
     }

@@ -119,9 +119,19 @@ int main(void) {
         assert run("./read", cwd=room) == "bar 2\nbazzoo 3\n"
 
 
+# where cargo takes what the package's features need, without a network
+REGISTRY = """[source.crates-io]
+replace-with = "here"
+[source.here]
+directory = "/usr/share/cargo/registry"
+"""
+
+
 def crate():
     room, body = folder("rust"), fragments()["rs"]
     run("tar", "-xzf", f"{DIST}/zerotrie-{VERSION}.crate", "-C", room)
+    (room / ".cargo").mkdir()
+    (room / ".cargo/config.toml").write_text(REGISTRY)
     run("cargo", "new", "--quiet", "--vcs", "none", room / "shown")
     run("cargo", "add", "--quiet", "--offline", "--path", f"../zerotrie-{VERSION}", cwd=room / "shown")
     (room / "shown/src/main.rs").write_text(source("rs", body))
@@ -129,7 +139,7 @@ def crate():
 
 
 def crate_tests():
-    run("cargo", "test", "--quiet", "--offline", "--features", "__internal", cwd=HOME / f"rust/zerotrie-{VERSION}")
+    run("cargo", "test", "--quiet", "--offline", "--features", "__internal,serde,json", cwd=HOME / f"rust/zerotrie-{VERSION}")
 
 
 def by_cargo(place, which):

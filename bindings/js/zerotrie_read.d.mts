@@ -58,7 +58,8 @@ export class ZeroTrieError extends Error {
  * they are in a SharedArrayBuffer, and its `kind`.
  *
  * On any bytes every call returns, and a listing has at most as many pairs as there are bytes. If the bytes are not a
- * trie of the kind, the result is unspecified: nothing here validates them, but for the checksum of a sealed file.
+ * trie of the kind, the result is unspecified. Only `validate()` reads them for that; `open()` compares the checksum of a
+ * sealed file.
  */
 export class ZeroTrie implements ReadonlyMap<string, Value> {
     /** A trie without a header. Throws a ZeroTrieError `UNKNOWN_KIND`. */
@@ -118,6 +119,10 @@ export class ZeroTrie implements ReadonlyMap<string, Value> {
     fuzzy(word: string, edits?: number, how?: Fuzzy): Listing<[string, Value]>;
     fuzzy(word: Bytes, edits?: number, how?: Fuzzy): Listing<[Uint8Array, Value]>;
 
+    /** Returns whether the bytes are a trie of the kind, by every rule of FORMAT.md, as the library's `is_well_formed` does.
+     *  It takes about a third of the time of listing `entries()`, and little memory, also on bytes that were made up. */
+    validate(): boolean;
+
     /** Calls a function with the value and the key of each pair of `entries()`, and with the trie. */
     forEach(call: (value: Value, key: string, trie: ZeroTrie) => void, self?: unknown): void;
 
@@ -132,7 +137,7 @@ export class ZeroTrie implements ReadonlyMap<string, Value> {
  * A read-only map from byte strings to values for exact look-ups alone, read in place. It has no order and no prefixes.
  *
  * A key is given as for a `ZeroTrie`. On any bytes every call returns. If they are not an index, the result is
- * unspecified: nothing here validates them, but for the checksum of a sealed file.
+ * unspecified. Only `validate()` reads them for that; `open()` compares the checksum of a sealed file.
  */
 export class ZeroIndex {
     /** An index without a header. */
@@ -149,4 +154,7 @@ export class ZeroIndex {
 
     /** Returns whether there is such a key. */
     has(key: string | Bytes): boolean;
+
+    /** Returns whether the bytes are an index, by every rule of FORMAT.md. It computes the hash of each key. */
+    validate(): boolean;
 }

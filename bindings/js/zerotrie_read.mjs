@@ -393,6 +393,107 @@ class Edits {
     }
 }
 
+/* --- Validation ------------------------------------------------------------------------------------------------- */
+
+/** Whether numbers rise. */
+const rises = (numbers) => numbers.every((number, at) => at === 0 || numbers[at - 1] < number);
+
+/** Returns the place of an edge among `count`, by the parameters of a hashed table. */
+function placeOf(edge, p, qs, count) {
+    if (count === 256) return edge;
+    const q = qs[(p === 0 ? edge : edge ^ p ^ (edge >> p % 8)) % count];
+    let turned = edge ^ q;
+    for (let turn = 95; turn < q; turn++) turned = (turned ^ (turned << 1) ^ (turned >> 1)) & 0xff;
+    return turned % count;
+}
+
+/** Whether the edges of a branch are those of the kind: ASCII or any bytes, and ascending or hashed. */
+function hasTable({ bytes, hashes, inAnyCase }, { count, edges }) {
+    const table = bytes.subarray(edges, edges + count);
+    if (!hashes) return table[count - 1] < 0x80 && rises(inAnyCase ? table.map(fold) : table);
+    if (count < 16) return rises(table);
+    const [p, ...qs] = bytes.subarray(edges - count - 1, edges);
+    return table.every((edge, place) => placeOf(edge, p, qs, count) === place);
+}
+
+/** Whether bytes are a trie of a kind, by the rules of FORMAT.md. */
+class Validation {
+    constructor(bytes, kind) {
+        this.cursor = new Cursor(bytes, kind);
+        this.mostWidth = kind === Kind.EXTENDED_CAPACITY ? 8 : 4;
+        // The branches whose targets are left. A branch is closed when its longest target is entered, which comes last. Each
+        // other one has less than half of its bytes, so few branches are open at once.
+        this.open = [];
+    }
+
+    isValid() {
+        let before; // the form of the node before, if there is one
+        do {
+            if (!this.isPart(before)) return false;
+            before = 0;
+        } while (this.nextTarget());
+        return true;
+    }
+
+    /** Whether the nodes up to the next branch, or up to the end here, may follow each other. */
+    isPart(before) {
+        const { cursor } = this;
+        for (let last = before; ; ) {
+            const form = cursor.form();
+            if (form === undefined) return last === undefined || last === VALUE;
+            if (form > SPAN) return this.openBranch();
+            if (form >= VALUE && (form === last || !this.take(form))) return false;
+            if (form < VALUE) cursor.at++;
+            last = form;
+        }
+    }
+
+    /** Takes a value or a span, and returns whether it is one. */
+    take(form) {
+        const { cursor } = this;
+        if (form === VALUE) return cursor.takeValue() !== undefined;
+        cursor.enterSpan();
+        const { at, run } = cursor;
+        cursor.at += run;
+        cursor.run = 0;
+        return run > 0 && cursor.bytes.subarray(at, at + run).every((byte) => byte >= 0x80);
+    }
+
+    /** Whether offsets of this width, and no shorter ones, reach the end of the targets. */
+    isLeast({ width, len }) {
+        return width <= this.mostWidth && len < 256 ** width && (width === 1 || len >= 256 ** (width - 1));
+    }
+
+    /** Opens the branch here, and returns whether it is valid but for its targets, and none of these is empty. */
+    openBranch() {
+        const { cursor, open } = this;
+        const branch = cursor.branch();
+        if (branch === undefined || !this.isLeast(branch) || !hasTable(cursor, branch)) return false;
+        let longest = 0;
+        let most = 0;
+        for (let number = 0, from = 0; number < branch.count; number++) {
+            const end = cursor.endOf(branch, number);
+            if (end <= from || end > branch.len) return false;
+            if (end - from > most) [longest, most] = [number, end - from];
+            from = end;
+        }
+        open.push({ branch, longest, next: 0 });
+        return true;
+    }
+
+    /** Moves to the next target. Returns whether there is one. */
+    nextTarget() {
+        const { cursor, open } = this;
+        if (open.length === 0) return false;
+        const last = open[open.length - 1];
+        if (last.next === last.longest) last.next++;
+        const isLast = last.next === last.branch.count;
+        if (isLast) open.pop();
+        cursor.enter(last.branch, isLast ? last.longest : last.next++);
+        return true;
+    }
+}
+
 /* --- Files ------------------------------------------------------------------------------------------------------ */
 
 const KINDS = Object.values(Kind);
@@ -563,6 +664,10 @@ export class ZeroTrie {
         yield* this.#listed(word, [], { isSorted: true, search });
     }
 
+    validate() {
+        return new Validation(this.#bytes, this.#kind).isValid();
+    }
+
     forEach(call, self) {
         for (const [key, value] of this) call.call(self, value, key, this);
     }
@@ -586,8 +691,11 @@ const PI = 0x243f6a8885a308d3n;
 const GOLDEN = 0x9e3779b97f4a7c15n;
 /** The length of an index but for its buckets: the seed, the number of buckets, and the last entry. */
 const FRAME_LEN = 24;
+const MOST_IN_BUCKET = 16;
 /** The metadata of the length of a key are 0: its first byte is less. */
 const KEY_LEN_END = 0x40;
+
+const isSame = (one, other) => one.length === other.length && one.every((byte, at) => byte === other[at]);
 
 /** Returns the two halves of a product of 128 bits, joined by exclusive or. */
 function folded(one, other) {
@@ -645,37 +753,80 @@ export class ZeroIndex {
         return this.get(key) !== undefined;
     }
 
+    /** Returns how many buckets there are; 0 if the bytes have no room for their entries. */
+    #count() {
+        const words = this.#words;
+        if (words.byteLength < FRAME_LEN || words.getUint32(12, true) !== 0) return 0;
+        const count = words.getUint32(8, true);
+        return FRAME_LEN + 8 * count > words.byteLength ? 0 : count;
+    }
+
+    /** Returns where the records of a bucket are. */
+    #bucket(count, number) {
+        const entry = 16 + 8 * number;
+        const pool = FRAME_LEN + 8 * count;
+        return { from: pool + this.#words.getUint32(entry + 4, true), to: pool + this.#words.getUint32(entry + 12, true) };
+    }
+
     /** Returns where the records of a key's bucket are; an empty part if the key is not marked there. */
     #bucketOf(key) {
         const words = this.#words;
         const none = { from: 0, to: 0 };
-        if (words.byteLength < FRAME_LEN || words.getUint32(12, true) !== 0) return none;
-        const count = words.getUint32(8, true);
-        const pool = FRAME_LEN + 8 * count;
-        if (count === 0 || pool > words.byteLength) return none;
+        const count = this.#count();
+        if (count === 0) return none;
         const hash = hashOf(words.getBigUint64(0, true), key);
-        const entry = 16 + 8 * Number(((hash >> 32n) * BigInt(count)) >> 32n);
-        const isMarked = (words.getUint32(entry, true) >>> Number(hash & 31n)) & 1;
-        if (!isMarked) return none;
-        return { from: pool + words.getUint32(entry + 4, true), to: pool + words.getUint32(entry + 12, true) };
+        const number = Number(((hash >> 32n) * BigInt(count)) >> 32n);
+        const isMarked = (words.getUint32(16 + 8 * number, true) >>> Number(hash & 31n)) & 1;
+        return isMarked ? this.#bucket(count, number) : none;
     }
 
-    /** Returns the value of a key in the records of a part of the bytes. */
-    #valueIn({ from, to }, key) {
+    /** Yields the key of each record in a part of the bytes, and where its value and the record end, up to what is none. */
+    *#records({ from, to }) {
         const cursor = new Cursor(this.#bytes);
-        if (to > cursor.end) return undefined;
+        if (to > cursor.end) return;
         cursor.at = from;
         cursor.end = to;
         while (cursor.at < to && this.#bytes[cursor.at] < KEY_LEN_END) {
             const at = cursor.read(0x20);
-            if (at === 0 || cursor.number > to - at - 8) return undefined;
+            if (at === 0 || cursor.number > to - at - 8) return;
             cursor.at = at + 8 + cursor.number;
-            const found = this.#bytes.subarray(at + 8, cursor.at);
-            if (found.length === key.length && found.every((byte, place) => byte === key[place])) {
+            yield { key: this.#bytes.subarray(at + 8, cursor.at), at, end: cursor.at };
+        }
+    }
+
+    /** Returns the value of a key in the records of a part of the bytes. */
+    #valueIn(part, key) {
+        for (const { key: found, at } of this.#records(part)) {
+            if (isSame(found, key)) {
                 const value = this.#words.getBigUint64(at, true);
                 return value <= Number.MAX_SAFE_INTEGER ? Number(value) : value;
             }
         }
         return undefined;
+    }
+
+    /** Whether the records of a bucket are few, and have different keys that belong there. */
+    #isBucket(part) {
+        const keys = [];
+        let { from } = part;
+        for (const { key, end } of this.#records(part)) {
+            const own = this.#bucketOf(key);
+            const isThere = own.from === part.from && own.to === part.to;
+            if (!isThere || keys.length === MOST_IN_BUCKET || keys.some((other) => isSame(other, key))) return false;
+            keys.push(key);
+            from = end;
+        }
+        return from === part.to;
+    }
+
+    validate() {
+        const count = this.#count();
+        let end = FRAME_LEN + 8 * count;
+        for (let number = 0; number < count; number++) {
+            const part = this.#bucket(count, number);
+            if (part.from !== end || part.to < end || !this.#isBucket(part)) return false;
+            end = part.to;
+        }
+        return count > 0 && end === this.#bytes.length;
     }
 }

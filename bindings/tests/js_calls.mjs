@@ -213,6 +213,32 @@ function malformed() {
     assert.deepEqual([[...trie], trie.size], [[["a".repeat(20), 1]], 1]);
 }
 
+/** A trie of the keys a, ba, bba and so on, or of b, ab, aab. So many branches are nested, each in the longest target of another. */
+function nested(depth, inFirst) {
+    const fronts = [];
+    for (let level = 0, len = 1; level < depth; level++) {
+        const width = len + 1 < 256 ? 1 : len + 1 < 65536 ? 2 : 3;
+        const head = width === 1 ? [0xc2] : [0xdd + 2 * width, 0x62];
+        const offset = [16, 8, 0].slice(3 - width).map((bits) => ((inFirst ? len : 1) >> bits) & 0xff);
+        fronts.push([...head, 0x61, 0x62, ...offset, ...(inFirst ? [] : [0x81])]);
+        len += head.length + 2 + width + 1;
+    }
+    return Uint8Array.from([...fronts.reverse().flat(), 0x80, ...Array(inFirst ? depth : 0).fill(0x81)]);
+}
+
+/** Deep branches are validated without a recursion. The library's answers are compared elsewhere. */
+function validated() {
+    for (const inFirst of [false, true]) {
+        assert.deepEqual([...new ZeroTrie(nested(3, inFirst), Kind.SIMPLE_ASCII)].map(([key]) => key), inFirst ? ["aaa", "aab", "ab", "b"] : ["a", "ba", "bba", "bbb"]);
+        const deep = nested(30_000, inFirst);
+        for (const kind of Object.values(Kind)) assert.ok(new ZeroTrie(deep, kind).validate());
+        deep[deep.lastIndexOf(0x80)] = 0x7f;
+        for (const kind of Object.values(Kind)) assert.ok(!new ZeroTrie(deep, kind).validate());
+    }
+    const empty = new Uint8Array();
+    assert.ok(new ZeroTrie(empty, Kind.PERFECT_HASH).validate() && !new ZeroIndex(empty).validate());
+}
+
 /** A listing reads no further than it is asked, and a mistake in the middle ends that part alone. */
 function listings() {
     const trie = new ZeroTrie(hex("C3 616263 0102 81 9F 83"), Kind.SIMPLE_ASCII);
@@ -326,6 +352,6 @@ function declared() {
     assert.deepEqual([...new Set(used)].sort(), codes.sort());
 }
 
-const tests = [examplesOfTheFormat, values, keys, keysThatAreNoText, files, indexes, malformed, listings, sorted, declared];
+const tests = [examplesOfTheFormat, values, keys, keysThatAreNoText, files, indexes, malformed, validated, listings, sorted, declared];
 for (const test of tests) test();
 console.log("js: calls, errors and declarations are right");

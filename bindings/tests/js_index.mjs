@@ -15,6 +15,7 @@ while (hasMore()) {
     const index = new ZeroIndex(takeBytes());
     counts.indexes++;
     counts.valid += isIndex;
+    same(index.validate() === isIndex, "validate", index.bytes);
     for (let left = Number(takeNumber()); left > 0; left--) {
         const key = takeBytes();
         const got = index.get(key);

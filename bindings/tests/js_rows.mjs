@@ -172,6 +172,8 @@ while (hasMore()) {
     const trie = new ZeroTrie(takeBytes(), kind);
     counts.tries++;
     counts.answered += isAnswered;
+    // the library has answers exactly of what is well-formed
+    if (isValid) same(trie.validate() === isAnswered, "validate", trie.kind, trie.bytes);
     const texts = Number(takeNumber());
     for (let text = 0; text < texts; text++) {
         (isAnswered ? compareText : tryText)(trie, takeBytes());

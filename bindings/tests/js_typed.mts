@@ -14,6 +14,7 @@ const map: ReadonlyMap<string, Value> = trie;
 const sorted: [string, Value][] = [...trie.range("a", "b"), ...trie.entries("a"), ...map, ...trie.fuzzy("a", 1, { swaps: true })];
 const between: Uint8Array[] = [...trie.range(bytes)].map(([key]) => key);
 const size: number = trie.size;
+const isValid: boolean = trie.validate() && new ZeroIndex(bytes).validate();
 trie.forEach((value, key, whole) => void [BigInt(value), key.length, whole.size]);
 const ofIndex: Value | undefined = ZeroIndex.open(bytes).get("a") ?? new ZeroIndex(bytes).get(bytes);
 const codeOf = (error: unknown): ErrorCode | undefined => (error instanceof ZeroTrieError ? error.code : undefined);
@@ -35,4 +36,4 @@ trie.set("a", 1);
 // @ts-expect-error there is no such code
 const code: ErrorCode = "UNSORTED";
 
-export { kind, value, pairs, keys, longest, prefixes, whole, ofIndex, codeOf, number, strings, code, map, sorted, between, size, ranged };
+export { kind, value, pairs, keys, longest, prefixes, whole, ofIndex, codeOf, number, strings, code, map, sorted, between, size, ranged, isValid };

@@ -7,6 +7,11 @@ from tokens import Refused
 
 # what few programs call: those that do compile it
 SELDOM = ("zerotrie_all/", "zerotrie_reverse/", "zerotrie_index/builder.rs", "zerotrie_index/lent.rs")
+# what is not inlined into its callers, of which few are called often: by the end of a place, functions
+ONCE = {
+    "zerotrie_core/cursor_place.rs": ("step",),
+}
+INLINED = r"#\[inline(?:\(always\))?\]\n( *(?:pub(?:\([^)]*\))? )?fn {}\b)"
 IN_ORDER = "    let sorted = ByteSliceWithIndices::from_byte_slice(items.as_slice());\n    if {}!is_ordered::<K, _>(sorted) {{"
 LESS = {
     # users match a type that may get more cases, which the macro of the same version has
@@ -187,12 +192,27 @@ use crate::zerotrie_core::{TrieKey, ZeroTrieBuildError, ZeroTrieWithOptions};"""
 }
 
 
+seen = set()
+
+
+def all_there():
+    """Stops if a file that is named here is not there."""
+    for end in [*LESS, *ONCE]:
+        if not any(place.endswith(end) for place in seen):
+            raise Refused(f"maker/less.py: no file {end}")
+
+
 def less(place, text):
     """Returns the text of a made file, written in the other way."""
+    seen.add(place)
     for old, new in LESS.get(place, {}).items():
         if text.count(old) != 1:
             raise Refused(f"{place}: this is not in it once: {old}")
         text = text.replace(old, new)
+    for name in [name for end, names in ONCE.items() if place.endswith(end) for name in names]:
+        text, count = re.subn(INLINED.format(name), r"#[inline(never)]\n\1", text)
+        if count != 1:
+            raise Refused(f"{place}: no function {name} that is inlined")
     if place.startswith(SELDOM):
         text = re.sub(r"(?<!#\[inline\(always\)\]\n)(?<!#\[inline\]\n)^( *)((?:pub(?:\([^)]*\))? )?fn )", r"\1#[inline]\n\1\2", text, flags=re.M)
     return text

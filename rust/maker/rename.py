@@ -23,7 +23,7 @@ INFALLIBLE_METHODS = {"clone", "sort", "sort_by_key"}
 INFALLIBLE_WITH_ALLOCATOR = {"to_ascii_lowercase"}
 METHODS = {*FALLIBLE_METHODS, *METHODS_WITH_ALLOCATOR, *INFALLIBLE_METHODS, *INFALLIBLE_WITH_ALLOCATOR}
 # macros that stay, those that lose the runtime or the allocator with the error that they return for it, and those of the shim
-KEPT_MACROS = {"matches", "unreachable", "write", "writeln", "by_kind", "by_flavor", "by_automaton", "macro_rules"}
+KEPT_MACROS = {"matches", "unreachable", "write", "writeln", "by_kind", "by_flavor", "by_automaton", "by_listing", "macro_rules"}
 MACROS_WITH_RUNTIME = {"assert", "assert_eq", "assert_ne", "panic", "println", "eprintln", "format"}
 SHIM_MACROS = {"vec": "vec_in"}
 OPERATORS = {"if", "while", "return", "match", "in", "else", "let"}

@@ -48,7 +48,7 @@ RENAMED = {
 INSTEAD = {
     "one type takes any store, and any key": "ConvertStore TrieStore TrieKey TextKey HasFlavor Trie::get_str "
     "AsciiTrie::encoded_len_str HashedTrie::encoded_len_str",
-    "`Iterator`, `collect`": "ZeroTrieKeys ZeroTrieValues ZeroTrieIterator ZeroTrieSortedIterator ZeroIndexBuilder",
+    "`Iterator`, `collect`": "ZeroTrieKeys ZeroTrieValues ZeroTrieIterator ZeroTrieSortedIterator ZeroIndexBuilder TrieListing AnyOf",
     "calls of tries, and of `Pairs`": "ZeroTrieStream::new ZeroTrieStream::with_prefix ZeroTrieStream::after ZeroTrieStream::from_cursor "
     "ZeroTrieSearch::new ZeroTrieSorted::new ZeroTrieSortedSearch::new ZeroTrieNearest::new SortedTrie CommonPrefixes "
     "Combined::new Diff::new Merge::new SortedSlice::new KeysByValue::new",

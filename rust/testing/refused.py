@@ -7,6 +7,7 @@ sys.dont_write_bytecode = True
 sys.path.insert(0, str(pathlib.Path(__file__).resolve().parent.parent / "maker"))
 from erase import erase, layout
 from exports import exports
+from narrow import narrow
 from rename import rename, runtimes
 from tokens import Refused, Source
 
@@ -46,10 +47,22 @@ UNKNOWN = {
     "impl A {\n    fn clone(&self) -> Result<Self, E> {}\n}": 2,
     "trait A {\n    fn collect<'a>(&'a self, x: u8) -> Result<u8, E>;\n}": 2,
     "impl A {\n    fn push_str(mut self, x: &str) -> Result<Self, E> {}\n}": 2,
+    # they mean another thing where usize has 32 bits
+    "fn f(b: [u8; 8]) -> usize {\n    usize::from_le_bytes(b)\n}": 2,
+    "fn f(b: &[u8]) -> [u8; 8] {\n    b.len().to_le_bytes()\n}": 2,
+    "fn f(b: &[u8]) -> [u8; 8] {\n    (b.len() / 2).to_le_bytes()\n}": 2,
+    "fn f(x: usize) -> bool {\n    x >= 1 << 32\n}": 2,
+    "fn f(x: u64) -> usize {\n    x as usize\n}": 2,
+    "fn f(x: u64) -> usize {\n    (x >> 32) as usize\n}": 2,
+    "fn f(x: Value) -> Option<usize> {\n    x.as_u64().map(|number| number as usize)\n}": 2,
     # they would be printed as they are
     '#[derive(Error)]\npub enum A {\n    #[error("write {{0}} for {0}")]\n    B(u8),\n}\n': 3,
     '#[derive(Error)]\n#[error("a }} b")]\npub struct A;\n': 2,
 }
+SAME = """fn f(x: u8, y: usize) -> bool {
+    y as u64 >= 1 << 32 && x as usize == y && (y as u64).to_le_bytes() == [x % 128; 8]
+}
+"""
 BODIES = "fn f() {\n    a();\n}\n\nfn g() {\n    b();\n}\n"
 # a source whose clauses have characters, and what is made of it
 KEPT = {
@@ -57,6 +70,7 @@ KEPT = {
     for them in [("{", "}"), ('"', '"'), ("}", "{"), ("\\u{7b}", "\\x7d"), ("\\'", "{"), ("-", "\\\\")]
 }
 KEPT |= {
+    SAME.replace("x as", "byte as"): SAME.replace("x as", "byte as"),
     "fn f()\n    requires { x' = '{' → y'' '}' = f' x }\n{\n    a();\n}\n": "fn f() {\n    a();\n}\n",
     '#[derive(Error)]\n#[error("a", self.n())]\npub struct A {\n    pub(crate) x: u8,\n    pub y: u8,\n}\n': "let Self { x, y } = self;",
 }
@@ -67,6 +81,7 @@ def made(text):
     try:
         source = Source(text, "a.rt")
         erase(source)
+        narrow(source, "a.rs", set())
         runtimes(source)
         exports(source)
         rename(source, "a", ["a", "b"])

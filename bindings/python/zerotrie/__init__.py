@@ -108,6 +108,8 @@ SIMPLE_ASCII, PERFECT_HASH = Kind.SIMPLE_ASCII, Kind.PERFECT_HASH
 EXTENDED_CAPACITY, IGNORE_CASE = Kind.EXTENDED_CAPACITY, Kind.IGNORE_CASE
 
 NO_VALUE = (1 << 64) - 1
+#: So many keys get_many() looks up by one call.
+PART = 1 << 17
 
 
 class Cursor(Place):
@@ -191,17 +193,22 @@ def _many(find: Any, keys: Iterable[Any], missing: Any) -> array[int]:
         raise TypeError("get_many() takes keys, as in a list, and not one key")
     rows = column(keys)
 
+    def found(keys: list[Any], missing: Any) -> bytes:
+        # in parts, between which signals are served
+        parts = range(0, len(keys) or 1, PART)
+        return b"".join(find(keys[at : at + PART], missing) for at in parts)
+
     def values(missing: Any) -> Any:
         nonlocal rows
         try:
-            return find(rows, missing)
+            return found(rows, missing)
         except (TypeError, UnicodeEncodeError):
             # this names the row, unless it is a gap that the call does not know
             rows = whole_column(rows)
-            return find(rows, missing)
+            return found(rows, missing)
 
-    def lost(found: array[int]) -> Any:
-        return find([key for key, value in zip(rows, found) if value == missing], 0)
+    def lost(values: array[int]) -> Any:
+        return found([key for key, value in zip(rows, values) if value == missing], 0)
 
     return _signed(values, lost, missing)
 

@@ -227,7 +227,7 @@ fn total(lens: &[usize]) -> Result<usize, ZeroTrieBuildError>
 fn is_too_wide<K: ZeroTrieWithOptions>(total: usize) -> bool
     ensures { IsTrue result ↔ (256 ^ (greatest_width K.kind + 1) ≤ total) }
 {
-    !K::EXTENDED && total >= 1 << 32
+    !K::EXTENDED && total as u64 >= 1 << 32
 }
 
 /// Returns how long a text is that has `len` bytes in front of a branch to targets of these

@@ -136,17 +136,6 @@ module _ (kind : Kind) (s f : Search) (texts : FoldedTexts) (are : AreTextsOf ki
   pub finds_folded : (λ key. finds_given (ignores_case kind) f (folded_key kind key)) ≡ finds_whole kind s
   finds_folded = fun_ext finds_folded_key
 
--- so what is wrong with a search of texts in lower case is wrong with the search
-module _ (s f : Search) (texts : FoldedTexts) (are : AreTextsOf ignore_case s texts) (has : HasTexts texts s f) where
-  fault_same : (how : Option SearchBy) → f.text.now ≡ text_by how ignore_case s.text.now → (status : ℕ) → IsFaultHow how f status → IsFaultHow how s status
-  fault_same None is status h = rw (has.by, has.from_bound, has.to_bound) at h
-  fault_same (Some how) is status h = word_fault_given how s.text.now status (subst (λ t. IsWordFault how t status) is h)
-
-  pub fault_given : (status : ℕ) → IsSearchFault f status → IsSearchFault s status
-  fault_given status h =
-      fault_same (search_by s.by s.edits) (has.text ∙ are.text) status
-      (subst (λ n. IsFaultHow (search_by s.by n) f status) has.edits (subst (λ n. IsFaultHow (search_by n f.edits) f status) has.by h))
-
 -- where case counts, texts and keys are compared as they are
 exact_key : (kind : TrieKind) → kind ≢ Ignore → (key : List ℕ) → folded_key (kind_of kind) key ≡ key
 exact_key Simple h key = map-id key
@@ -171,12 +160,26 @@ word_fault_by Ignore how word status h = word_fault_given how word status h
 word_fault_by Hash how word status h = subst (λ w. IsWordFault how w status) (exact_word Hash (λ e. cc) how word) h
 word_fault_by Ext how word status h = subst (λ w. IsWordFault how w status) (exact_word Ext (λ e. cc) how word) h
 
-exact_how : (kind : TrieKind) → kind ≢ Ignore → (s : Search) (how : Option SearchBy) (key : List ℕ) → given_how how (ignores_case (kind_of kind)) (bound_with s.from_bound s.text.now) (bound_with s.to_bound s.to.now) s.text.now key ≡ finds_how how (kind_of kind) s key
-exact_how kind h s None key = rw (exact_key kind h s.text.now, exact_key kind h s.to.now, exact_key kind h key) refl
-exact_how kind h s (Some how) key = rw (exact_word kind h how s.text.now, exact_key kind h key) refl
+-- so what is wrong with a search of these texts is wrong with the search
+module _ (kind : TrieKind) (s f : Search) (texts : FoldedTexts) (are : AreTextsOf (kind_of kind) s texts) (has : HasTexts texts s f) where
+  fault_same : (how : Option SearchBy) → f.text.now ≡ text_by how (kind_of kind) s.text.now → (status : ℕ) → IsFaultHow how f status → IsFaultHow how s status
+  fault_same None is status h = rw (has.by, has.from_bound, has.to_bound) at h
+  fault_same (Some how) is status h = word_fault_by kind how s.text.now status (subst (λ t. IsWordFault how t status) is h)
 
-pub exact_search : (kind : TrieKind) → kind ≢ Ignore → (s : Search) → finds_given (ignores_case (kind_of kind)) s ≡ finds_whole (kind_of kind) s
-exact_search kind h s = fun_ext (exact_how kind h s (search_by s.by s.edits))
+  pub fault_given : (status : ℕ) → IsSearchFault f status → IsSearchFault s status
+  fault_given status h =
+      fault_same (search_by s.by s.edits) (has.text ∙ are.text) status
+      (subst (λ n. IsFaultHow (search_by s.by n) f status) has.edits (subst (λ n. IsFaultHow (search_by n f.edits) f status) has.by h))
 
 pub exact_keys : {A : Type 0} (kind : TrieKind) → kind ≢ Ignore → (f : List ℕ → A) → f ≡ (λ key. f (folded_key (kind_of kind) key))
 exact_keys kind h f = fun_ext (λ key. ap f (sym (exact_key kind h key)))
+
+-- where case counts, a search with the texts that are compared finds what the search does
+exact_text : (kind : TrieKind) → kind ≢ Ignore → (how : Option SearchBy) (text : List ℕ) → text_by how (kind_of kind) text ≡ text
+exact_text kind exact None text = exact_key kind exact text
+exact_text kind exact (Some how) text = exact_word kind exact how text
+
+pub exact_given : (kind : TrieKind) → kind ≢ Ignore → (any_case : Bool) (s folded : Search) (texts : FoldedTexts) → AreTextsOf (kind_of kind) s texts → HasTexts texts s folded
+    → finds_given any_case s ≡ finds_given any_case folded
+exact_given kind exact any_case s folded texts are has =
+    rw (has.by, has.edits, has.from_bound, has.to_bound, has.text ∙ are.text ∙ exact_text kind exact (search_by s.by s.edits) s.text.now, has.to ∙ are.to ∙ exact_key kind exact s.to.now) refl

@@ -1,22 +1,33 @@
--- The distances of pairs that are written, and what a call for the nearest comes to.
-use Rattle.std.proofs.Common.{◌≡◌, ◌≢◌, ℕ, ◌+◌, ◌*◌, ◌<◌, ◌≤◌, ◌⊎◌, ◌↔◌, suc, inl, inr, List, [], ◌∷◌, ◌++◌, length, map, min, set, refl, sym, ◌∙◌, ap, subst, arith, true, false, Option, Some, None, IfSome, IfNone, IsNone}
-use Rattle.std.proofs.lemmas.Bool.{cases_lt}
-use Rattle.std.proofs.lemmas.List.{append-nil, map-append, length-map}
+-- The distances of pairs that are written, and how automata of a word measure keys.
+use Rattle.std.proofs.lemmas.Bool.{le-leb, lt-leb}
+use Rattle.std.proofs.Common.{◌≡◌, ◌≢◌, ℕ, ◌+◌, ◌*◌, ◌<◌, ◌≤◌, ◌⊎◌, zero, suc, inl, inr, List, [], ◌∷◌, ◌++◌, length, map, get_or, set, refl, sym, ◌∙◌, ap, subst, arith, Bool, true, false, Option, Some, None, IfSome, Result, Ok, Err, IfOk}
+use Rattle.std.proofs.lemmas.List.{map-append, length-map}
+use Rattle.std.proofs.lemmas.Str.{IsUtf8-nil, IsUtf8-from_ascii, is_utf8-from_IsUtf8, chars-nil, chars-IsAscii}
 use Rattle.std.specs.FinMap.{entries}
+use Rattle.std.proofs.lemmas.Str.Ascii.{IsAscii-from_all}
+use Rattle.std.specs.Str.{chars, IsAscii}
 use Rattle.zerotrie_core.specs.Kind.{Kind}
-use Rattle.zerotrie_core.specs.Kinds.{kind_of}
-use Rattle.zerotrie_core.specs.declared.TrieKind.{TrieKind}
-use Rattle.zerotrie_core.specs.declared.TrieKind.TheVariants.{Ignore}
+use Rattle.zerotrie_core.specs.Listings.{to_come}
 use Rattle.zerotrie_core.specs.Maps.{Pairs, Map}
 use Rattle.zerotrie_core.specs.Texts.{Means}
-use Rattle.zerotrie_search.specs.Nearest.{nearest as nearest_of}
-use Rattle.zerotrie_c.specs.Listed.{joined, IsPut, IsWritten, HasNoRoom}
-use Rattle.zerotrie_search.specs.Automata.{word_by, IsMalformedWord, IsLongWord}
+use Rattle.zerotrie_core.specs.WellFormed.{IsWellFormed}
+use Rattle.zerotrie_index.specs.Tries.{folded_key}
+use Rattle.zerotrie_search.specs.Automata.{any_accepts, any_edits_to, edits_to, free_if, ignores_case, most_by, word_by}
+use Rattle.zerotrie_search.specs.Edits.{distance}
+use Rattle.zerotrie_search.specs.Nearest.{nearest as nearest_of, Nearing}
+use Rattle.zerotrie_search.specs.Swaps.{osa_distance}
+use Rattle.zerotrie_search.specs.Texts.{text_measure}
+use Rattle.zerotrie_search.specs.declared.any.AnyAutomaton.{AnyAutomaton}
+use Rattle.zerotrie_search.specs.declared.any.AnyAutomaton.TheVariants as any
 use Rattle.zerotrie_search.specs.declared.any.SearchBy.{SearchBy}
-use Rattle.zerotrie_c.specs.Searched.{IsRightWord, IsWordFault}
-use Rattle.zerotrie_c.specs.Nearest.{measured, measured_given, IsNearestListed, IsNearestTold}
-use Rattle.zerotrie_c.proofs.FoldLemmas.{exact_word, word_fault_by}
-use Rattle.zerotrie_c.proofs.PartLemmas.{Going, set_more, no_room, nothing_written}
+use Rattle.zerotrie_search.specs.declared.glob.Glob.{Glob}
+use Rattle.zerotrie_search.specs.declared.glob.chars.GlobChars.{GlobChars}
+use Rattle.zerotrie_search.specs.declared.prefix.StartsWith.{StartsWith}
+use Rattle.zerotrie_search.specs.declared.range.KeyRange.{KeyRange}
+use Rattle.zerotrie_search.specs.declared.subsequence.Subsequence.{Subsequence}
+use Rattle.zerotrie_c.specs.Listed.{part, IsPut}
+use Rattle.zerotrie_c.specs.Nearest.{edits_by, measured, IsNearestListed}
+use Rattle.zerotrie_c.proofs.PartLemmas.{nothing_written, set_more}
 
 -- the distance of each pair is at the front of the room
 pub record Distances (measure : List ℕ → Option ℕ) (pairs : Pairs) (old room : List ℕ) : Type 0 where
@@ -38,120 +49,91 @@ distances_more {measure} {pairs} {old} {room} {count} ds count_is key v d is ins
       placed = set_more ds.told d old room count ds.placed (count_is ∙ sym len) inside;
     }
 
-module _ {found : Pairs} {old_keys keys old_ends ends old_values values : List ℕ} {count used : ℕ} (g : Going found [] old_keys keys old_ends ends old_values values count used) where
-  all_written : found ≡ g.written
-  all_written = g.parts ∙ append-nil g.written
+-- a listing of the nearest to a word, by the automaton of this measure and these edits
+module _ {T E : Type 0} (measure_by : T → List ℕ → Option ℕ) (most_by_it : T → ℕ) (kind : Kind) (bytes : List ℕ) (automaton : T) (measure : List ℕ → Option ℕ) (edits : ℕ)
+    (same : measure_by automaton ≡ measure) (as_many : most_by_it automaton ≡ edits) where
+  pub near_known : (r : Result (Nearing T) E)
+      → IfOk r (λ s. (m : Map) → Means kind bytes m → s.left ≡ to_come (nearest_of (measure_by automaton) (entries m) 0 (suc (most_by_it automaton))))
+      → IfOk r (λ s. s.kind ≡ kind) → IfOk r (λ s. s.bytes ≡ bytes) → IfOk r (λ s. s.automaton ≡ automaton) → (m : Map) → Means kind bytes m
+      → IfOk r (λ s. (measure_by s.automaton ≡ measure) × IsWellFormed s.kind s.bytes × (s.left.pairs ≡ nearest_of measure (entries m) 0 (suc edits)))
+  near_known (Ok s) left kind_is bytes_is is m means =
+      let well : IsWellFormed kind bytes = (m, means) in (
+        ap measure_by is ∙ same,
+        subst (λ k. IsWellFormed k s.bytes) (sym kind_is) (subst (λ b. IsWellFormed kind b) (sym bytes_is) well),
+        ap (λ l. l.pairs) (left m means) ∙ ap (λ f. nearest_of f (entries m) 0 (suc (most_by_it automaton))) same ∙ ap (λ n. nearest_of measure (entries m) 0 (suc n)) as_many,
+      )
+  near_known (Err e) left kind_is bytes_is is m means = tt
 
-  pub count_found : count ≡ length found
-  count_found = g.count_is ∙ ap length (sym all_written)
+  pub near_any : (r : Result (Nearing T) E) → IfOk r (λ s. s.most ≤ suc (most_by_it automaton) * length bytes) → IfOk r (λ s. s.automaton ≡ automaton)
+      → IfOk r (λ s. (measure_by s.automaton ≡ measure) × (s.most ≤ suc edits * length bytes))
+  near_any (Ok s) most is = (ap measure_by is ∙ same, subst (λ n. s.most ≤ suc n * length bytes) as_many most)
+  near_any (Err e) most is = tt
 
-  pub found_written : IsWritten found old_keys keys old_ends ends old_values values
-  found_written = subst (λ ps. IsWritten ps old_keys keys old_ends ends old_values values) (sym all_written) g.done
+-- what measures a word as a kind compares it measures the word
+pub measured_by : (kind : Kind) (how : SearchBy) (word folded : List ℕ) (edits : List ℕ → Option ℕ) → folded ≡ word_by kind how word → edits ≡ edits_to (ignores_case kind) how folded
+    → ◌≡◌ {A = List ℕ → Option ℕ} (λ key. edits (folded_key kind key)) (measured kind how word)
+measured_by kind how word folded edits is same =
+    ap (λ f key. f (folded_key kind key)) same ∙ ap (λ w key. edits_to (ignores_case kind) how w (folded_key kind key)) is
 
-  -- the next pair has no place in some room
-  pub nearest_full : (measure : List ℕ → Option ℕ) (pairs : Pairs) (key : List ℕ) (v : ℕ) (after : Pairs) {old_distances distances : List ℕ} (old_next : ℕ)
-      → Distances measure found old_distances distances → pairs ≡ found ++ (key, v) ∷ after
-      → (used + length key ≤ length old_keys → count < length old_ends → count < min (length old_values) (length old_distances) → ⊥)
-      → IsNearestListed measure pairs 8 old_keys keys old_ends ends old_values values old_distances distances count old_next (length key)
-  nearest_full measure pairs key v after {old_distances} {distances} old_next ds parts full =
-      let room = min (length old_values) (length old_distances) in
-      let over = no_room (length old_keys) (length old_ends) room used count (length key) full in
-      let over = subst (λ n. (length old_keys < n + length key) ⊎ ((length old_ends ≤ count) ⊎ (room ≤ count))) g.used_is over in
-      let over = subst (λ n. (length old_keys < length (joined g.written) + length key) ⊎ ((length old_ends ≤ n) ⊎ (room ≤ n))) g.count_is over in
-      let full = subst (λ ps. HasNoRoom (length old_keys) (length old_ends) room ps ((key, v) ∷ after) (length key)) (sym all_written) (refl, over) in
-      (found, (key, v) ∷ after, ds.told, parts, count_found, found_written, ds.told_are, ds.placed, inr (inl (refl, full)))
+-- a search with edits has as many as are asked for, and some key takes an edit
+free_zero : (b : Bool) (n : ℕ) → free_if b ≡ Some n → n ≡ 0
+free_zero true n e = cc
+free_zero false n e = absurd (cc)
 
--- no pair is written
-pub nothing_near : (measure : List ℕ → Option ℕ) (pairs : Pairs) (keys ends values distances : List ℕ) (next_len : ℕ)
-    → IsNearestListed measure pairs 11 keys keys ends ends values values distances distances 0 next_len next_len
-nothing_near measure pairs keys ends values distances next_len =
-    ([], pairs, [], refl, refl, nothing_written keys ends values, refl, (omega arith, refl), inr (inr (refl, refl)))
+-- a measure of words by their letters that counts each letter of the word for the empty key, and each of the key for the empty word
+never_free : (of : List ℕ → List ℕ → ℕ) → ((a : ℕ) (w : List ℕ) → of (a ∷ w) [] ≡ 1 + length w) → ((key : List ℕ) → of [] key ≡ length key)
+    → (word : List ℕ) → of word [] ≡ 0 → of word (65 ∷ []) ≡ 0 → ⊥
+never_free of begun none [] of_empty of_one = omega (arith, none (65 ∷ []), of_one)
+never_free of begun none (a ∷ word) of_empty of_one = omega (arith, begun a word, of_empty)
 
--- 255 is the one number of edits above 254
-pub above : {None : Type 0} {Long : Type 0} (most : ℕ) → most ≤ 255 → (None ↔ (Long ⊎ (most ≡ 255))) → None ↔ (Long ⊎ (254 < most))
-above most few none = (
-  λ is. elim (none.0 is) [
-    | inl long ↦ inl long
-    | inr all ↦ inr (omega (arith, all))
-  ],
-  λ over. none.1 (elim over [
-    | inl long ↦ inl long
-    | inr all ↦ inr (omega (arith, all, few))
-  ]),
-)
+text_empty : (of : List ℕ → ℕ) → text_measure of [] ≡ Some (of [])
+text_empty of = rw (is_utf8-from_IsUtf8 [] IsUtf8-nil, chars-nil) refl
 
-some_not_none : {A : Type 0} (a : A) → IsNone (Some a) → ⊥
-some_not_none a e = let same : true ≡ false = e in cc
+letter_below : (k d : ℕ) → k < 1 → get_or (65 ∷ []) k d < 128
+letter_below zero d less = omega arith
+letter_below (suc k) d less = absurd (omega (arith, less))
 
-module _ {A : Type 0} (letters : A → List ℕ) (edits_of : A → ℕ) (of : List ℕ → List ℕ → Option ℕ) (by : SearchBy) (word text : List ℕ) (most edits limit : ℕ)
-    (capped : most ≡ min edits 255) (small : limit ≤ 254) (fine : IsMalformedWord by word → ⊥) (over : IsLongWord by word ↔ ((63 < length text) ⊎ (limit < edits))) where
-  -- an automaton is that of the word, with these edits, and there is none only for a long word
-  abbrev pub Settled : Option A → Type 0
-  Settled (Some a) = (of (letters a) ≡ of text) × (edits_of a ≡ edits) × IsRightWord by word
-  Settled None = IsLongWord by word
+letter : IsAscii (65 ∷ [])
+letter = IsAscii-from_all (65 ∷ []) letter_below
 
-  most_is_edits : (limit < most → ⊥) → most ≡ edits
-  most_is_edits least = elim (cases_lt limit most) [
-    | inl many ↦ absurd (least many)
-    | inr few ↦ omega (arith, few, capped, small)
-  ]
+text_letter : (of : List ℕ → ℕ) → text_measure of (65 ∷ []) ≡ Some (of (65 ∷ []))
+text_letter of = rw (is_utf8-from_IsUtf8 (65 ∷ []) (IsUtf8-from_ascii (65 ∷ []) letter), chars-IsAscii (65 ∷ []) letter) refl
 
-  pub settled : (near : Option A) → IfSome near (λ a. (letters a ≡ text) × (edits_of a ≡ most)) → (IsNone near ↔ ((63 < length text) ⊎ (limit < most))) → Settled near
-  settled (Some a) is none =
-      let same : most ≡ edits = most_is_edits (λ many. some_not_none a (none.1 (inr many))) in
-      let right : (63 < length text) ⊎ (limit < edits) → ⊥ = λ long. some_not_none a (none.1 (subst (λ n. (63 < length text) ⊎ (limit < n)) (sym same) long)) in
-      (ap of is.0, is.1 ∙ same, (fine, λ long. right (over.0 long)))
-  settled None is none = over.1 (elim (none.0 refl) [
-    | inl long ↦ inl long
-    | inr many ↦ inr (omega (arith, many, capped))
-  ])
+abbrev pub Counts : ℕ → SearchBy → Type 0
+Counts edits how = (most_by how ≡ edits) × ((any_case : Bool) (word : List ℕ) (finds : List ℕ → Bool) → ◌≡◌ {A = List ℕ → Option ℕ} (λ key. free_if (finds key)) (edits_to any_case how word) → ⊥)
 
-  module _ {status : ℕ} {old_keys keys old_ends ends old_values values old_distances distances : List ℕ} {old_count count old_next_len next_len : ℕ} where
-    pub told : (near : Option A) → Settled near → (pairs : (List ℕ → Option ℕ) → ℕ → Pairs)
-        → IfSome near (λ a. IsNearestListed (of (letters a)) (pairs (of (letters a)) (edits_of a)) status old_keys keys old_ends ends old_values values old_distances distances count old_next_len next_len)
-        → IfNone near ((status ≡ 22) × (keys ≡ old_keys) × (ends ≡ old_ends) × (values ≡ old_values) × (distances ≡ old_distances) × (count ≡ old_count) × (next_len ≡ old_next_len))
-        → IsNearestTold by (of text) word (pairs (of text) edits) status old_keys keys old_ends ends old_values values old_distances distances old_count count old_next_len next_len
-    told (Some a) is pairs listed kept =
-        inl (
-          is.2,
-          subst (λ n. IsNearestListed (of text) (pairs (of text) n) status old_keys keys old_ends ends old_values values old_distances distances count old_next_len next_len) is.1
-              (subst (λ m. IsNearestListed m (pairs m (edits_of a)) status old_keys keys old_ends ends old_values values old_distances distances count old_next_len next_len) is.0 listed),
-        )
-    told None is pairs listed kept = inr (inr (kept.0, is), kept.1, kept.2, kept.3, kept.4, kept.5, kept.6)
+by_bytes : (of : List ℕ → List ℕ → ℕ) → ((a : ℕ) (w : List ℕ) → of (a ∷ w) [] ≡ 1 + length w) → ((key : List ℕ) → of [] key ≡ length key)
+    → (word : List ℕ) (finds : List ℕ → Bool) → ◌≡◌ {A = List ℕ → Option ℕ} (λ key. free_if (finds key)) (λ key. Some (of word key)) → ⊥
+by_bytes of begun none word finds e =
+    never_free of begun none word (free_zero (finds []) (of word []) (ap (λ f. f []) e)) (free_zero (finds (65 ∷ [])) (of word (65 ∷ [])) (ap (λ f. f (65 ∷ [])) e))
 
-    pub told_any : (near : Option A) → Settled near → (bytes : List ℕ)
-        → IfSome near (λ a. (pairs : Pairs) × (length pairs ≤ suc (edits_of a) * length bytes) × IsNearestListed (of (letters a)) pairs status old_keys keys old_ends ends old_values values old_distances distances count old_next_len next_len)
-        → IfNone near ((status ≡ 22) × (keys ≡ old_keys) × (ends ≡ old_ends) × (values ≡ old_values) × (distances ≡ old_distances) × (count ≡ old_count) × (next_len ≡ old_next_len))
-        → (pairs : Pairs) × (length pairs ≤ suc edits * length bytes) × IsNearestTold by (of text) word pairs status old_keys keys old_ends ends old_values values old_distances distances old_count count old_next_len next_len
-    told_any (Some a) is bytes some kept = (some.0, subst (λ n. length some.0 ≤ suc n * length bytes) is.1 some.1, told (Some a) is (λ _ _. some.0) some.2 kept)
-    told_any None is bytes some kept = ([], omega arith, told None is (λ _ _. []) some kept)
+by_chars : (of : List ℕ → List ℕ → ℕ) → ((a : ℕ) (w : List ℕ) → of (a ∷ w) [] ≡ 1 + length w) → ((key : List ℕ) → of [] key ≡ length key)
+    → (word : List ℕ) (finds : List ℕ → Bool) → ◌≡◌ {A = List ℕ → Option ℕ} (λ key. free_if (finds key)) (text_measure (of word)) → ⊥
+by_chars of begun none word finds e =
+    never_free of begun none word (free_zero (finds []) (of word []) (ap (λ f. f []) e ∙ text_empty (of word)))
+    (free_zero (finds (65 ∷ [])) (of word (65 ∷ [])) (ap (λ f. f (65 ∷ [])) e ∙ text_letter (of word)))
 
--- what a call comes to on valid bytes, and on any, for this way to count edits
-abbrev pub TellsKnown : (SearchBy → List ℕ → Option ℕ) → Kind → List ℕ → List ℕ → ℕ → ℕ → List ℕ → List ℕ → List ℕ → List ℕ → List ℕ → List ℕ → List ℕ → List ℕ → ℕ → ℕ → ℕ → ℕ → Option SearchBy → Type 0
-TellsKnown measure kind bytes word edits status old_keys keys old_ends ends old_values values old_distances distances old_count count old_next_len next_len counted =
-    IfSome counted (λ how. (m : Map) → Means kind bytes m → IsNearestTold how (measure how) word (nearest_of (measure how) (entries m) 0 (suc edits))
-    status old_keys keys old_ends ends old_values values old_distances distances old_count count old_next_len next_len)
+pub counted : (number edits : ℕ) → IfSome (edits_by number edits) (Counts edits)
+counted zero edits = tt
+counted (suc zero) edits = tt
+counted (suc (suc zero)) edits = tt
+counted (suc (suc (suc zero))) edits = (refl, λ any_case word. by_bytes distance (λ a w. refl) (λ key. refl) word)
+counted (suc (suc (suc (suc zero)))) edits = (refl, λ any_case word. by_chars distance (λ a w. refl) (λ key. refl) (chars word))
+counted (suc (suc (suc (suc (suc zero))))) edits = (refl, λ any_case word. by_bytes osa_distance (λ a w. refl) (λ key. refl) word)
+counted (suc (suc (suc (suc (suc (suc zero)))))) edits = (refl, λ any_case word. by_chars osa_distance (λ a w. refl) (λ key. refl) (chars word))
+counted (suc (suc (suc (suc (suc (suc (suc n))))))) edits = rw (le-leb 3 (suc (suc (suc (suc (suc (suc (suc n))))))) (omega arith), lt-leb (suc (suc (suc (suc (suc (suc (suc n))))))) 6 (omega arith)) tt
 
-abbrev pub TellsAny : (SearchBy → List ℕ → Option ℕ) → List ℕ → List ℕ → ℕ → ℕ → List ℕ → List ℕ → List ℕ → List ℕ → List ℕ → List ℕ → List ℕ → List ℕ → ℕ → ℕ → ℕ → ℕ → Option SearchBy → Type 0
-TellsAny measure bytes word edits status old_keys keys old_ends ends old_values values old_distances distances old_count count old_next_len next_len counted =
-    IfSome counted (λ how. (pairs : Pairs) × (length pairs ≤ suc edits * length bytes) × IsNearestTold how (measure how) word pairs
-    status old_keys keys old_ends ends old_values values old_distances distances old_count count old_next_len next_len)
+-- the automata that count no edits
+pub free_by : (a : AnyAutomaton) → ((x : StartsWith) × (a ≡ any.Prefix x)) ⊎ (((x : KeyRange) × (a ≡ any.Range x)) ⊎ (((x : Glob) × (a ≡ any.Glob x)) ⊎ (((x : GlobChars) × (a ≡ any.GlobChars x)) ⊎ ((x : Subsequence) × (a ≡ any.Subsequence x)))))
+    → ◌≡◌ {A = List ℕ → Option ℕ} (any_edits_to a) (λ key. free_if (any_accepts a key))
+free_by a (inl p) = rw p.1 refl
+free_by a (inr (inl p)) = rw p.1 refl
+free_by a (inr (inr (inl p))) = rw p.1 refl
+free_by a (inr (inr (inr (inl p)))) = rw p.1 refl
+free_by a (inr (inr (inr (inr p)))) = rw p.1 refl
 
-module _ (kind : TrieKind) {status : ℕ} {old_keys keys old_ends ends old_values values old_distances distances : List ℕ} {old_count count old_next_len next_len : ℕ} where
-  -- what is told of a word as the kind compares it is told of the word
-  pub told_folded : (how : SearchBy) (word folded : List ℕ) → IsRightWord how word → folded ≡ word_by (kind_of kind) how word → (pairs : (List ℕ → Option ℕ) → Pairs)
-      → IsNearestTold how (measured_given (kind_of kind) how folded) folded (pairs (measured_given (kind_of kind) how folded)) status old_keys keys old_ends ends old_values values old_distances distances old_count count old_next_len next_len
-      → IsNearestTold how (measured (kind_of kind) how word) word (pairs (measured (kind_of kind) how word)) status old_keys keys old_ends ends old_values values old_distances distances old_count count old_next_len next_len
-  told_folded how word folded right is pairs told = elim told [
-    | inl listed ↦ inl (
-      right,
-      subst (λ w. IsNearestListed (measured_given (kind_of kind) how w) (pairs (measured_given (kind_of kind) how w)) status old_keys keys old_ends ends old_values values old_distances distances count old_next_len next_len) is listed.1,
-    )
-    | inr kept ↦ inr (word_fault_by kind how word status (subst (λ w. IsWordFault how w status) is kept.0), kept.1, kept.2, kept.3, kept.4, kept.5, kept.6)
-  ]
-
--- where case counts, a word is compared as it is
-pub if_exact : (kind : TrieKind) → kind ≢ Ignore → (word : List ℕ) (P : SearchBy → (List ℕ → Option ℕ) → Type 0) (counted : Option SearchBy)
-    → IfSome counted (λ how. P how (measured_given (kind_of kind) how word)) → IfSome counted (λ how. P how (measured (kind_of kind) how word))
-if_exact kind exact word P None h = tt
-if_exact kind exact word P (Some how) h = subst (λ w. P how (measured_given (kind_of kind) how w)) (sym (exact_word kind exact how word)) h
+-- no pair is written, since an allocation failed
+pub none_near : (measure : List ℕ → Option ℕ) (pairs : Pairs) (keys ends values distances : List ℕ) (next_len : ℕ) {status count next : ℕ} → (status ≡ 11) × (count ≡ 0) × (next ≡ next_len)
+    → IsNearestListed measure pairs status (part keys ends values 0 next_len, distances) (part keys ends values count next, distances)
+none_near measure pairs keys ends values distances next_len is =
+    ([], pairs, [], refl, is.1, nothing_written (part keys ends values 0 next_len), refl, (omega arith, refl), inr (inr (is.0, is.2)))

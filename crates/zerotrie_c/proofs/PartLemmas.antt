@@ -1,10 +1,15 @@
 -- Pairs that are written one after another at the front of three rooms.
-use Rattle.std.proofs.Common.{◌≡◌, ℕ, suc, ◌+◌, ◌<◌, ◌≤◌, ◌⊎◌, inl, inr, List, [], ◌∷◌, ◌++◌, length, take, drop, set, refl, sym, ◌∙◌, ap, subst, arith, add-one, true, append_assoc, length-append}
+use Rattle.std.proofs.Common.{◌≡◌, ℕ, suc, ◌+◌, ◌<◌, ◌≤◌, ◌⊎◌, inl, inr, List, [], ◌∷◌, ◌++◌, length, take, drop, set, refl, sym, ◌∙◌, ap, subst, arith, add-one, true, append_assoc, length-append, Result, Ok, Err, IfOk}
 use Rattle.std.proofs.lemmas.List.{append-nil, take_at, take-append-drop, length-take-le, length-drop, set_split}
 use Rattle.std.proofs.lemmas.Bool.{cases_lt}
 use Rattle.std.proofs.Math.Seq.{drop-append-add}
-use Rattle.zerotrie_core.specs.Maps.{Pairs}
-use Rattle.zerotrie_c.specs.Listed.{joined, ends_from, values_of, IsPut, IsWritten, IsListedSome}
+use Rattle.zerotrie_core.specs.Kind.{Kind}
+use Rattle.zerotrie_core.specs.Listings.{to_come}
+use Rattle.zerotrie_core.specs.Maps.{Pairs, Map}
+use Rattle.zerotrie_core.specs.Texts.{Means}
+use Rattle.zerotrie_core.specs.WellFormed.{IsWellFormed}
+use Rattle.zerotrie_search.specs.Sorted.{Sorting}
+use Rattle.zerotrie_c.specs.Listed.{joined, ends_from, values_of, Part, part, IsPut, IsWritten, HasNoRoom, IsListedSome}
 
 drop_again : {A : Type 0} (n m : ℕ) (xs : List A) → n ≤ length xs → drop m (drop n xs) ≡ drop (n + m) xs
 drop_again n m xs h =
@@ -65,41 +70,43 @@ values_len [] = refl
 values_len (p ∷ ps) = ap suc (values_len ps)
 
 -- nothing is written
-pub nothing_written : (keys ends values : List ℕ) → IsWritten [] keys keys ends ends values values
-nothing_written keys ends values = record { keys_are = (omega arith, refl); ends_are = (omega arith, refl); values_are = (omega arith, refl) }
+pub nothing_written : (before : Part) → IsWritten [] before before
+nothing_written before = ((omega arith, refl), (omega arith, refl), (omega arith, refl))
 
--- Of the pairs these are left, and the others are written.
-pub record Going (pairs left : Pairs) (old_keys keys old_ends ends old_values values : List ℕ) (count used : ℕ) : Type 0 where
-  pub written : Pairs
-  pub parts : pairs ≡ written ++ left
-  pub count_is : count ≡ length written
-  pub used_is : used ≡ length (joined written)
-  pub done : IsWritten written old_keys keys old_ends ends old_values values
+-- These pairs are written, as many as are counted, and their keys take this much.
+pub record Going (found : Pairs) (before after : Part) (used : ℕ) : Type 0 where
+  pub count_is : after.count ≡ length found
+  pub used_is : used ≡ length (joined found)
+  pub done : IsWritten found before after
+
+-- nothing is written yet
+pub going_start : (keys ends values : List ℕ) (next_len : ℕ) → Going [] (part keys ends values 0 next_len) (part keys ends values 0 next_len) 0
+going_start keys ends values next_len = record { count_is = refl; used_is = refl; done = nothing_written (part keys ends values 0 next_len) }
 
 from_none : (n m : ℕ) → 0 + n + m ≡ n + m
 from_none n m = omega arith
 
-module _ {pairs left : Pairs} {old_keys keys old_ends ends old_values values : List ℕ} {count used : ℕ} (g : Going pairs left old_keys keys old_ends ends old_values values count used) where
-  -- a pair more
-  pub going_more : (key : List ℕ) (v : ℕ) (after : Pairs) → left ≡ (key, v) ∷ after → used + length key ≤ length keys → count < length ends → count < length values
-      → Going pairs after old_keys (take used keys ++ (key ++ drop (used + length key) keys)) old_ends (set ends count (used + length key)) old_values (set values count v) (count + 1) (used + length key)
-  going_more key v after is fits room_ends room_values =
-      let w = g.written in
-      let e = (key, v) ∷ [] in
-      let used_is = g.used_is in
-      let end : ends_from 0 (w ++ e) ≡ ends_from 0 w ++ (used + length key) ∷ [] =
-      ends_more 0 w key v ∙ ap (λ n. ends_from 0 w ++ n ∷ []) (from_none (length (joined w)) (length key) ∙ ap (λ n. n + length key) (sym used_is)) in
-      record {
-        written = w ++ e;
-        parts = g.parts ∙ ap (λ l. w ++ l) is ∙ sym (append_assoc w e after);
-        count_is = ap (λ n. n + 1) g.count_is ∙ sym (length-append w e);
-        used_is = ap (λ n. n + length key) used_is ∙ sym (length-append (joined w) key) ∙ ap length (sym (joined_more w key v));
-        done = record {
-          keys_are = subst (λ x. IsPut x true old_keys (take used keys ++ (key ++ drop (used + length key) keys))) (sym (joined_more w key v)) (put_more (joined w) key old_keys keys used g.done.keys_are used_is fits);
-          ends_are = subst (λ x. IsPut x true old_ends (set ends count (used + length key))) (sym end) (set_more (ends_from 0 w) (used + length key) old_ends ends count g.done.ends_are (g.count_is ∙ sym (ends_len 0 w)) room_ends);
-          values_are = subst (λ x. IsPut x true old_values (set values count v)) (sym (values_more w key v)) (set_more (values_of w) v old_values values count g.done.values_are (g.count_is ∙ sym (values_len w)) room_values);
-        };
-      }
+-- a pair more
+pub going_more : {found : Pairs} {before after : Part} {used : ℕ} → Going found before after used
+    → (key : List ℕ) (v : ℕ) → used + length key ≤ length after.keys → after.count < length after.ends → after.count < length after.values
+    → Going (found ++ (key, v) ∷ []) before
+    (part (take used after.keys ++ (key ++ drop (used + length key) after.keys)) (set after.ends after.count (used + length key)) (set after.values after.count v) (after.count + 1) after.next_len)
+    (used + length key)
+going_more {found} {before} {after} {used} g key v fits room_ends room_values =
+    let w = found in
+    let e = (key, v) ∷ [] in
+    let used_is = g.used_is in
+    let end : ends_from 0 (w ++ e) ≡ ends_from 0 w ++ (used + length key) ∷ [] =
+    ends_more 0 w key v ∙ ap (λ n. ends_from 0 w ++ n ∷ []) (from_none (length (joined w)) (length key) ∙ ap (λ n. n + length key) (sym used_is)) in
+    record {
+      count_is = ap (λ n. n + 1) g.count_is ∙ sym (length-append w e);
+      used_is = ap (λ n. n + length key) used_is ∙ sym (length-append (joined w) key) ∙ ap length (sym (joined_more w key v));
+      done = (
+        subst (λ x. IsPut x true before.keys (take used after.keys ++ (key ++ drop (used + length key) after.keys))) (sym (joined_more w key v)) (put_more (joined w) key before.keys after.keys used g.done.0 used_is fits),
+        subst (λ x. IsPut x true before.ends (set after.ends after.count (used + length key))) (sym end) (set_more (ends_from 0 w) (used + length key) before.ends after.ends after.count g.done.1 (g.count_is ∙ sym (ends_len 0 w)) room_ends),
+        subst (λ x. IsPut x true before.values (set after.values after.count v)) (sym (values_more w key v)) (set_more (values_of w) v before.values after.values after.count g.done.2 (g.count_is ∙ sym (values_len w)) room_values),
+      );
+    }
 
 -- some room has too few places
 pub no_room : (keys ends values used count len : ℕ) → (used + len ≤ keys → count < ends → count < values → ⊥) → (keys < used + len) ⊎ ((ends ≤ count) ⊎ (values ≤ count))
@@ -123,29 +130,25 @@ placed_len ys room p fits =
     let d = length-drop (p + length ys) room in
     omega arith
 
--- a pair after those that are written, and none after it
-pub going_on : {found : Pairs} {old_keys keys old_ends ends old_values values : List ℕ} {count used : ℕ} (e : List ℕ × ℕ)
-    → Going found [] old_keys keys old_ends ends old_values values count used
-    → Going (found ++ e ∷ []) (e ∷ []) old_keys keys old_ends ends old_values values count used
-going_on e g = record {
-  written = g.written;
-  parts = ap (λ p. p ++ e ∷ []) (g.parts ∙ append-nil g.written);
-  count_is = g.count_is;
-  used_is = g.used_is;
-  done = g.done;
-}
-
--- nothing is written yet
-pub going_start : (pairs : Pairs) (keys ends values : List ℕ) → Going pairs pairs keys keys ends ends values values 0 0
-going_start pairs keys ends values = record { written = []; parts = refl; count_is = refl; used_is = refl; done = nothing_written keys ends values }
-
 -- the next pair has no place in some room
-pub listed_full : (pairs : Pairs) (key : List ℕ) (v : ℕ) (after : Pairs) {old_keys keys old_ends ends old_values values : List ℕ} {count used : ℕ} (old_next : ℕ)
-    → Going pairs ((key, v) ∷ after) old_keys keys old_ends ends old_values values count used
-    → (used + length key ≤ length old_keys → count < length old_ends → count < length old_values → ⊥)
-    → IsListedSome pairs 8 old_keys keys old_ends ends old_values values count old_next (length key)
-listed_full pairs key v after {old_keys} {keys} {old_ends} {ends} {old_values} {values} {count} {used} old_next g full =
-    let over = no_room (length old_keys) (length old_ends) (length old_values) used count (length key) full in
-    let over = subst (λ n. (length old_keys < n + length key) ⊎ ((length old_ends ≤ count) ⊎ (length old_values ≤ count))) g.used_is over in
-    let over = subst (λ n. (length old_keys < length (joined g.written) + length key) ⊎ ((length old_ends ≤ n) ⊎ (length old_values ≤ n))) g.count_is over in
-    (g.written, (key, v) ∷ after, g.parts, g.count_is, g.done, inr (inl (refl, (refl, over))))
+pub has_no_room : {found : Pairs} {before after : Part} {used : ℕ} → Going found before after used → (values : ℕ) (key : List ℕ) (v : ℕ) (left : Pairs)
+    → (used + length key ≤ length before.keys → after.count < length before.ends → after.count < values → ⊥)
+    → HasNoRoom (length before.keys) (length before.ends) values found ((key, v) ∷ left) (length key)
+has_no_room {found} {before} {after} {used} g values key v left full =
+    let over = no_room (length before.keys) (length before.ends) values used after.count (length key) full in
+    let over = subst (λ n. (length before.keys < n + length key) ⊎ ((length before.ends ≤ after.count) ⊎ (values ≤ after.count))) g.used_is over in
+    (refl, subst (λ n. (length before.keys < length (joined found) + length key) ⊎ ((length before.ends ≤ n) ⊎ (values ≤ n))) g.count_is over)
+
+-- a sorted listing of a trie is of valid bytes, and has the pairs of its map
+pub valid_sorted : {E : Type 0} {kind : Kind} {bytes : List ℕ} (pairs : Map → Pairs) (r : Result Sorting E)
+    → IfOk r (λ s. (m : Map) → Means kind bytes m → s.left ≡ to_come (pairs m)) → IfOk r (λ s. s.kind ≡ kind) → IfOk r (λ s. s.bytes ≡ bytes)
+    → (m : Map) → Means kind bytes m → IfOk r (λ s. IsWellFormed s.kind s.bytes × (s.left.pairs ≡ pairs m))
+valid_sorted {kind = kind} {bytes = bytes} pairs (Ok s) left kind_is bytes_is m means =
+    let well : IsWellFormed kind bytes = (m, means) in
+    (subst (λ k. IsWellFormed k s.bytes) (sym kind_is) (subst (λ b. IsWellFormed kind b) (sym bytes_is) well), ap (λ l. l.pairs) (left m means))
+valid_sorted pairs (Err e) left kind_is bytes_is m means = tt
+
+-- no pair is written, since an allocation failed
+pub none_listed : (pairs : Pairs) (keys ends values : List ℕ) (next_len : ℕ) {status count next : ℕ} → (status ≡ 11) × (count ≡ 0) × (next ≡ next_len)
+    → IsListedSome pairs status (part keys ends values 0 next_len) (part keys ends values count next)
+none_listed pairs keys ends values next_len is = ([], pairs, refl, is.1, nothing_written (part keys ends values 0 next_len), inr (inr (is.0, is.2)))

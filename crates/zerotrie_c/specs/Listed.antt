@@ -53,11 +53,22 @@ IsListed pairs status old_keys keys old_ends ends old_values values old_key_byte
 abbrev pub left_of : Kind → Bool → List ℕ → Pairs → Pairs
 left_of kind goes_on last pairs = if goes_on then rest_after kind last pairs else pairs
 
+-- What a call for a part of a listing is given, and what it gives back: rooms for the keys, for where each ends and for
+-- the values; how many pairs are written; and the length of the next key.
+pub record Part : Type 0 where
+  pub keys : List ℕ
+  pub ends : List ℕ
+  pub values : List ℕ
+  pub count : ℕ
+  pub next_len : ℕ
+
+abbrev pub part : List ℕ → List ℕ → List ℕ → ℕ → ℕ → Part
+part keys ends values count next_len = record { keys = keys; ends = ends; values = values; count = count; next_len = next_len }
+
 -- The pairs are at the front of the three rooms, and the rest of each room stays.
-pub record IsWritten (pairs : Pairs) (old_keys keys old_ends ends old_values values : List ℕ) : Type 0 where
-  pub keys_are : IsPut (joined pairs) true old_keys keys
-  pub ends_are : IsPut (ends_from 0 pairs) true old_ends ends
-  pub values_are : IsPut (values_of pairs) true old_values values
+abbrev pub IsWritten : Pairs → Part → Part → Type 0
+IsWritten pairs before after = IsPut (joined pairs) true before.keys after.keys
+    × IsPut (ends_from 0 pairs) true before.ends after.ends × IsPut (values_of pairs) true before.values after.values
 
 -- for the first pair that is left some room has too few places after those that were written, and the length of its key is told
 abbrev pub HasNoRoom : ℕ → ℕ → ℕ → Pairs → Pairs → ℕ → Type 0
@@ -65,12 +76,16 @@ HasNoRoom keys ends values written [] next_len = ⊥
 HasNoRoom keys ends values written (p ∷ left) next_len = (next_len ≡ length p.0)
     × ((keys < length (joined written) + length p.0) ⊎ (ends ≤ length written) ⊎ (values ≤ length written))
 
--- What a part of a listing comes to: the first of the pairs are written, as many as are counted. It is done if none is
--- left, and the next key has no length; else the next one has no room, or an allocation failed.
-abbrev pub IsListedSome : Pairs → ℕ → List ℕ → List ℕ → List ℕ → List ℕ → List ℕ → List ℕ → ℕ → ℕ → ℕ → Type 0
-IsListedSome pairs status old_keys keys old_ends ends old_values values count old_next_len next_len =
-    (written : Pairs) × (left : Pairs) × (pairs ≡ written ++ left) × (count ≡ length written)
-    × IsWritten written old_keys keys old_ends ends old_values values
-    × (((status ≡ done) × (left ≡ []) × (next_len ≡ 0))
-    ⊎ ((status ≡ status_of BufferTooSmall) × HasNoRoom (length old_keys) (length old_ends) (length old_values) written left next_len)
-    ⊎ ((status ≡ status_of OutOfMemory) × (next_len ≡ old_next_len)))
+-- How a part of a listing ends after these pairs: it is done if none is left, and the next key has no length; else the
+-- next one has no room, or an allocation failed.
+abbrev pub IsEnded : ℕ → Pairs → Pairs → ℕ → Part → Part → Type 0
+IsEnded values written left status before after =
+    ((status ≡ done) × (left ≡ []) × (after.next_len ≡ 0))
+    ⊎ ((status ≡ status_of BufferTooSmall) × HasNoRoom (length before.keys) (length before.ends) values written left after.next_len)
+    ⊎ ((status ≡ status_of OutOfMemory) × (after.next_len ≡ before.next_len))
+
+-- What a part of a listing comes to: the first of the pairs are written, as many as are counted.
+abbrev pub IsListedSome : Pairs → ℕ → Part → Part → Type 0
+IsListedSome pairs status before after =
+    (written : Pairs) × (left : Pairs) × (pairs ≡ written ++ left) × (after.count ≡ length written) × IsWritten written before after
+    × IsEnded (length before.values) written left status before after

@@ -10,8 +10,8 @@ use Rattle.zerotrie_search.specs.Sets.{from_left, to_left, some_front}
 use Rattle.zerotrie_search.specs.Automata.{finds_by, finds_in, word_by, IsMalformedWord, IsLongWord}
 use Rattle.zerotrie_search.specs.declared.any.SearchBy.{SearchBy}
 use Rattle.zerotrie_search.specs.declared.any.SearchBy.TheVariants as by
-use Rattle.zerotrie_c.specs.Statuses.{done, unknown_search, malformed_search, search_too_long}
-use Rattle.zerotrie_c.specs.Listed.{IsListedSome}
+use Rattle.zerotrie_c.specs.Statuses.{done, unknown_search, malformed_search, search_too_long, IsUnwritten}
+use Rattle.zerotrie_c.specs.Listed.{Part, IsListedSome}
 use Rattle.zerotrie_c.specs.declared.folding.FoldedTexts.{FoldedTexts}
 use Rattle.zerotrie_c.specs.declared.searches.Search.{Search}
 
@@ -68,19 +68,10 @@ IsSearchFault s = IsFaultHow (search_by s.by s.edits) s
 
 -- What a part of a search of these pairs comes to: a search without a fault is a listing of the pairs that it finds, as
 -- the kind compares keys; one with a fault is refused by it, and nothing is written.
-abbrev pub IsSearchedSome : Kind → Search → Pairs → ℕ → List ℕ → List ℕ → List ℕ → List ℕ → List ℕ → List ℕ → ℕ → ℕ → ℕ → ℕ → Type 0
-IsSearchedSome kind s pairs status old_keys keys old_ends ends old_values values old_count count old_next_len next_len =
-    (((fault : ℕ) → IsSearchFault s fault → ⊥)
-    × IsListedSome (accepted (finds kind s) pairs) status old_keys keys old_ends ends old_values values count old_next_len next_len)
-    ⊎ (IsSearchFault s status × (keys ≡ old_keys) × (ends ≡ old_ends) × (values ≡ old_values)
-    × (count ≡ old_count) × (next_len ≡ old_next_len))
-
--- words of private functions: what a search of these pairs writes if it has no fault, or that it has one
-abbrev pub IsFoundSome : Kind → Search → Pairs → ℕ → List ℕ → List ℕ → List ℕ → List ℕ → List ℕ → List ℕ → ℕ → ℕ → ℕ → ℕ → Type 0
-IsFoundSome kind s pairs status old_keys keys old_ends ends old_values values old_count count old_next_len next_len =
-    IsListedSome (accepted (finds kind s) pairs) status old_keys keys old_ends ends old_values values count old_next_len next_len
-    ⊎ (IsSearchFault s status × (keys ≡ old_keys) × (ends ≡ old_ends) × (values ≡ old_values)
-    × (count ≡ old_count) × (next_len ≡ old_next_len))
+abbrev pub IsSearchedSome : Kind → Search → Pairs → ℕ → Part → Part → Type 0
+IsSearchedSome kind s pairs status before after =
+    (((fault : ℕ) → IsSearchFault s fault → ⊥) × IsListedSome (accepted (finds kind s) pairs) status before after)
+    ⊎ (IsSearchFault s status × IsUnwritten before after)
 
 -- what is told of a search alone: that it has no fault, or its fault
 abbrev pub IsSearchChecked : Search → ℕ → Type 0

@@ -1,5 +1,5 @@
 -- The numbers of what a call comes to.
-use Rattle.std.specs.Prelude.{ℕ}
+use Rattle.std.specs.Prelude.{◌≡◌, ℕ}
 use Rattle.zerotrie_core.specs.declared.ZeroTrieBuildError.{ZeroTrieBuildError}
 use Rattle.zerotrie_core.specs.declared.ZeroTrieBuildError.TheVariants.{NonAsciiError, CapacityExceeded, CouldNotSolvePerfectHash, MixedCase, IllegalDelimiter, DuplicateKey, Unsorted, BufferTooSmall, BufferTooLarge, StackExceeded, OutOfMemory}
 
@@ -64,3 +64,7 @@ search_too_long = 22
 -- too many keys of an index share a bucket
 abbrev pub crowded : ℕ
 crowded = 23
+
+-- nothing is written: what a call is given stays
+abbrev pub IsUnwritten : {A : Type 0} → A → A → Type 0
+IsUnwritten before after = after ≡ before

@@ -1,17 +1,51 @@
 //! Listings, a part at a time.
 
-ghost use Rattle.std.specs.Prelude.{◌≡◌, ◌≤◌, ◌+◌, ◌++◌, length, take, drop, IfOk, IfSome, IfNone};
+ghost use Rattle.std.specs.Prelude.{◌≡◌, ◌≤◌, ◌+◌, ◌++◌, ℕ, length, take, drop, IfOk, IfSome, IfNone};
 ghost use Rattle.zerotrie_core.specs.Kinds.{kind_of as kind_that_is};
 ghost use Rattle.zerotrie_core.specs.Maps.{Pairs, beginning};
 ghost use Rattle.zerotrie_core.specs.Texts.{Lists};
 ghost use Rattle.zerotrie_core.specs.Listings.{to_come};
 ghost use Rattle.zerotrie_c.specs.Numbers.{kind_of};
-ghost use Rattle.zerotrie_c.specs.Statuses.{unknown_kind};
-ghost use Rattle.zerotrie_c.specs.Listed.{left_of, IsListedSome};
+ghost use Rattle.zerotrie_c.specs.Statuses.{unknown_kind, IsUnwritten};
+ghost use Rattle.zerotrie_c.specs.Listed.{left_of, part, IsListedSome};
 
 use crate::numbers::{BUFFER_TOO_SMALL, DONE, OUT_OF_MEMORY, UNKNOWN_KIND, trie_of};
 use std::alloc::{AllocError, Global};
-use zerotrie_core::{PairStream, Trie, TrieRef, ZeroTrieStream, by_kind};
+use zerotrie_core::{Trie, TrieRef, ZeroTrieStream, by_kind};
+use zerotrie_search::TrieListing;
+
+/// What a call for a part of a listing tells: its status, how many pairs it wrote, and the length of
+/// the next key.
+#[derive(Clone, Copy)]
+pub struct Page {
+    pub status: u32,
+    pub count: usize,
+    pub next_len: usize,
+}
+
+impl Page {
+    /// Returns a page of these numbers.
+    pub fn new(status: u32, count: usize, next_len: usize) -> Self
+        ensures { (result.status ≡ status) × (result.count ≡ count) × (result.next_len ≡ next_len) }
+    {
+        Page {
+            status,
+            count,
+            next_len,
+        }
+    }
+
+    /// Sets the numbers of the page, and returns its status.
+    pub fn unpack(self, count: &mut usize, next_len: &mut usize) -> u32
+        ensures status { result ≡ self.status }
+        ensures count { count.new ≡ self.count }
+        ensures next_len { next_len.new ≡ self.next_len }
+    {
+        *count = self.count;
+        *next_len = self.next_len;
+        self.status
+    }
+}
 
 /// Copies bytes into the room at a place.
 pub fn put_at(bytes: &[u8], room: &mut [u8], place: usize)
@@ -24,40 +58,45 @@ pub fn put_at(bytes: &[u8], room: &mut [u8], place: usize)
     part.copy_from_slice(bytes);
 }
 
-/// Writes the next pairs of a listing, as many as the rooms have places for.
-pub fn write_some<L: PairStream + Drop>(
-    mut pairs: L,
+/// Writes the next pairs of a listing, as many as the rooms have places for. Without a listing, an
+/// allocation failed.
+pub fn fill<L: TrieListing + Drop>(
+    listing: Result<L, AllocError>,
+    next_len: usize,
     keys: &mut [u8],
     ends: &mut [usize],
     values: &mut [usize],
-    count: &mut usize,
-    next_len: &mut usize,
-) -> u32
-    ensures { IsListedSome (L.left pairs).pairs result keys.old keys.new ends.old ends.new
-        values.old values.new count.new next_len.old next_len.new }
+) -> Page
+    ensures listed { (pairs : Pairs)
+        → IfOk listing (λ l. L.IsValid l × ((L.left l).pairs ≡ pairs))
+        → IsListedSome pairs result.status (part keys.old ends.old values.old 0 next_len)
+        (part keys.new ends.new values.new result.count result.next_len) }
+    ensures any { (most : ℕ) → IfOk listing (λ l. L.most l ≤ most)
+        → (pairs : Pairs) × (length pairs ≤ most)
+        × IsListedSome pairs result.status (part keys.old ends.old values.old 0 next_len)
+        (part keys.new ends.new values.new result.count result.next_len) }
 {
-    *count = 0;
+    let Ok(mut pairs) = listing else {
+        return Page::new(OUT_OF_MEMORY, 0, next_len);
+    };
+    let mut count = 0;
     let mut used = 0;
     let room = ends.len().min(values.len());
     loop {
         match pairs.advance() {
             Ok(true) => {}
-            Ok(false) => {
-                *next_len = 0;
-                return DONE;
-            }
-            Err(_) => return OUT_OF_MEMORY,
+            Ok(false) => return Page::new(DONE, count, 0),
+            Err(_) => return Page::new(OUT_OF_MEMORY, count, next_len),
         }
         let key = pairs.key();
-        if *count >= room || key.len() > keys.len() - used {
-            *next_len = key.len();
-            return BUFFER_TOO_SMALL;
+        if count >= room || key.len() > keys.len() - used {
+            return Page::new(BUFFER_TOO_SMALL, count, key.len());
         }
         put_at(key, keys, used);
         used += key.len();
-        ends[*count] = used;
-        values[*count] = pairs.value();
-        *count += 1;
+        ends[count] = used;
+        values[count] = pairs.value();
+        count += 1;
     }
 }
 
@@ -110,23 +149,18 @@ pub extern "C" fn zerotrie_list_some(
 ) -> u32
     ensures known { IfSome (kind_of kind) (λ k. (pairs : Pairs) → Lists k bytes.now pairs
         → IsListedSome (left_of k goes_on last.now (beginning k prefix.now pairs)) result
-        keys.old keys.new ends.old ends.new values.old values.new count.new
-        next_len.old next_len.new) }
+        (part keys.old ends.old values.old count.old next_len.old)
+        (part keys.new ends.new values.new count.new next_len.new)) }
     ensures any { IfSome (kind_of kind) (λ _. (pairs : Pairs) × (length pairs ≤ length bytes.now)
-        × IsListedSome pairs result keys.old keys.new ends.old ends.new values.old values.new
-        count.new next_len.old next_len.new) }
-    ensures unknown { IfNone (kind_of kind) ((result ≡ unknown_kind) × (keys.new ≡ keys.old)
-        × (ends.new ≡ ends.old) × (values.new ≡ values.old) × (count.new ≡ count.old)
-        × (next_len.new ≡ next_len.old)) }
+        × IsListedSome pairs result (part keys.old ends.old values.old count.old next_len.old)
+        (part keys.new ends.new values.new count.new next_len.new)) }
+    ensures unknown { IfNone (kind_of kind) ((result ≡ unknown_kind)
+        × IsUnwritten (part keys.old ends.old values.old count.old next_len.old)
+        (part keys.new ends.new values.new count.new next_len.new)) }
 {
     let Some(trie) = trie_of(kind, bytes) else {
         return UNKNOWN_KIND;
     };
-    match left_of(alloc, &trie, prefix, goes_on, last) {
-        Ok(pairs) => write_some(pairs, keys, ends, values, count, next_len),
-        Err(_) => {
-            *count = 0;
-            OUT_OF_MEMORY
-        }
-    }
+    let pairs = left_of(alloc, &trie, prefix, goes_on, last);
+    fill(pairs, *next_len, keys, ends, values).unpack(count, next_len)
 }

@@ -1,26 +1,26 @@
 //! Searches, a part at a time.
 
-ghost use Rattle.std.specs.Prelude.{◌≡◌, ◌≤◌, ℕ, length, IfOk, IfErr, IfSome, IfNone};
+ghost use Rattle.std.specs.Prelude.{◌≡◌, ◌≢◌, ◌≤◌, ℕ, length, IfOk, IfErr, IfSome, IfNone};
 ghost use Rattle.std.specs.Option.{option_map};
 ghost use Rattle.std.specs.Range.Bound.{bound_map};
-ghost use Rattle.zerotrie_core.specs.Kind.{ignore_case};
 ghost use Rattle.zerotrie_core.specs.Kinds.{kind_of as kind_that_is};
+ghost use Rattle.zerotrie_core.specs.declared.TrieKind.TheVariants.{Ignore};
 ghost use Rattle.zerotrie_core.specs.Maps.{Pairs, beginning};
 ghost use Rattle.zerotrie_core.specs.Texts.{Lists};
 ghost use Rattle.zerotrie_index.specs.Tries.{folded_key};
-ghost use Rattle.zerotrie_search.specs.Automata.{any_accepts, finds_in, ignores_case};
+ghost use Rattle.zerotrie_search.specs.Automata.{any_accepts, any_edits_to, any_most, edits_to, finds_in, ignores_case, most_by};
 ghost use Rattle.zerotrie_search.specs.Searches.{accepted};
 ghost use Rattle.zerotrie_c.specs.Numbers.{kind_of};
-ghost use Rattle.zerotrie_c.specs.Statuses.{unknown_kind};
-ghost use Rattle.zerotrie_c.specs.Listed.{left_of, IsListedSome};
-ghost use Rattle.zerotrie_c.specs.Searched.{bound_with, finds, finds_given, or_beginnings, search_by, IsFoundSome, IsSearchChecked, IsSearchFault, IsSearchedSome, IsWordFault, IsRightWord};
+ghost use Rattle.zerotrie_c.specs.Statuses.{unknown_kind, IsUnwritten};
+ghost use Rattle.zerotrie_c.specs.Listed.{left_of, part, IsListedSome};
+ghost use Rattle.zerotrie_c.specs.Searched.{bound_with, finds_given, or_beginnings, search_by, IsSearchChecked, IsSearchFault, IsSearchedSome, IsWordFault, IsRightWord};
 
 use crate::folding;
 use crate::folding::FoldedTexts;
 use crate::numbers::{
     DONE, MALFORMED_SEARCH, OUT_OF_MEMORY, SEARCH_TOO_LONG, UNKNOWN_KIND, UNKNOWN_SEARCH, trie_of,
 };
-use crate::parts::{left_of, write_some};
+use crate::parts::{Page, fill, left_of};
 use std::alloc::Global;
 use std::ops::Bound;
 use zerotrie_core::{TrieKind, ZeroTrieStream};
@@ -76,6 +76,9 @@ pub fn search_by(number: u32, edits: u32) -> Option<SearchBy>
 pub fn word_of(kind: TrieKind, by: SearchBy, word: &[u8]) -> Result<AnyAutomaton<'_>, u32>
     ensures ok { IfOk result (λ any.
         any_accepts any ≡ finds_in (ignores_case (kind_that_is kind)) by word.now) }
+    ensures edits { IfOk result (λ any.
+        (any_edits_to any ≡ edits_to (ignores_case (kind_that_is kind)) by word.now)
+        × (any_most any ≡ most_by by)) }
     ensures right { IfOk result (λ _. IsRightWord by word.now) }
     ensures fault { IfErr result (IsWordFault by word.now) }
 {
@@ -104,6 +107,26 @@ fn sought_of<'q>(kind: TrieKind, search: &Search<'q>) -> Result<AnyAutomaton<'q>
     Ok(AnyAutomaton::Range(KeyRange { from, to }))
 }
 
+/// Returns the automaton of a search with its texts as a kind compares them. Where case counts it is
+/// that of the search with its texts as they are, which is not made again.
+fn folded_of<'q>(
+    kind: TrieKind,
+    sought: AnyAutomaton<'q>,
+    folded: &Search<'q>,
+) -> Result<AnyAutomaton<'q>, u32>
+    requires { kind ≢ Ignore
+        → any_accepts sought ≡ finds_given (ignores_case (kind_that_is kind)) folded.now }
+    ensures ok { IfOk result (λ sought.
+        any_accepts sought ≡ finds_given (ignores_case (kind_that_is kind)) folded.now) }
+    ensures fault { IfErr result (IsSearchFault folded.now) }
+{
+    if folding::ignores_case(kind) {
+        sought_of(kind, folded)
+    } else {
+        Ok(sought)
+    }
+}
+
 /// Returns the status of a search without a trie: `DONE` if it has a meaning, and else its fault,
 /// which is what `zerotrie_search_some` returns for it.
 #[unsafe(no_mangle)]
@@ -116,155 +139,56 @@ pub extern "C" fn zerotrie_search_check(search: &Search<'_>) -> u32
     }
 }
 
-/// Writes the next pairs of a stream whose keys an automaton accepts, or begin with such a key.
-fn write_accepted<T: Automaton + Drop>(
+/// Writes the next pairs of a stream whose keys an automaton accepts as a kind compares them, or begin
+/// with such a key.
+fn fill_accepted<T: Automaton + Drop>(
     alloc: Global,
     pairs: ZeroTrieStream<'_>,
+    kind: TrieKind,
     automaton: T,
     beginnings: bool,
+    next_len: usize,
     keys: &mut [u8],
     ends: &mut [usize],
     values: &mut [usize],
-    count: &mut usize,
-    next_len: &mut usize,
-) -> u32
-    ensures { IsListedSome
-        (accepted (or_beginnings beginnings (T.accepts automaton)) pairs.entry.left.pairs) result
-        keys.old keys.new ends.old ends.new values.old values.new count.new
-        next_len.old next_len.new }
+) -> Page
+    ensures { IsListedSome (accepted (or_beginnings beginnings
+        (λ key. T.accepts automaton (folded_key (kind_that_is kind) key))) pairs.entry.left.pairs)
+        result.status (part keys.old ends.old values.old 0 next_len)
+        (part keys.new ends.new values.new result.count result.next_len) }
 {
     if beginnings {
-        let search = ZeroTrieSearch::new(alloc, pairs, BeginsWith(automaton));
-        write_some(search, keys, ends, values, count, next_len)
-    } else {
-        let search = ZeroTrieSearch::new(alloc, pairs, automaton);
-        write_some(search, keys, ends, values, count, next_len)
+        let begun = ZeroTrieSearch::new(alloc, pairs, BeginsWith(ByKind(kind, automaton)));
+        return fill(Ok(begun), next_len, keys, ends, values);
     }
-}
-
-/// Writes the next pairs of a stream that are sought.
-fn write_sought(
-    alloc: Global,
-    pairs: ZeroTrieStream<'_>,
-    sought: AnyAutomaton<'_>,
-    beginnings: bool,
-    keys: &mut [u8],
-    ends: &mut [usize],
-    values: &mut [usize],
-    count: &mut usize,
-    next_len: &mut usize,
-) -> u32
-    ensures { IsListedSome
-        (accepted (or_beginnings beginnings (any_accepts sought.entry)) pairs.entry.left.pairs)
-        result keys.old keys.new ends.old ends.new values.old values.new count.new
-        next_len.old next_len.new }
-{
-    by_automaton!(sought, automaton => write_accepted(
-        alloc, pairs, automaton, beginnings, keys, ends, values, count, next_len,
-    ))
-}
-
-/// Writes the next pairs of a stream that are sought, with keys as the kind that ignores case compares
-/// them.
-fn write_any_case(
-    alloc: Global,
-    pairs: ZeroTrieStream<'_>,
-    sought: AnyAutomaton<'_>,
-    beginnings: bool,
-    keys: &mut [u8],
-    ends: &mut [usize],
-    values: &mut [usize],
-    count: &mut usize,
-    next_len: &mut usize,
-) -> u32
-    ensures { IsListedSome (accepted (or_beginnings beginnings
-        (λ key. any_accepts sought.entry (folded_key ignore_case key))) pairs.entry.left.pairs)
-        result keys.old keys.new ends.old ends.new values.old values.new count.new
-        next_len.old next_len.new }
-{
-    by_automaton!(sought, automaton => write_accepted(
-        alloc,
-        pairs,
-        ByKind(TrieKind::Ignore, automaton),
-        beginnings,
-        keys,
-        ends,
-        values,
-        count,
-        next_len,
-    ))
-}
-
-/// Writes the next pairs of a stream that a search finds in the kind that ignores case. It compares
-/// copies of the texts of the search, in lower case.
-fn write_folded(
-    alloc: Global,
-    pairs: ZeroTrieStream<'_>,
-    search: &Search<'_>,
-    keys: &mut [u8],
-    ends: &mut [usize],
-    values: &mut [usize],
-    count: &mut usize,
-    next_len: &mut usize,
-) -> u32
-    ensures { IsFoundSome ignore_case search.now pairs.entry.left.pairs result
-        keys.old keys.new ends.old ends.new values.old values.new count.old count.new
-        next_len.old next_len.new }
-{
-    let Ok(texts) = FoldedTexts::new(alloc, TrieKind::Ignore, search) else {
-        *count = 0;
-        return OUT_OF_MEMORY;
-    };
-    let folded = texts.in_place_of(search);
-    match sought_of(TrieKind::Ignore, &folded) {
-        Ok(sought) => write_any_case(
-            alloc,
-            pairs,
-            sought,
-            search.beginnings,
-            keys,
-            ends,
-            values,
-            count,
-            next_len,
-        ),
-        Err(status) => status,
-    }
-}
-
-/// Writes the next pairs of a stream that a search finds, as a kind compares keys. The automaton is that
-/// of the search with its texts as they are.
-fn write_found(
-    alloc: Global,
-    kind: TrieKind,
-    pairs: ZeroTrieStream<'_>,
-    search: &Search<'_>,
-    sought: AnyAutomaton<'_>,
-    keys: &mut [u8],
-    ends: &mut [usize],
-    values: &mut [usize],
-    count: &mut usize,
-    next_len: &mut usize,
-) -> u32
-    requires { any_accepts sought ≡ finds_given (ignores_case (kind_that_is kind)) search.now }
-    ensures { IsFoundSome (kind_that_is kind) search.now pairs.entry.left.pairs result
-        keys.old keys.new ends.old ends.new values.old values.new count.old count.new
-        next_len.old next_len.new }
-{
     if folding::ignores_case(kind) {
-        return write_folded(alloc, pairs, search, keys, ends, values, count, next_len);
+        let folded = ZeroTrieSearch::new(alloc, pairs, ByKind(kind, automaton));
+        return fill(Ok(folded), next_len, keys, ends, values);
     }
-    write_sought(
-        alloc,
-        pairs,
-        sought,
-        search.beginnings,
-        keys,
-        ends,
-        values,
-        count,
-        next_len,
-    )
+    let search = ZeroTrieSearch::new(alloc, pairs, automaton);
+    fill(Ok(search), next_len, keys, ends, values)
+}
+
+/// Writes the next pairs of a stream that are sought, with keys as a kind compares them.
+fn fill_sought(
+    alloc: Global,
+    pairs: ZeroTrieStream<'_>,
+    kind: TrieKind,
+    sought: AnyAutomaton<'_>,
+    beginnings: bool,
+    next_len: usize,
+    keys: &mut [u8],
+    ends: &mut [usize],
+    values: &mut [usize],
+) -> Page
+    ensures { IsListedSome (accepted (or_beginnings beginnings
+        (λ key. any_accepts sought.entry (folded_key (kind_that_is kind) key))) pairs.entry.left.pairs)
+        result.status (part keys.old ends.old values.old 0 next_len)
+        (part keys.new ends.new values.new result.count result.next_len) }
+{
+    by_automaton!(sought, automaton => fill_accepted(
+        alloc, pairs, kind, automaton, beginnings, next_len, keys, ends, values,
+    ))
 }
 
 /// Like `zerotrie_list_some`, of those pairs whose keys a search finds: a range, a pattern, bytes in
@@ -291,15 +215,15 @@ pub extern "C" fn zerotrie_search_some(
     ensures known { IfSome (kind_of kind) (λ k. (pairs : Pairs) → Lists k bytes.now pairs
         → IsSearchedSome k search.now
         (left_of k goes_on last.now (beginning k prefix.now pairs)) result
-        keys.old keys.new ends.old ends.new values.old values.new count.old count.new
-        next_len.old next_len.new) }
+        (part keys.old ends.old values.old count.old next_len.old)
+        (part keys.new ends.new values.new count.new next_len.new)) }
     ensures any { IfSome (kind_of kind) (λ k. (pairs : Pairs) × (length pairs ≤ length bytes.now)
         × IsSearchedSome k search.now pairs result
-        keys.old keys.new ends.old ends.new values.old values.new count.old count.new
-        next_len.old next_len.new) }
-    ensures unknown { IfNone (kind_of kind) ((result ≡ unknown_kind) × (keys.new ≡ keys.old)
-        × (ends.new ≡ ends.old) × (values.new ≡ values.old) × (count.new ≡ count.old)
-        × (next_len.new ≡ next_len.old)) }
+        (part keys.old ends.old values.old count.old next_len.old)
+        (part keys.new ends.new values.new count.new next_len.new)) }
+    ensures unknown { IfNone (kind_of kind) ((result ≡ unknown_kind)
+        × IsUnwritten (part keys.old ends.old values.old count.old next_len.old)
+        (part keys.new ends.new values.new count.new next_len.new)) }
 {
     let Some(trie) = trie_of(kind, bytes) else {
         return UNKNOWN_KIND;
@@ -308,13 +232,27 @@ pub extern "C" fn zerotrie_search_some(
         Ok(sought) => sought,
         Err(status) => return status,
     };
+    let Ok(texts) = FoldedTexts::new(alloc, trie.kind, search) else {
+        let none = Page::new(OUT_OF_MEMORY, 0, *next_len);
+        return none.unpack(count, next_len);
+    };
+    let sought = match folded_of(trie.kind, sought, &texts.in_place_of(search)) {
+        Ok(sought) => sought,
+        Err(status) => return status,
+    };
     match left_of(alloc, &trie, prefix, goes_on, last) {
-        Ok(pairs) => write_found(
-            alloc, trie.kind, pairs, search, sought, keys, ends, values, count, next_len,
-        ),
-        Err(_) => {
-            *count = 0;
-            OUT_OF_MEMORY
-        }
+        Ok(pairs) => fill_sought(
+            alloc,
+            pairs,
+            trie.kind,
+            sought,
+            search.beginnings,
+            *next_len,
+            keys,
+            ends,
+            values,
+        )
+        .unpack(count, next_len),
+        Err(_) => Page::new(OUT_OF_MEMORY, 0, *next_len).unpack(count, next_len),
     }
 }

@@ -6,21 +6,18 @@ ghost use Rattle.std.specs.Range.Bound.{bound_map};
 ghost use Rattle.std.specs.declared.ops.Bound.{Bound};
 ghost use Rattle.zerotrie_core.specs.Maps.{Pairs, Map};
 ghost use Rattle.zerotrie_core.specs.Texts.{Means};
-ghost use Rattle.zerotrie_core.specs.WellFormed.{IsWellFormed};
 ghost use Rattle.zerotrie_search.specs.Sorted.{within};
 ghost use Rattle.zerotrie_c.specs.Numbers.{kind_of};
-ghost use Rattle.zerotrie_c.specs.Statuses.{unknown_kind, unknown_search};
-ghost use Rattle.zerotrie_c.specs.Listed.{IsListedSome};
+ghost use Rattle.zerotrie_c.specs.Statuses.{unknown_kind, unknown_search, IsUnwritten};
+ghost use Rattle.zerotrie_c.specs.Listed.{part, IsListedSome};
 ghost use Rattle.zerotrie_c.specs.Sorted.{bounds_with};
 
-use crate::numbers::{
-    BUFFER_TOO_SMALL, DONE, OUT_OF_MEMORY, UNKNOWN_KIND, UNKNOWN_SEARCH, trie_of,
-};
-use crate::parts::put_at;
+use crate::numbers::{UNKNOWN_KIND, UNKNOWN_SEARCH, trie_of};
+use crate::parts::fill;
 use crate::searches::bound_with;
 use std::alloc::Global;
 use std::ops::Bound;
-use zerotrie_search::{Search, ZeroTrieSorted};
+use zerotrie_search::Search;
 
 /// Returns the lower and the upper bound with these numbers at two keys, or `None` if a number is
 /// that of no bound.
@@ -37,47 +34,6 @@ pub fn bounds_with<'f, 't>(
     let from = bound_with(from_bound, from)?;
     let to = bound_with(to_bound, to)?;
     Some((from, to))
-}
-
-/// Writes the next pairs of a sorted listing, as many as the rooms have places for.
-fn write_sorted(
-    mut pairs: ZeroTrieSorted<'_, '_>,
-    keys: &mut [u8],
-    ends: &mut [usize],
-    values: &mut [usize],
-    count: &mut usize,
-    next_len: &mut usize,
-) -> u32
-    ensures listed { IsWellFormed pairs.entry.kind pairs.entry.bytes
-        → IsListedSome pairs.entry.left.pairs result keys.old keys.new ends.old ends.new
-        values.old values.new count.new next_len.old next_len.new }
-    ensures any { (found : Pairs) × (length found ≤ pairs.entry.most)
-        × IsListedSome found result keys.old keys.new ends.old ends.new
-        values.old values.new count.new next_len.old next_len.new }
-{
-    *count = 0;
-    let mut used = 0;
-    let room = ends.len().min(values.len());
-    loop {
-        match pairs.advance() {
-            Ok(true) => {}
-            Ok(false) => {
-                *next_len = 0;
-                return DONE;
-            }
-            Err(_) => return OUT_OF_MEMORY,
-        }
-        let key = pairs.key();
-        if *count >= room || key.len() > keys.len() - used {
-            *next_len = key.len();
-            return BUFFER_TOO_SMALL;
-        }
-        put_at(key, keys, used);
-        used += key.len();
-        ends[*count] = used;
-        values[*count] = pairs.value();
-        *count += 1;
-    }
 }
 
 /// Writes the pairs whose keys are between two bounds, in the order of bytes in every kind, as many
@@ -107,20 +63,20 @@ pub extern "C" fn zerotrie_sorted_some(
     ensures known { IfSome (kind_of kind) (λ k.
         IfSome (bounds_with from_bound from.now to_bound to.now) (λ b.
         (m : Map) → Means k bytes.now m → IsListedSome (within b.0 b.1 m) result
-        keys.old keys.new ends.old ends.new values.old values.new count.new
-        next_len.old next_len.new)) }
+        (part keys.old ends.old values.old count.old next_len.old)
+        (part keys.new ends.new values.new count.new next_len.new))) }
     ensures any { IfSome (kind_of kind) (λ _.
         IfSome (bounds_with from_bound from.now to_bound to.now) (λ _.
         (pairs : Pairs) × (length pairs ≤ length bytes.now) × IsListedSome pairs result
-        keys.old keys.new ends.old ends.new values.old values.new count.new
-        next_len.old next_len.new)) }
+        (part keys.old ends.old values.old count.old next_len.old)
+        (part keys.new ends.new values.new count.new next_len.new))) }
     ensures unbounded { IfSome (kind_of kind) (λ _.
         IfNone (bounds_with from_bound from.now to_bound to.now) ((result ≡ unknown_search)
-        × (keys.new ≡ keys.old) × (ends.new ≡ ends.old) × (values.new ≡ values.old)
-        × (count.new ≡ count.old) × (next_len.new ≡ next_len.old))) }
-    ensures unknown { IfNone (kind_of kind) ((result ≡ unknown_kind) × (keys.new ≡ keys.old)
-        × (ends.new ≡ ends.old) × (values.new ≡ values.old) × (count.new ≡ count.old)
-        × (next_len.new ≡ next_len.old)) }
+        × IsUnwritten (part keys.old ends.old values.old count.old next_len.old)
+        (part keys.new ends.new values.new count.new next_len.new))) }
+    ensures unknown { IfNone (kind_of kind) ((result ≡ unknown_kind)
+        × IsUnwritten (part keys.old ends.old values.old count.old next_len.old)
+        (part keys.new ends.new values.new count.new next_len.new)) }
 {
     let Some(trie) = trie_of(kind, bytes) else {
         return UNKNOWN_KIND;
@@ -128,11 +84,6 @@ pub extern "C" fn zerotrie_sorted_some(
     let Some((from, to)) = bounds_with(from_bound, from, to_bound, to) else {
         return UNKNOWN_SEARCH;
     };
-    match trie.stream_sorted(alloc, from, to) {
-        Ok(pairs) => write_sorted(pairs, keys, ends, values, count, next_len),
-        Err(_) => {
-            *count = 0;
-            OUT_OF_MEMORY
-        }
-    }
+    let pairs = trie.stream_sorted(alloc, from, to);
+    fill(pairs, *next_len, keys, ends, values).unpack(count, next_len)
 }

@@ -4,11 +4,14 @@
 ghost use Rattle.std.specs.Prelude.{◌≡◌};
 ghost use Rattle.zerotrie_words.specs.Replies.{status_of};
 
-use std::io::{BufWriter, IsTerminal, Write};
+use std::fs::File;
+use std::io::{BufWriter, IsTerminal, Read, Write};
+use std::os::unix::fs::FileTypeExt;
 use std::process::ExitCode;
 use std::{env, fs, io};
 use zerotrie_files::{Noted, Store, SystemDisk};
 use zerotrie_run::{Command, Place, Status, run};
+use zerotrie_sealed::begins_sealed;
 use zerotrie_words::{Reply, Request};
 
 const NOT_UTF8: &str = "the arguments are not UTF-8; give keys of other bytes as lines of standard \
@@ -16,6 +19,9 @@ const NOT_UTF8: &str = "the arguments are not UTF-8; give keys of other bytes as
 
 const OUTPUT_IS_TERMINAL: &str =
     "standard output is a terminal: name a file by -o, or redirect the output";
+
+const INPUT_IS_TERMINAL: &str =
+    "standard input is a terminal: name a file, or redirect the input";
 
 /// Prints the help or the version that the words asked for.
 fn show_help(rt: &HostRuntime, text: &str) -> Status {
@@ -98,11 +104,90 @@ fn goes_to_terminal(rt: &HostRuntime, command: &Command<'_>) -> bool {
     }
 }
 
-/// Returns why a command is not run here, if it is not: it would write a trie to a terminal, or
-/// replace its input by links.
+/// Returns whether one of these places is standard input, which is a terminal: nobody types a trie.
+fn are_typed(rt: &HostRuntime, places: &[Place<'_>]) -> bool {
+    places.contains(&Place::Stream) && rt.stdin().is_terminal()
+}
+
+/// Returns whether a trie would come from a terminal.
+fn comes_from_terminal(rt: &HostRuntime, command: &Command<'_>) -> bool {
+    match command {
+        Command::Ask(file, _) => are_typed(rt, &[file.place]),
+        Command::Diff(diff) => are_typed(rt, &[diff.old, diff.new]),
+        Command::Combine(combine) => are_typed(rt, combine.from),
+        Command::Build(_) => false,
+    }
+}
+
+/// Returns whether an open device is no trie: it is a terminal, or it begins, and not as a sealed file.
+/// One that is empty says so when it is read.
+fn is_no_trie(mut device: File) -> bool {
+    if device.is_terminal() {
+        return true;
+    }
+    let mut front = [0; 8];
+    match device.read(&mut front) {
+        Ok(0) | Err(_) => false,
+        Ok(count) => !begins_sealed(&front[..count]),
+    }
+}
+
+/// Returns the path of a place, if it leads to a device that is no trie. It may have no end.
+fn device_at<'a>(rt: &HostRuntime, place: Place<'a>) -> Option<&'a str> {
+    let Place::File(path) = place else {
+        return None;
+    };
+    let kind = fs::metadata(rt, path).ok()?.file_type();
+    if !kind.is_char_device() && !kind.is_block_device() {
+        return None;
+    }
+    if is_no_trie(File::open(rt, path).ok()?) {
+        Some(path)
+    } else {
+        None
+    }
+}
+
+/// Returns the path of the first place that leads to a device that is no trie.
+fn first_device<'a>(rt: &HostRuntime, places: &[Place<'a>]) -> Option<&'a str> {
+    for place in places {
+        if let Some(path) = device_at(rt, *place) {
+            return Some(path);
+        }
+    }
+    None
+}
+
+/// Returns the path of a device that is read for a trie or for the input of a build, and is none. An open
+/// file of the process, such as `/dev/stdin`, is the input of a build whatever it is.
+fn device_in<'a>(rt: &HostRuntime, command: &Command<'a>) -> Option<&'a str> {
+    match command {
+        Command::Ask(file, _) => device_at(rt, file.place),
+        Command::Diff(diff) => first_device(rt, &[diff.old, diff.new]),
+        Command::Combine(combine) => first_device(rt, combine.from),
+        Command::Build(build) => match build.from {
+            Place::File(path) if path.starts_with("/dev/std") || path.starts_with("/dev/fd/") => {
+                None
+            }
+            Place::File(_) | Place::Stream => device_at(rt, build.from),
+        },
+    }
+}
+
+/// Says that a device is no trie, and no input.
+fn refuse_device(rt: &HostRuntime, path: &str) -> Status {
+    let _ = eprintln!(rt; "zerotrie: {path}: it is a device, and no sealed file; - with < reads it");
+    Status::BadInput
+}
+
+/// Returns why a command is not run here, if it is not: it would write a trie to a terminal or read one
+/// from there, or replace its input by links.
 fn refusal_here<'a>(rt: &HostRuntime, command: &Command<'a>) -> Option<Reply<'a>> {
     if goes_to_terminal(rt, command) {
         return Some(Reply::Refusal(OUTPUT_IS_TERMINAL));
+    }
+    if comes_from_terminal(rt, command) {
+        return Some(Reply::Refusal(INPUT_IS_TERMINAL));
     }
     let Command::Build(build) = command else {
         return None;
@@ -123,6 +208,9 @@ fn obey_for(rt: &HostRuntime, request: &Request<'_>, file: usize) -> Status {
     };
     if let Some(reply) = refusal_here(rt, &command) {
         return say(rt, &reply);
+    }
+    if let Some(path) = device_in(rt, &command) {
+        return refuse_device(rt, path);
     }
     if let Some(name) = request.heading(file) {
         // if this can't be written, what is printed next can't, and says so

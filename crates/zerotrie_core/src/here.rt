@@ -8,6 +8,9 @@ ghost use Rattle.zerotrie_core.specs.well_formed.Testing.{BeginsValue};
 
 use crate::simd::lanes::{first_other_in_16, highs_in_16};
 
+/// A value of at most so many bytes fits into a `usize`, as each byte has at most seven bits of it.
+const SHORT: usize = usize::BITS as usize / 7;
+
 /// The bytes that are still to be read, and all bytes from there on.
 ///
 /// Sixteen bytes are read at once as long as sixteen are left, even past the end of a target.
@@ -91,7 +94,7 @@ impl<'a> Here<'a> {
     /// first sixteen bytes do not show it.
     ///
     /// After the lead all bytes of a value but the last are 128 or more, so no loop is needed. The
-    /// result for a value of ten bytes is 0, since it might be too large.
+    /// result for a longer value than `SHORT` is 0, since it might be too large.
     #[inline(always)]
     pub(crate) fn value_len(&self) -> usize
         ensures within { result ≤ length self.now.rest.now }
@@ -104,7 +107,7 @@ impl<'a> Here<'a> {
         let lead = self.tail[0];
         let highs = highs_in_16(self.tail);
         let len = if lead < 144 { 1 } else { highs + 1 };
-        if (128 <= lead) & (lead < 160) & (len <= 9) & (len <= self.rest.len()) {
+        if (128 <= lead) & (lead < 160) & (len <= SHORT) & (len <= self.rest.len()) {
             len
         } else {
             0

@@ -42,11 +42,14 @@ fn read_head(lead: u8, rest: &[u8]) -> Option<(usize, &[u8])>
     (*next < 128).then_some((digit * 128 + *next as usize + 32, behind))
 }
 
+/// The width of offsets that fit into a `usize`, whose bytes are one more.
+const WIDEST: usize = usize::BITS as usize / 8 - 1;
+
 #[inline(always)]
 fn greatest_width<K: ZeroTrieWithOptions>() -> usize
     ensures { result ≡ greatest_width K.kind }
 {
-    if K::EXTENDED { 7 } else { 3 }
+    if K::EXTENDED { WIDEST } else { 3 }
 }
 
 /// Like `table_in`, for a hashed table: the parameters of the perfect hash, then the edges.

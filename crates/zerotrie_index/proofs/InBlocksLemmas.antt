@@ -1,15 +1,18 @@
 -- A sealed index in blocks that is read at places.
-use Rattle.std.proofs.Common.{◌≡◌, ℕ, ◌+◌, ◌-◌, ◌*◌, ◌/◌, ◌%◌, ◌^◌, ◌<◌, ◌≤◌, List, ◌++◌, length, take, drop, sym, subst, ap, ◌∙◌, arith}
+use Rattle.std.proofs.Common.{◌≡◌, ℕ, ◌+◌, ◌-◌, ◌*◌, ◌/◌, ◌%◌, ◌^◌, ◌<◌, ◌≤◌, inl, inr, List, ◌++◌, length, take, drop, sym, subst, ap, ◌∙◌, arith}
 use Rattle.std.specs.Prelude.{min}
+use Rattle.zerotrie_sealed.specs.declared.reading.SealError.{SealError}
+use Rattle.zerotrie_sealed.specs.declared.reading.SealError.TheVariants.{NoMagic, UnknownVersion, UnknownKind, CutShort, TooLong, Checksum}
 use Rattle.std.specs.Int.{w64, to_le_bytes, from_le_bytes}
 use Rattle.std.proofs.Common.{length-append}
+use Rattle.std.proofs.Math.Seq.{take-append_seam}
 use Rattle.std.proofs.lemmas.List.{drop_at, take_all, take_min, length-take, length-take-le, length-drop, take-take, drop-take, drop-drop}
 use Rattle.zerotrie_sealed.specs.Sealed.{blocks_number, IsSealedAs, HasFront}
 use Rattle.std.proofs.lemmas.Nat.{from_le_bytes-to_le_bytes_8}
 use Rattle.zerotrie_sealed.specs.Laws.{IndexIsBehind}
-use Rattle.zerotrie_index.specs.InBlocks.{HasItsBlocks, HasTableOf, IsRightBlock, MayBeIndex, block_of}
+use Rattle.zerotrie_index.specs.InBlocks.{HasItsBlocks, HasTableOf, IsRightBlock, MayBeIndex, block_of, IsCause, FailsInBlock, IsBlockFault, IsBlockFor, FailsInBlocks, IsPartFault}
 use Rattle.zerotrie_index.specs.declared.in_blocks.Front.{Front}
-use Rattle.zerotrie_index.specs.Placed.{IsPart}
+use Rattle.zerotrie_index.specs.Placed.{HasPart, IsPart, MayStill, FailsNoMore}
 use Rattle.zerotrie_index.proofs.PlacedLemmas.{joined}
 
 -- the header and the table that were read are what a file begins with
@@ -71,6 +74,58 @@ block_part MayHold block part front place offset count read whole right at some 
 
 pub long_part : (block : List ℕ) (offset count : ℕ) → count + offset ≤ length block → length (take count (drop offset block)) ≡ count
 long_part block offset count within = length-take-le count (drop offset block) (let left = length-drop offset block in omega (arith, left, within))
+
+-- what was read fills the room
+pub filled_part : (MayHold : List ℕ → Type 0) (place start number len : ℕ) (room items : List ℕ) → IsPart MayHold place room → place ≡ start + 65536 * number → length room ≡ len
+    → IsPart MayHold (start + 65536 * number) (take len (room ++ drop (length room) items))
+filled_part MayHold place start number len room items read is long = λ bytes may.
+    let all : take len (room ++ drop (length room) items) ≡ room = ap (λ n. take n (room ++ drop (length room) items)) (sym long) ∙ take-append_seam room (drop (length room) items) in
+    subst (λ r. HasPart (start + 65536 * number) r bytes) (sym all) (subst (λ n. HasPart n room bytes) is (read bytes may))
+
+-- ---- why a part is not read
+
+-- a block whose checksum is wrong is so in each file that may be held
+pub wrong_block : (MayHold : List ℕ → Type 0) (front : Front) (number : ℕ) (block : List ℕ) → IsPart MayHold (front.start + 65536 * number) block
+    → length block ≡ min 65536 (front.index_len - 65536 * number) → 65536 * number ≤ front.index_len → (IsRightBlock front.sums.items number block → ⊥) → IsBlockFault MayHold front number Checksum
+wrong_block MayHold front number block read long within wrong = λ file may right.
+    wrong (subst (IsRightBlock front.sums.items number) (sym (is_block block file front.start front.index_len number (read file may) long within)) right)
+
+pub block_cause : {E : Type 0} (MayHold : List ℕ → Type 0) (MayRefuse : ℕ → ℕ → E → Type 0) (IsMemory : E → Type 0) (IsTold : SealError → E → Type 0) (front : Front) (place count number : ℕ) (e : E)
+    → IsBlockFor front place count number → IsCause (FailsInBlock MayRefuse front number) IsMemory IsTold (IsBlockFault MayHold front number) e
+    → IsCause (FailsInBlocks MayRefuse front place count) IsMemory IsTold (IsPartFault MayHold front place count) e
+block_cause MayHold MayRefuse IsMemory IsTold front place count number e has (inl refused) = inl (number, has, refused)
+block_cause MayHold MayRefuse IsMemory IsTold front place count number e has (inr (inl memory)) = inr (inl memory)
+block_cause MayHold MayRefuse IsMemory IsTold front place count number e has (inr (inr told)) = inr (inr (told.0, told.1, inr (number, has, told.2)))
+
+block_before : (Before After : List ℕ → Type 0) (front : Front) (number : ℕ) (why : SealError) → MayStill Before After → IsBlockFault After front number why → IsBlockFault Before front number why
+block_before Before After front number NoMagic same fault = fault
+block_before Before After front number (UnknownVersion v) same fault = fault
+block_before Before After front number (UnknownKind k) same fault = fault
+block_before Before After front number CutShort same fault = fault
+block_before Before After front number TooLong same fault = fault
+block_before Before After front number Checksum same fault = λ file may. fault file (same file may)
+
+-- a block that has some of a part of a part has some of that
+wider : (front : Front) (place count next most number : ℕ) → place ≤ next → next + most ≡ place + count → IsBlockFor front next most number → IsBlockFor front place count number
+wider front place count next most number from to has =
+    let all = has.0 in let up = has.1 in let down = has.2 in (omega (arith, to, all), omega (arith, to, up), omega (arith, from, down))
+
+part_before : (Before After : List ℕ → Type 0) (front : Front) (place count next most : ℕ) (why : SealError) → MayStill Before After → place ≤ next → next + most ≡ place + count
+    → IsPartFault After front next most why → IsPartFault Before front place count why
+part_before Before After front place count next most why same from to (inl cut) = inl (cut.0, let far = cut.1 in omega (arith, to, far))
+part_before Before After front place count next most why same from to (inr wrong) =
+    inr (wrong.0, wider front place count next most wrong.0 from to wrong.1, block_before Before After front wrong.0 why same wrong.2)
+
+-- why a part of a part is not read is why that is not, also if something was read before
+pub cause_before : {E : Type 0} (Before After : List ℕ → Type 0) (Could May : ℕ → ℕ → E → Type 0) (IsMemory : E → Type 0) (IsTold : SealError → E → Type 0) (front : Front) (place count next most : ℕ) (e : E)
+    → MayStill Before After → FailsNoMore Could May → place ≤ next → next + most ≡ place + count
+    → IsCause (FailsInBlocks May front next most) IsMemory IsTold (IsPartFault After front next most) e
+    → IsCause (FailsInBlocks Could front place count) IsMemory IsTold (IsPartFault Before front place count) e
+cause_before Before After Could May IsMemory IsTold front place count next most e same fewer from to (inl refused) =
+    inl (refused.0, wider front place count next most refused.0 from to refused.1, fewer _ _ e refused.2)
+cause_before Before After Could May IsMemory IsTold front place count next most e same fewer from to (inr (inl memory)) = inr (inl memory)
+cause_before Before After Could May IsMemory IsTold front place count next most e same fewer from to (inr (inr told)) =
+    inr (inr (told.0, told.1, part_before Before After front place count next most told.0 same from to told.2))
 
 -- ---- a sealed index
 

@@ -3,6 +3,7 @@ mod BucketLemmas
 mod CrowdLemmas
 mod HashLemmas
 mod InBlocksLemmas
+mod FrontLemmas
 mod LentLemmas
 mod PermutedLemmas
 mod PlacedLemmas

@@ -1,9 +1,12 @@
 -- A sealed index in blocks that is read at places.
-use Rattle.std.specs.Prelude.{◌≡◌, ◌*◌, ◌<◌, ◌^◌, ℕ, List, ◌++◌, take, drop}
+use Rattle.std.specs.Prelude.{◌≡◌, ◌⊎◌, ◌+◌, ◌-◌, ◌*◌, ◌<◌, ◌≤◌, ◌^◌, ℕ, List, ◌++◌, length, take, drop, min}
 use Rattle.std.specs.Int.{w32, w64, to_le_bytes}
 use Rattle.zerotrie_sealed.specs.Checksum.{crc32c}
 use Rattle.zerotrie_index.specs.declared.in_blocks.Front.{Front}
-use Rattle.zerotrie_sealed.specs.Sealed.{block_len, HasFront, IsSealedIndex}
+use Rattle.zerotrie_sealed.specs.Faults.{length_in, table_in, IsTableFault, IsTableRightBefore}
+use Rattle.zerotrie_sealed.specs.Sealed.{block_len, HasFront, IsSealedInBlocks, IsSealedIndex}
+use Rattle.zerotrie_sealed.specs.declared.reading.SealError.{SealError}
+use Rattle.zerotrie_sealed.specs.declared.reading.SealError.TheVariants.{NoMagic, UnknownVersion, UnknownKind, CutShort, TooLong, Checksum}
 
 -- in the front of a file, behind its header, are this length and these checksums
 abbrev pub HasTableOf : ℕ → ℕ → List ℕ → List ℕ → Type 0
@@ -29,3 +32,43 @@ MayBeIndex MayHold front bytes = (file : List ℕ) × MayHold file × HasTableOf
 -- an index that is sealed in blocks has those of its file
 abbrev pub HasItsBlocks : Type 0
 HasItsBlocks = (index file : List ℕ) (start : ℕ) → IsSealedIndex index file → HasFront start file → HasRightBlocks start file index
+
+-- why a call failed that reads at places: a read did, or an allocation, or this is wrong with what is read
+abbrev pub IsCause : {E : Type 0} → (IsRefused IsMemory : E → Type 0) → (IsTold : SealError → E → Type 0) → (IsWrong : SealError → Type 0) → E → Type 0
+IsCause IsRefused IsMemory IsTold IsWrong e = IsRefused e ⊎ (IsMemory e ⊎ ((why : SealError) × IsTold why e × IsWrong why))
+
+-- a read fails so of the front of each file that may be held
+abbrev pub FailsInFront : {E : Type 0} → (MayHold : List ℕ → Type 0) → (MayRefuse : ℕ → ℕ → E → Type 0) → E → Type 0
+FailsInFront MayHold MayRefuse e = (at : ℕ) × (n : ℕ) × ((file : List ℕ) → MayHold file → at + n ≤ 24 + length_in file) × MayRefuse at n e
+
+-- this is wrong with the front of each file that may be held, what is looked at before is right, and none is an index in blocks
+abbrev pub IsFrontFault : (List ℕ → Type 0) → SealError → Type 0
+IsFrontFault MayHold why = (file : List ℕ) → MayHold file → length file < 2 ^ 64
+    → (IsTableFault file (table_in file) why × IsTableRightBefore file (table_in file) why) × ((index : List ℕ) → IsSealedInBlocks index file → ⊥)
+
+-- a read of the block of this number fails so
+abbrev pub FailsInBlock : {E : Type 0} → (MayRefuse : ℕ → ℕ → E → Type 0) → Front → ℕ → E → Type 0
+FailsInBlock MayRefuse front number e = MayRefuse (front.start + block_len * number) (min block_len (front.index_len - block_len * number)) e
+
+-- this is wrong with the block of this number: it would be behind 2^64 bytes, or no file that may be held has it with its checksum
+abbrev pub IsBlockFault : (List ℕ → Type 0) → Front → ℕ → SealError → Type 0
+IsBlockFault MayHold front number NoMagic = ⊥
+IsBlockFault MayHold front number (UnknownVersion version) = ⊥
+IsBlockFault MayHold front number (UnknownKind kind) = ⊥
+IsBlockFault MayHold front number CutShort = 2 ^ 64 ≤ front.start + block_len * number
+IsBlockFault MayHold front number TooLong = ⊥
+IsBlockFault MayHold front number Checksum = (file : List ℕ) → MayHold file
+    → IsRightBlock front.sums.items number (block_of number (take front.index_len (drop front.start file))) → ⊥
+
+-- the index has as many bytes from the place on, and some of them are in the block of this number
+abbrev pub IsBlockFor : Front → ℕ → ℕ → ℕ → Type 0
+IsBlockFor front place count number = (place + count ≤ front.index_len) × (block_len * number < place + count) × (place < block_len * number + block_len)
+
+-- this is wrong with as many bytes of the index from the place on: it has not all of them, or a block that has some is wrong
+abbrev pub IsPartFault : (List ℕ → Type 0) → Front → ℕ → ℕ → SealError → Type 0
+IsPartFault MayHold front place count why = ((why ≡ CutShort) × (front.index_len < place + count))
+    ⊎ ((number : ℕ) × IsBlockFor front place count number × IsBlockFault MayHold front number why)
+
+-- a read of a block fails so that has some of as many bytes of the index from the place on
+abbrev pub FailsInBlocks : {E : Type 0} → (MayRefuse : ℕ → ℕ → E → Type 0) → Front → ℕ → ℕ → E → Type 0
+FailsInBlocks MayRefuse front place count e = (number : ℕ) × IsBlockFor front place count number × FailsInBlock MayRefuse front number e

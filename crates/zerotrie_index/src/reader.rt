@@ -67,11 +67,8 @@ pub(crate) fn read_record(bytes: &[u8]) -> Option<Record<'_>>
     let (len, rest) = read_number(bytes)?;
     let (value, rest) = read_word(rest)?;
     let (key, rest) = rest.split_at_checked(len)?;
-    Some(Record {
-        key,
-        value: value as usize,
-        rest,
-    })
+    let value = usize::try_from(value).ok()?;
+    Some(Record { key, value, rest })
 }
 
 /// Finds the value of a key among records.
@@ -111,7 +108,8 @@ pub(crate) fn parts_of(bytes: &[u8]) -> Option<Parts<'_>>
     let (seed, rest) = read_word(bytes)?;
     let (count, rest) = read_word(rest)?;
     let count = u32::try_from(count).ok()?;
-    let (table, pool) = rest.split_at_checked(8 * (count as usize + 1))?;
+    let len = (count as usize).checked_add(1)?.checked_mul(8)?;
+    let (table, pool) = rest.split_at_checked(len)?;
     Some(Parts {
         seed,
         count,

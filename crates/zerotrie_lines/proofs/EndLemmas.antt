@@ -1,5 +1,5 @@
 -- Line ends and byte order marks.
-use Rattle.std.proofs.Common.{◌≡◌, ℕ, ◌≤◌, inl, inr, List, [], ◌∷◌, ◌++◌, length, map, drop, refl, sym, ◌∙◌, ap, arith, Bool, true, false}
+use Rattle.std.proofs.Common.{◌≡◌, ℕ, inl, inr, List, [], ◌∷◌, ◌++◌, map, drop, refl, sym, ◌∙◌, ap, arith, Bool, true, false}
 use Rattle.std.specs.Prelude.{◌≢◌, ◌==◌, if◌then◌else◌}
 use Rattle.std.specs.List.{before_first, after_first}
 use Rattle.std.proofs.lemmas.Bool.Decides.{eqb_tells}
@@ -73,12 +73,6 @@ mark_off [] h = absurd (cc h)
 mark_off (a ∷ []) h = absurd (cc h)
 mark_off (a ∷ b ∷ []) h = absurd (cc h)
 mark_off (a ∷ b ∷ c ∷ rest) h = rw h refl
-
-pub mark_some : (xs : List ℕ) → has_mark xs ≡ true → 3 ≤ length xs
-mark_some [] h = absurd (cc h)
-mark_some (a ∷ []) h = absurd (cc h)
-mark_some (a ∷ b ∷ []) h = absurd (cc h)
-mark_some (a ∷ b ∷ c ∷ rest) h = omega arith
 
 -- and where there is none, nothing is left out
 pub no_mark : (xs : List ℕ) → has_mark xs ≡ false → strip_bom xs ≡ xs

@@ -60,9 +60,6 @@ pub record SpeltTo (text key rest : List ℕ) : Type 0 where
   pub join : (more : List ℕ) → Spells rest more → Spells text (key ++ more)
   pub split : (all : List ℕ) → Spells text all → (more : List ℕ) × Spells rest more
 
-pub spelt_none : (text : List ℕ) → SpeltTo text [] text
-spelt_none text = record { join = λ more h. h; split = λ all h. (all, h) }
-
 pub spelt_more : (text key rest after : List ℕ) (b : ℕ) → SpeltTo text key rest → SpellsFirst rest b after → SpeltTo text (key ++ b ∷ []) after
 spelt_more text key rest after b s first = record {
   join = λ more h. subst (λ k. Spells text k) (sym (append_assoc key (b ∷ []) more)) (s.join (b ∷ more) (after, first, h));

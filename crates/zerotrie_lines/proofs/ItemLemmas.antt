@@ -229,19 +229,3 @@ other_stop end all place within none here other =
 pub pairs_push : (items : List (Bor (List ℕ) × ℕ)) (item : Bor (List ℕ) × ℕ) → pairs_of (items ++ item ∷ []) ≡ pairs_of items ++ (item.0.now, item.1) ∷ []
 pairs_push [] item = refl
 pairs_push (e ∷ items) item = ap (λ p. (e.0.now, e.1) ∷ p) (pairs_push items item)
-
--- a front of an input is as many of its first bytes as it has
-pub front_again : (n : ℕ) (all front : List ℕ) → front ≡ take n all → front ≡ take (length front) all
-front_again n all front is = is ∙ again n all ∙ ap (λ f. take (length f) all) (sym is)
-  where
-    again : (n : ℕ) (xs : List ℕ) → take n xs ≡ take (length (take n xs)) xs
-    again zero xs = refl
-    again (suc n) [] = refl
-    again (suc n) (x ∷ xs) = ap (λ t. x ∷ t) (again n xs)
-
--- a front of a front is one
-pub front_of_front : (k n : ℕ) (xs : List ℕ) → take k (take n xs) ≡ take (length (take k (take n xs))) xs
-front_of_front zero n xs = refl
-front_of_front (suc k) zero xs = refl
-front_of_front (suc k) (suc n) [] = refl
-front_of_front (suc k) (suc n) (x ∷ xs) = ap (λ t. x ∷ t) (front_of_front k n xs)

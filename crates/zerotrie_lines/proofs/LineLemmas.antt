@@ -94,10 +94,6 @@ pub after_shorter : (input : List ℕ) → input ≢ [] → length (after_first 
 after_shorter [] some = absurd (some refl)
 after_shorter (b ∷ input) some = omega (arith, length-drop (position_or_len is_feed (b ∷ input) + 1) (b ∷ input))
 
-pub nil_of_length : (xs : List ℕ) → length xs ≡ 0 → xs ≡ []
-nil_of_length [] l = refl
-nil_of_length (b ∷ xs) l = absurd (omega (arith, l))
-
 -- a text none of whose bytes is a backslash
 pub lacks_slash : (key : List ℕ) → ((k : ℕ) → k < length key → get_or key k 0 ≢ 92) → Contains key 92 → ⊥
 lacks_slash key none h = none h.0 h.1 (get_or_default key h.0 0 92 h.1 ∙ h.2)

@@ -23,9 +23,6 @@ tabbed_pair false n line e h = h
 pub read_none : (first : ℕ) (format : Format) (all : List (List ℕ)) → ReadTo first format all [] first all
 read_none first format all = record { join = λ more h. h }
 
-pub good_none : (first : ℕ) (raw : Bool) (all : List (List ℕ)) → GoodTo first raw all first all
-good_none first raw all = record { bad = λ m fault h. h }
-
 pub read_more : (first : ℕ) (format : Format) (all rest after : List (List ℕ)) (pairs : Pairs) (n : ℕ) (line : List ℕ) (e : Pair) → ReadTo first format all pairs n rest
     → rest ≡ line ∷ after → IsPairIn format n line e → ReadTo first format all (pairs ++ e ∷ []) (n + 1) after
 read_more first format all rest after pairs n line e r is pair = record {

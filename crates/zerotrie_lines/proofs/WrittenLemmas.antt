@@ -1,11 +1,12 @@
 -- How a key is written, character by character.
-use Rattle.std.proofs.Common.{◌≡◌, ℕ, zero, suc, ◌-◌, ◌<◌, ◌≤◌, ◌⊎◌, inl, inr, List, [], ◌∷◌, ◌++◌, length, take, drop, refl, sym, ◌∙◌, ap, arith, Bool, true, false}
+use Rattle.std.proofs.Common.{◌≡◌, ℕ, zero, suc, ◌+◌, ◌-◌, ◌<◌, ◌≤◌, ◌⊎◌, inl, inr, List, [], ◌∷◌, ◌++◌, length, take, drop, refl, sym, ◌∙◌, ap, arith, append_assoc, Bool, true, false}
 use Rattle.std.specs.Prelude.{◌≢◌, ◌==◌, ◌&&◌, ◌||◌, not, nat_le, nat_lt, if◌then◌else◌}
 use Rattle.std.specs.List.{list_all}
+use Rattle.std.proofs.Math.Seq.{take-add, drop-drop}
 use Rattle.std.proofs.lemmas.Bool.{ne_eqb}
 use Rattle.std.proofs.lemmas.Bool.Decides.{leb_tells}
 use Rattle.csv.specs.Reading.{is_bom}
-use Rattle.zerotrie_lines.specs.Escapes.{is_plain, is_trail, are_two, are_unseen, are_three, are_four, len_of_two, len_of_three, len_of_four, shown_len, escape_of, escaped_behind, escaped}
+use Rattle.zerotrie_lines.specs.Escapes.{is_plain, is_trail, are_two, are_unseen, are_three, are_four, len_of_two, len_of_three, len_of_four, shown_len, escaped_behind, escaped}
 
 both : (p q : Bool) → (p && q) ≡ true → (p ≡ true) × (q ≡ true)
 both true true h = (refl, refl)
@@ -122,11 +123,6 @@ shown_by b key =
       | inr large ↦ let l = at_least 256 b large in record { high = omega arith; other = λ e. omega (arith, e, l); wide = tt; within = omega arith; some = refl }
     ])) (λ none. two_by b key (below b none))
 
--- the first character is in the key
-pub shown_within : (key : List ℕ) → shown_len key ≤ length key
-shown_within [] = omega arith
-shown_within (b ∷ key) = elim (shown_by b key) [ inl none ↦ omega (arith, none.0) | inr some ↦ some.within ]
-
 -- bytes of ASCII that are themselves
 pub all_plain : (key : List ℕ) → list_all is_plain key ≡ true → escaped key ≡ key
 unfolding escaped
@@ -140,11 +136,6 @@ unfolding escaped
 behind_is zero key = refl
 behind_is (suc n) [] = refl
 behind_is (suc n) (b ∷ key) = ap (λ t. b ∷ t) (behind_is n key)
-
--- a key whose first byte has an escape
-pub escaped_first : (b : ℕ) (key : List ℕ) → shown_len (b ∷ key) ≡ 0 → escaped (b ∷ key) ≡ escape_of b ++ escaped key
-unfolding escaped
-escaped_first b key none = rw none refl
 
 kept_first : (b n : ℕ) (key : List ℕ) → shown_len (b ∷ key) ≡ suc n → escaped (b ∷ key) ≡ b ∷ escaped_behind n key
 unfolding escaped
@@ -172,3 +163,12 @@ no_bom c d is =
     neither : (p q : Bool) → (p || q) ≡ false → p ≡ false
     neither true q h = absurd (cc h)
     neither false q h = refl
+
+-- a run of characters that are themselves, with one more
+pub shown_more : (key : List ℕ) (len n : ℕ) → take len key ++ escaped (drop len key) ≡ escaped key → n ≡ shown_len (drop len key) → n ≢ 0 → take (len + n) key ++ escaped (drop (len + n) key) ≡ escaped key
+shown_more key len n before is some =
+    let rest = drop len key in
+    ap (λ t. t ++ escaped (drop (len + n) key)) (take-add len n key)
+    ∙ append_assoc (take len key) (take n rest) (escaped (drop (len + n) key))
+    ∙ ap (λ t. take len key ++ t) (shown_first rest (take n rest) (drop (len + n) key) n is some refl (sym (drop-drop n len key)))
+    ∙ before

@@ -2,7 +2,6 @@
 use Rattle.std.proofs.Common.{◌≡◌, ℕ, zero, suc, ◌+◌, ◌-◌, ◌<◌, ◌≤◌, ◌++◌, List, [], ◌∷◌, length, take, drop, get_or, refl, sym, ◌∙◌, ap, arith, append-nil, Some, None}
 use Rattle.std.proofs.Math.Seq.{drop-cons}
 use Rattle.std.proofs.lemmas.Bool.{lt-ltb, le-ltb, lt-leb, le-leb}
-use Rattle.std.proofs.lemmas.List.{nil_from_length, length-drop}
 use Rattle.zerotrie_base.specs.Kind.{Kind}
 use Rattle.zerotrie_reverse.specs.Descent.{edge_over, value_of, value_at, key_at, key_by, after_step, step_towards, Passed}
 
@@ -24,10 +23,6 @@ one_byte bytes i h = rw (drop-cons bytes i 0 h)
 pub value_from : (bytes : List ℕ) (place : ℕ) → value_at bytes place ≡ value_of (drop place bytes)
 unfolding value_at
 value_from bytes place = refl
-
--- past the end there are no bytes
-pub nothing_past : (bytes : List ℕ) (place : ℕ) → length bytes ≤ place → drop place bytes ≡ []
-nothing_past bytes place h = nil_from_length (drop place bytes) (simp length-drop (omega arith))
 
 -- the key at a place is that of a descent that has passed nothing yet
 pub key_begun : (kind : Kind) (bytes : List ℕ) (place : ℕ) → key_at kind bytes place ≡ key_by place kind bytes place

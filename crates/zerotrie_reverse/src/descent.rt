@@ -31,7 +31,7 @@ fn branch_with<K: ZeroTrieWithOptions>(
     requires width { 1 ≤ width }
     ensures { option_map row_of result ≡ row_with K.kind edges width body.now }
 {
-    if edges < 2 || width > 8 {
+    if edges < 2 || width > usize::BITS as usize / 8 {
         return None;
     }
     let before = if K::USE_PHF && edges >= 16 {

@@ -22,10 +22,14 @@ struct PlacedFile<'a, D> {
 }
 
 impl<'a, D: Disk> ReadAt for PlacedFile<'a, D> {
-    ghost use Rattle.std.specs.Prelude.{◌≡◌, Some};
+    ghost use Rattle.std.specs.Prelude.{◌≡◌, Some, IfSome};
+    ghost use Rattle.zerotrie_files.specs.Disks.{IsPartUnread};
     ghost use Rattle.zerotrie_run.specs.Runs.{held_at};
 
     ghost MayHold = { λ file bytes. held_at (D.story file.disk.now) file.path.now ≡ Some bytes };
+
+    ghost MayRefuse = { λ file place count e. D.is_fault e
+        × IfSome (D.story file.disk.now) (λ known. IsPartUnread file.path.now place count known e) };
 
     type Error = io::Error;
 

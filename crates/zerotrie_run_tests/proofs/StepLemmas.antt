@@ -1,13 +1,16 @@
 -- What a step changes.
-use Rattle.std.proofs.Common.{◌≡◌, ◌≢◌, ◌⊎◌, ◌∙◌, inl, inr, ℕ, Result, Ok, Err, OnOk, OnErr, is_err, ◌||◌, append-nil, List, [], ◌∷◌, ◌++◌, reverse, cond, Option, Some, None, bytes_eq, string_bytes, String, Vec, Global, Bor, is_some, Bool, true, false, option_map, sym, refl}
+use Rattle.std.proofs.Common.{◌≡◌, ◌≢◌, ◌⊎◌, ◌∙◌, inl, inr, ℕ, Result, Ok, Err, OnOk, OnErr, is_err, ◌||◌, append-nil, List, [], ◌∷◌, ◌++◌, reverse, cond, Option, Some, None, bytes_eq, string_bytes, String, Vec, Global, Bor, is_some, Bool, true, false, option_map, sym, refl, ap}
 use Rattle.std.proofs.lemmas.List.{reverse-append}
 use Rattle.std.proofs.lemmas.List.Elements.{All-nil, All-cons}
 use Rattle.std.specs.declared.io.Error.{Error}
 use Rattle.std.proofs.lemmas.Slice.Eq.{bytes_eq-Decides}
+use Rattle.std.proofs.lemmas.Grind.{flat_map-append}
+use Rattle.zerotrie_files.specs.Deeds.Deed.{filled, moved}
+use Rattle.zerotrie_files.specs.declared.found.Mode.{Mode}
 use Rattle.zerotrie_files.specs.Disks.{Files, Passes, Same, SameBeside, Gone, Moved, Holds, Removes, RemovesHeld}
 use Rattle.zerotrie_run_tests.specs.declared.memory.Step.{Step}
-use Rattle.zerotrie_run_tests.specs.declared.memory.Step.TheVariants.{Wrote, Renamed, Removed}
-use Rattle.zerotrie_run_tests.specs.Steps.{after, files_after, moments_after, story_of, IsRemoval}
+use Rattle.zerotrie_run_tests.specs.declared.memory.Step.TheVariants.{Wrote, Filled, Renamed, Removed}
+use Rattle.zerotrie_run_tests.specs.Steps.{after, deeds_after, deeds_of, files_after, moments_after, story_of, IsRemoval}
 
 pick_first : (b : Bool) (x y : Option (List ℕ)) → b ≡ true → cond b x y ≡ x
 pick_first true x y e = refl
@@ -32,6 +35,10 @@ there path other x y off = pick_next (bytes_eq path other) x y (λ e. off (sym (
 pub written : (name : String Global) (bytes : Vec ℕ Global) (path : List ℕ) (old : Files) → string_bytes name ≡ path → Holds path bytes.items old (after (Wrote name bytes) old)
 written name bytes path old is = rw is (here path (Some bytes.items) (old path), λ other off. there path other (Some bytes.items) (old other) off)
 
+pub filled_file : (name : String Global) (mode : Option Mode) (bytes : Vec ℕ Global) (path : List ℕ) (old : Files) → string_bytes name ≡ path
+    → Holds path bytes.items old (after (Filled name mode bytes) old)
+filled_file name mode bytes path old is = written name bytes path old is
+
 pub removed : (name : String Global) (path : List ℕ) (old : Files) → string_bytes name ≡ path → SameBeside path old (after (Removed name) old) × (after (Removed name) old path ≡ None)
 removed name path old is = rw is ((λ other off. there path other None (old other) off), here path None (old path))
 
@@ -42,8 +49,8 @@ moved_by from to old = record {
   others = λ other off far. there to other (old from) (cond (bytes_eq from other) None (old other)) far ∙ there from other None (old other) off;
 }
 
-pub moved : (from to : String Global) (old_path new_path : List ℕ) (old : Files) → string_bytes from ≡ old_path → string_bytes to ≡ new_path → Moved old_path new_path old (after (Renamed from to) old)
-moved from to old_path new_path old is_from is_to = rw (← is_from, ← is_to) (moved_by (string_bytes from) (string_bytes to) old)
+pub moved_file : (from to : String Global) (old_path new_path : List ℕ) (old : Files) → string_bytes from ≡ old_path → string_bytes to ≡ new_path → Moved old_path new_path old (after (Renamed from to) old)
+moved_file from to old_path new_path old is_from is_to = rw (← is_from, ← is_to) (moved_by (string_bytes from) (string_bytes to) old)
 
 -- what the files hold after a step
 pub now_after : (steps : List Step) (step : Step) (path : List ℕ) → files_after (reverse (steps ++ step ∷ [])) path ≡ after step (files_after (reverse steps)) path
@@ -88,3 +95,31 @@ removes_held path steps more was is (Ok u) done undone =
 removes_held path steps more was is (Err e) done undone =
     let old = files_after (reverse steps) in
     rw undone (no_step (λ files. Same old files ⊎ Gone path old files) steps was is (inl (λ other. refl)), λ other. refl)
+
+-- ---- what was done
+
+did_nothing : (steps : List Step) → deeds_after steps ≡ deeds_after steps ++ []
+did_nothing steps = sym (append-nil (deeds_after steps))
+
+pub did : (steps : List Step) (step : Step) → deeds_after (steps ++ step ∷ []) ≡ deeds_after steps ++ deeds_of step
+did steps step = flat_map-append deeds_of steps (step ∷ []) ∙ ap (λ d. deeds_after steps ++ d) (append-nil (deeds_of step))
+
+-- a file is filled, or moved
+pub did_fill : (steps : List Step) (name : String Global) (mode : Option Mode) (content : Vec ℕ Global) (path bytes : List ℕ) → string_bytes name ≡ path → content.items ≡ bytes
+    → deeds_after (steps ++ Filled name mode content ∷ []) ≡ deeds_after steps ++ filled path mode bytes ∷ []
+did_fill steps name mode content path bytes is has =
+    did steps (Filled name mode content) ∙ ap (λ p. deeds_after steps ++ filled p mode content.items ∷ []) is ∙ ap (λ b. deeds_after steps ++ filled path mode b ∷ []) has
+
+pub did_move : (steps : List Step) (from to : String Global) (old new : List ℕ) → string_bytes from ≡ old → string_bytes to ≡ new
+    → deeds_after (steps ++ Renamed from to ∷ []) ≡ deeds_after steps ++ moved old new ∷ []
+did_move steps from to old new is_old is_new =
+    did steps (Renamed from to) ∙ ap (λ p. deeds_after steps ++ moved p (string_bytes to) ∷ []) is_old ∙ ap (λ p. deeds_after steps ++ moved old p ∷ []) is_new
+
+-- a removal, or one that failed, is no deed
+pub did_remove : (path : List ℕ) (steps more : List Step) (r : Result (Unit {0}) Error) → OnOk r (IsRemoval path steps more) → OnErr r (more ≡ steps) → deeds_after more ≡ deeds_after steps ++ []
+did_remove path steps more (Ok u) done undone = ap deeds_after done.2 ∙ did steps (Removed done.0)
+did_remove path steps more (Err e) done undone = ap deeds_after undone ∙ did_nothing steps
+
+-- nor is a call that changed no step
+pub did_none : (steps more : List Step) → more ≡ steps → deeds_after more ≡ deeds_after steps ++ []
+did_none steps more same = ap deeds_after same ∙ did_nothing steps

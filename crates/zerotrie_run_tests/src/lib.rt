@@ -5,7 +5,7 @@
 
 mod memory;
 
-pub use memory::MemoryDisk;
+pub use memory::{MemoryDisk, replaced};
 
 #[cfg(test)]
 mod tests;

@@ -2,19 +2,24 @@
 
 ghost use Rattle.std.specs.Prelude.{◌≡◌, ◌≢◌, [], Some, None, option_map, reverse, take, OnOk, OnErr, eqb, codes, false};
 ghost use Rattle.std.specs.List.{starts_with};
+ghost use Rattle.std.specs.Prelude.{◌++◌, ◌∷◌, List, ℕ};
+ghost use Rattle.zerotrie_files.specs.Deeds.Deed.{filled, moved};
+ghost use Rattle.zerotrie_files.specs.Stores.{IsBeside};
 ghost use Rattle.zerotrie_files.specs.Disks.{IsFound};
-ghost use Rattle.zerotrie_run_tests.specs.Steps.{files_after, story_of, IsRemoval};
+ghost use Rattle.zerotrie_run_tests.specs.Steps.{deeds_after, files_after, story_of, IsRemoval};
 
 use std::alloc::Global;
 use std::io;
 use std::io::ErrorKind;
-use zerotrie_files::{Disk, Found, Mode};
+use zerotrie_files::{Disk, Found, Mode, replace_beside};
 
 /// What a disk did.
 #[derive(Drop)]
 enum Step {
-    /// A file at this path holds these bytes.
+    /// A file at this path holds these bytes: it was made, or is there from before.
     Wrote(String, Vec<u8>),
+    /// The file of this path was filled with these bytes, and got this mode.
+    Filled(String, Option<Mode>, Vec<u8>),
     /// The file of the first path has the second.
     Renamed(String, String),
     /// There is no file at this path.
@@ -40,7 +45,7 @@ fn held_after<'s>(steps: &'s [Step], path: &str) -> Option<&'s [u8]>
     match steps.split_last() {
         None => None,
         Some((step, before)) => match step {
-            Step::Wrote(name, bytes) => {
+            Step::Wrote(name, bytes) | Step::Filled(name, _, bytes) => {
                 if name.as_str() == path {
                     Some(bytes.as_slice())
                 } else {
@@ -124,7 +129,7 @@ impl MemoryDisk {
 impl Disk for MemoryDisk {
     ghost story = { λ disk. Some (story_of disk.steps.items disk.unremoved) };
 
-    ghost deeds = { λ _. None };
+    ghost deeds = { λ disk. Some (deeds_after disk.steps.items) };
 
     ghost leads = { λ disk path found.
         IsFound (files_after (reverse disk.steps.items) path) found };
@@ -217,13 +222,13 @@ impl Disk for MemoryDisk {
         Ok(true)
     }
 
-    fn fill(&mut self, path: &str, _mode: Option<Mode>, bytes: &[u8]) -> io::Result<()> {
+    fn fill(&mut self, path: &str, mode: Option<Mode>, bytes: &[u8]) -> io::Result<()> {
         if path.starts_with(".full") {
             return Err(io::Error::from(ErrorKind::StorageFull));
         }
         let name = String::from_str(self.alloc, path)?;
         let content = Vec::from_slice(self.alloc, bytes)?;
-        self.steps.push(Step::Wrote(name, content))?;
+        self.steps.push(Step::Filled(name, mode, content))?;
         Ok(())
     }
 
@@ -249,4 +254,14 @@ impl Disk for MemoryDisk {
     fn append(&mut self, _path: &str, _bytes: &[u8]) -> io::Result<()> {
         Err(io::Error::from(ErrorKind::Unsupported))
     }
+}
+
+/// Replaces a file of a disk in memory, and says what the disk did: it filled a file beside it and moved
+/// that to the path, and nothing else.
+pub fn replaced(alloc: Global, disk: &mut MemoryDisk, path: &str, bytes: &[u8]) -> io::Result<usize>
+    ensures { OnOk result ((beside : List ℕ) × IsBeside path.now beside
+        × (deeds_after disk.new.steps.items ≡ deeds_after disk.old.steps.items
+        ++ filled beside None bytes.now ∷ moved beside path.now ∷ [])) }
+{
+    replace_beside(alloc, disk, path, None, bytes)
 }

@@ -129,3 +129,16 @@ IsTableFault header table (UnknownKind number) = IsHeaderFault header (UnknownKi
 IsTableFault header table CutShort = length table < length_in header
 IsTableFault header table TooLong = length_in header < length table
 IsTableFault header table Checksum = HasSumOf table header → HasTableLen table → ⊥
+
+-- what is right of a header before an error of it, where its number is to be that of blocks
+abbrev pub IsHeaderRightBefore : List ℕ → SealError → Type 0
+IsHeaderRightBefore header e = IsRightBefore (λ number. number ≡ blocks_number) header e
+
+-- the same where the table was read, too: all of the header is looked at first, then the length of the table
+abbrev pub IsTableRightBefore : List ℕ → List ℕ → SealError → Type 0
+IsTableRightBefore header table NoMagic = IsHeaderRightBefore header NoMagic
+IsTableRightBefore header table (UnknownVersion number) = IsHeaderRightBefore header (UnknownVersion number)
+IsTableRightBefore header table (UnknownKind number) = IsHeaderRightBefore header (UnknownKind number)
+IsTableRightBefore header table CutShort = HasKnown (λ number. number ≡ blocks_number) header
+IsTableRightBefore header table TooLong = HasKnown (λ number. number ≡ blocks_number) header
+IsTableRightBefore header table Checksum = HasKnown (λ number. number ≡ blocks_number) header × (length table ≡ length_in header)

@@ -3,7 +3,7 @@
 ghost use Rattle.std.specs.Prelude.{◌≡◌, ◌*◌, ◌≤◌, ◌↔◌, IsTrue, IfOk, IfErr, IfSome, IfNone, ℕ, List, ◌++◌, length, take};
 ghost use Rattle.std.specs.Int.{w64, to_le_bytes};
 ghost use Rattle.zerotrie_sealed.specs.Sealed.{blocks_number, IsIndexNumber, block_count, sums_of, table_of, IsSealedAs, IsSealedInBlocks, IsSealedIndex};
-ghost use Rattle.zerotrie_sealed.specs.Faults.{HasKnown, HasSumOf, IsBlocksFault, IsBlocksRightBefore, IsIndexFault, IsIndexRightBefore, HasTableLen, HasTable, length_in, table_in, index_in, IsHeaderFault, IsTableFault, BeginsWithTable};
+ghost use Rattle.zerotrie_sealed.specs.Faults.{HasKnown, HasSumOf, IsBlocksFault, IsBlocksRightBefore, IsIndexFault, IsIndexRightBefore, HasTableLen, HasTable, length_in, table_in, index_in, IsHeaderFault, IsHeaderRightBefore, IsTableFault, IsTableRightBefore, BeginsWithTable};
 
 use crate::blocks::{are_sums, block_count};
 use crate::reading::{SealError, has_checksum, length_in, number_in, whole_in};
@@ -37,8 +37,8 @@ fn parts_of(table: &[u8]) -> Option<IndexTable<'_>>
     ensures some { IfSome result (λ _. HasTableLen table.now) }
     ensures none { IfNone result (HasTableLen table.now → ⊥) }
 {
-    let (index_len, sums) = table.split_first_chunk::<8>()?;
-    let index_len = usize::from_le_bytes(*index_len);
+    let (len, sums) = table.split_first_chunk::<8>()?;
+    let index_len = usize::try_from(u64::from_le_bytes(*len)).ok()?;
     if sums.len() != 4 * block_count(index_len) {
         return None;
     }
@@ -140,11 +140,12 @@ pub fn open_index(file: &[u8]) -> Result<&[u8], SealError>
 /// ```
 ///
 /// The errors are `NoMagic`, `UnknownVersion` and `UnknownKind`, also of a file that is sealed as a
-/// whole, with the number 24.
+/// whole, with the number 24. The parts are looked at in this order.
 pub fn table_len(header: &[u8; HEADER_LEN]) -> Result<usize, SealError>
     ensures len { IfOk result (λ len. len ≡ length_in header.now) }
     ensures known { IfOk result (λ _. HasKnown (λ number. number ≡ blocks_number) header.now) }
     ensures fault { IfErr result (IsHeaderFault header.now) }
+    ensures order { IfErr result (IsHeaderRightBefore header.now) }
     ensures none { IfErr result (λ _. (index file : List ℕ) → take 24 file ≡ header.now
         → IsSealedInBlocks index file → ⊥) }
 {
@@ -168,7 +169,8 @@ pub fn table_len(header: &[u8; HEADER_LEN]) -> Result<usize, SealError>
 /// ```
 ///
 /// What an error says is true of each file that begins with these bytes: none is a sealed index but
-/// one as a whole, of which `UnknownKind(24)` is returned.
+/// one as a whole, of which `UnknownKind(24)` is returned. The header is looked at first, then the
+/// length of the table and its checksum.
 pub fn open_table<'a>(
     header: &[u8; HEADER_LEN],
     table: &'a [u8],
@@ -180,6 +182,7 @@ pub fn open_table<'a>(
         → BeginsWithTable header.now table.now file → IsSealedInBlocks index file
         → (t.index_len ≡ length index) × (t.sums.now ≡ sums_of index)) }
     ensures fault { IfErr result (IsTableFault header.now table.now) }
+    ensures order { IfErr result (IsTableRightBefore header.now table.now) }
     ensures none { IfErr result (λ _. (index file : List ℕ)
         → BeginsWithTable header.now table.now file → IsSealedInBlocks index file → ⊥) }
 {

@@ -4,7 +4,7 @@ ghost use Rattle.std.specs.Prelude.{◌≡◌, ℕ, ◌+◌, ◌≤◌, ◌↔�
 ghost use Rattle.zerotrie_base.specs.Kind.{Kind, tag};
 ghost use Rattle.zerotrie_base.specs.Kinds.{kind_of, IsTag};
 ghost use Rattle.zerotrie_sealed.specs.Sealed.{magic, version, IsIndexNumber, IsSealed};
-ghost use Rattle.zerotrie_sealed.specs.Faults.{IsFileFault, IsHeaderFault, IsSealFault, HasKnown, IsRightBefore, IsSealRightBefore, IsIndexRightBefore, version_in, kind_in, length_in, HasSumOf};
+ghost use Rattle.zerotrie_sealed.specs.Faults.{IsFileFault, IsHeaderFault, IsHeaderRightBefore, IsSealFault, HasKnown, IsRightBefore, IsSealRightBefore, IsIndexRightBefore, version_in, kind_in, length_in, HasSumOf};
 
 use crate::checksum::crc32c_of_both;
 use crate::writing::{FRONT_LEN, HEADER_LEN, MAGIC, VERSION};
@@ -102,6 +102,7 @@ pub(crate) fn number_in(file: &[u8]) -> Result<u16, SealError>
     ensures alone { IfErr result (IsHeaderFault file.now) }
     ensures trie { IfErr result (IsSealRightBefore file.now) }
     ensures index { IfErr result (IsIndexRightBefore file.now) }
+    ensures blocks { IfErr result (IsHeaderRightBefore file.now) }
 {
     if !begins_sealed(file) {
         return Err(SealError::NoMagic);
@@ -137,10 +138,11 @@ pub(crate) fn length_in(file: &[u8]) -> usize
     ensures { result ≡ length_in file.now }
 {
     let (_, numbers) = file.split_at(12);
-    usize::from_le_bytes([
+    let len = u64::from_le_bytes([
         numbers[0], numbers[1], numbers[2], numbers[3], numbers[4], numbers[5], numbers[6],
         numbers[7],
-    ])
+    ]);
+    usize::try_from(len).unwrap_or(usize::MAX)
 }
 
 /// Returns the bytes behind the header of a file, if they are as many as it says.

@@ -5,16 +5,17 @@ use Rattle.std.specs.Borrow.{Bor}
 use Rattle.std.proofs.lemmas.Bool.{eq-eqb, ne_eqb, cases_eq, cases_lt, le-leb, lt-leb}
 use Rattle.std.proofs.lemmas.List.{append-nil, take_at}
 use Rattle.zerotrie_base.specs.Kind.{Kind, simple_ascii}
-use Rattle.zerotrie_base.specs.Maps.{Pairs, value_at, residual, behind_all, begins_some, with_run}
+use Rattle.zerotrie_base.specs.Maps.{Pairs, value_at, residual, behind_all, begins_some, edges, with_run}
 use Rattle.zerotrie_base.specs.Texts.{Lists}
 use Rattle.zerotrie_base.specs.Nodes.{Begins}
-use Rattle.zerotrie_core.proofs.CallerLemmas.{value_at-residual, begins_behind, some_pair}
+use Rattle.zerotrie_core.proofs.CallerLemmas.{value_at-residual, begins_behind, listed_size, some_pair}
 use Rattle.zerotrie_base.proofs.MapLemmas.Spans.{with_run-none, residual-run, residual-run_other, value_at-no_run}
 use Rattle.zerotrie_core.specs.ByteSets.{is_in}
 use Rattle.zerotrie_core.specs.Shapes.{branch_shape}
 use Rattle.zerotrie_search.specs.Paths.{SameFrom, NoneFrom, is_from}
-use Rattle.zerotrie_search.specs.Forks.{is_among, NoEdge, NoneBetween, SameEdges, Clear, IsFork, IsOver, IsOnWay, AreForks, Arrives, ArrivesOrEnds, EntersLeast, Stands, bound_by}
+use Rattle.zerotrie_search.specs.Forks.{is_among, need, IsOpen, NoEdge, NoneBetween, SameEdges, Clear, IsFork, IsOver, TakesLeast, TakesEdge, IsOnWay, AreForks, Arrives, ArrivesOrEnds, EntersLeast, Stands, bound_by}
 use Rattle.zerotrie_search.specs.declared.sorted.fork.Fork.{Fork}
+use Rattle.zerotrie_search.proofs.RoomLemmas.{leads_member, need_without}
 use Rattle.zerotrie_search.proofs.OrderLemmas.{some_none, from_low, from_high, from_same, from_none, one_from, lift, same_more, no_value, value_behind, behind_more, take_more}
 
 -- no key begins with a byte that leads nowhere
@@ -89,29 +90,29 @@ a_begin pairs c e = a_pair (residual c pairs) (sym (begins_behind pairs c) ∙ e
 pub same_begin : (p q : Pairs) → SameEdges p q → (c : ℕ) → begins_some p c ≡ begins_some q c
 same_begin p q same c = begins_behind p c ∙ ap some_pair (same c) ∙ sym (begins_behind q c)
 
-and_yes : (a b : Bool) → a ≡ true → (a && b) ≡ b
+pub and_yes : (a b : Bool) → a ≡ true → (a && b) ≡ b
 and_yes true b e = refl
 and_yes false b e = absurd (cc)
 
-and_no : (a b : Bool) → a ≡ false → (a && b) ≡ false
+pub and_no : (a b : Bool) → a ≡ false → (a && b) ≡ false
 and_no true b e = absurd (cc)
 and_no false b e = refl
 
-yes_first : (a b : Bool) → (a && b) ≡ true → a ≡ true
+pub yes_first : (a b : Bool) → (a && b) ≡ true → a ≡ true
 yes_first true b e = refl
 yes_first false b e = e
 
-yes_second : (a b : Bool) → (a && b) ≡ true → b ≡ true
+pub yes_second : (a b : Bool) → (a && b) ≡ true → b ≡ true
 yes_second true b e = e
 yes_second false b e = absurd (cc)
 
-le_no : (n c : ℕ) → c < n → nat_le n c ≡ false
+pub le_no : (n c : ℕ) → c < n → nat_le n c ≡ false
 le_no n c h = lt-leb n c h
 
-le_yes : (n c : ℕ) → n ≤ c → nat_le n c ≡ true
+pub le_yes : (n c : ℕ) → n ≤ c → nat_le n c ≡ true
 le_yes n c h = le-leb n c h
 
-le_is : (n c : ℕ) → nat_le n c ≡ true → n ≤ c
+pub le_is : (n c : ℕ) → nat_le n c ≡ true → n ≤ c
 le_is n c e = elim (cases_lt c n) [ inl low ↦ absurd (let no = le_no n c low in cc) | inr high ↦ high ]
 
 module _ {kind : Kind} {pairs : Pairs} {fork : Fork} {from : ℕ} (f : IsFork kind pairs fork from) where
@@ -130,29 +131,49 @@ module _ {kind : Kind} {pairs : Pairs} {fork : Fork} {from : ℕ} (f : IsFork ki
   fork_leads b here = a_begin pairs b (yes_second (nat_le from b) (begins_some pairs b) (sym (f.left b) ∙ here))
 
   -- without its least edge
-  pub fork_after : (b : ℕ) (new : Fork) → is_in fork.left b ≡ true → ((c : ℕ) → c < b → is_in fork.left c ≡ false) → new.branch ≡ fork.branch → ((c : ℕ) → is_in new.left c ≡ (not (c == b) && is_in fork.left c)) → IsFork kind pairs new (suc b)
-  fork_after b new here least branch removed = record {
+  fork_after : (b : ℕ) (new : Fork) → is_in fork.left b ≡ true → ((c : ℕ) → c < b → is_in fork.left c ≡ false) → ((c : ℕ) → is_in new.left c ≡ (not (c == b) && is_in fork.left c)) → (c : ℕ) → is_in new.left c ≡ (nat_le (suc b) c && begins_some pairs c)
+  fork_after b new here least removed c = elim (cases_lt c b) [
+    | inl low ↦ removed c ∙ ap (λ t. not (c == b) && t) (least c low) ∙ no_last (not (c == b)) ∙ sym (and_no (nat_le (suc b) c) (begins_some pairs c) (le_no (suc b) c (omega (arith, low))))
+    | inr high ↦ elim (cases_eq c b) [
+      | inl same ↦ removed c ∙ ap (λ t. not t && is_in fork.left c) (eq-eqb c b same) ∙ sym (and_no (nat_le (suc b) c) (begins_some pairs c) (le_no (suc b) c (omega (arith, same))))
+      | inr other ↦ (
+          let low = fork_from b here in
+          removed c ∙ ap (λ t. not t && is_in fork.left c) (ne_eqb c b other) ∙ f.left c ∙ and_yes (nat_le from c) (begins_some pairs c) (le_yes from c (omega (arith, low, high)))
+          ∙ sym (and_yes (nat_le (suc b) c) (begins_some pairs c) (le_yes (suc b) c (omega (arith, high, other))))
+          )
+    ]
+  ]
+    where
+      no_last : (t : Bool) → (t && false) ≡ false
+      no_last true = refl
+      no_last false = refl
+
+  pub takes_edge : (new : Fork) (r : Option (ℕ × Bor (List ℕ))) → TakesLeast kind pairs fork new r → TakesEdge kind pairs from new r
+  takes_edge new None over = fork_over over
+  takes_edge new (Some r) t = (fork_from r.0 t.0, fork_between r.0 t.1, t.2, fork_leads r.0 t.0, record { opens = t.3; left = fork_after r.0 new t.0 t.1 t.4 })
+
+-- an edge is taken off, for whose target there is room
+module _ (kind : Kind) (pairs : Pairs) (old new : Fork) (e : ℕ) (f : IsOpen kind pairs old) (here : is_in old.left e ≡ true) (removed : (c : ℕ) → is_in new.left c ≡ (not (c == e) && is_in old.left c)) (target : List ℕ) (text : Lists kind target (residual e f.below)) where
+  need_taken : suc (length target) + need kind f.below new.left (edges f.below) ≤ old.room
+  need_taken =
+      let less = need_without kind f.below old.left new.left e (edges f.below) (leads_member f.below e (f.edges e here).0 (λ none. (f.edges e here).1 (sym (f.same e) ∙ none))) here removed in
+      let size = listed_size text in
+      let enough = f.room in
+      omega (arith, less, size, enough)
+
+  pub has_room : old.room < suc (length target) → ⊥
+  has_room small = let enough = need_taken in omega (arith, small, enough)
+
+  pub taken_open : new.branch ≡ old.branch → suc (length target) + new.room ≡ old.room → IsOpen kind pairs new
+  taken_open branch room = record {
     bytes = f.bytes;
     below = f.below;
     text = f.text;
     begins = subst (λ x. Begins kind f.bytes (branch_shape x)) (sym branch) f.begins;
     same = f.same;
-    left = λ c. (elim (cases_lt c b) [
-      | inl low ↦ removed c ∙ ap (λ t. not (c == b) && t) (least c low) ∙ no_last (not (c == b)) ∙ sym (and_no (nat_le (suc b) c) (begins_some pairs c) (le_no (suc b) c (omega (arith, low))))
-      | inr high ↦ elim (cases_eq c b) [
-        | inl same ↦ removed c ∙ ap (λ t. not t && is_in fork.left c) (eq-eqb c b same) ∙ sym (and_no (nat_le (suc b) c) (begins_some pairs c) (le_no (suc b) c (omega (arith, same))))
-        | inr other ↦ (
-            let low = fork_from b here in
-            removed c ∙ ap (λ t. not t && is_in fork.left c) (ne_eqb c b other) ∙ f.left c ∙ and_yes (nat_le from c) (begins_some pairs c) (le_yes from c (omega (arith, low, high)))
-            ∙ sym (and_yes (nat_le (suc b) c) (begins_some pairs c) (le_yes (suc b) c (omega (arith, high, other))))
-            )
-      ]
-    ]);
+    edges = λ c h. f.edges c (yes_second (not (c == e)) (is_in old.left c) (sym (removed c) ∙ h));
+    room = let enough = need_taken in omega (arith, enough, room);
   }
-    where
-      no_last : (t : Bool) → (t && false) ≡ false
-      no_last true = refl
-      no_last false = refl
 
 -- the key goes on by its only edge from one byte on, or by an edge of a branch that is kept
 pub forks_more : (kind : Kind) (pairs : Pairs) (forks : List Fork) (key : List ℕ) (c : ℕ) → AreForks kind pairs key forks → NoEdge (behind_all key pairs) (suc c) → AreForks kind pairs (key ++ c ∷ []) forks
@@ -283,7 +304,7 @@ among_append c (x ∷ xs) ys = ap (λ t. (c == x) || t) (among_append c xs ys) �
     or_assoc true b d = refl
     or_assoc false b d = refl
 
-or_none : (t : Bool) → (t || false) ≡ t
+pub or_none : (t : Bool) → (t || false) ≡ t
 or_none true = refl
 or_none false = refl
 

@@ -1,5 +1,5 @@
 -- What is left of a sorted listing.
-use Rattle.std.proofs.Common.{◌≡◌, ℕ, List, [], ◌∷◌, ◌++◌, length, refl, sym, ◌∙◌, ap, subst, arith, ◌≤◌, Option, Some, None, Bool, true, false, cond, Ordering, Less, Equal, Greater}
+use Rattle.std.proofs.Common.{◌≡◌, ℕ, ◌-◌, List, [], ◌∷◌, ◌++◌, length, refl, sym, ◌∙◌, ap, subst, arith, ◌≤◌, Option, Some, None, Bool, true, false, cond, Ordering, Less, Equal, Greater}
 use Rattle.std.specs.Prelude.{T, filter, ◌&&◌}
 use Rattle.std.specs.Cmp.{tied_itself, unsigned_ties, eq_by_cmp_equiv}
 use Rattle.std.specs.Cmp.Lexicographic.{slice_cmp, nat_list_cmp_total, lists_ties}
@@ -19,8 +19,12 @@ use Rattle.zerotrie_search.specs.SortedLaws.{SortedAscends}
 use Rattle.zerotrie_base.specs.Maps.{Pairs, Map, map_of, value_at, same_key, Ascends}
 use Rattle.zerotrie_core.proofs.CallerLemmas.{same-entries, exact_same, exact_itself, entries-map_of}
 use Rattle.zerotrie_search.specs.Sets.{by_bytes}
-use Rattle.zerotrie_search.specs.Paths.{SameFrom, NoneFrom, is_from}
-use Rattle.zerotrie_search.specs.Forks.{pairs_from, first_bound}
+use Rattle.zerotrie_search.specs.Paths.{is_from}
+use Rattle.zerotrie_search.specs.Forks.{first_bound}
+use Rattle.zerotrie_search.specs.Walks.{AreFew, SameKeys, IsNext, pairs_where}
+use Rattle.zerotrie_core.specs.listing.Listed.{listed}
+use Rattle.zerotrie_core.proofs.ForCallers.{listed_pairs}
+use Rattle.std.proofs.lemmas.List.{nil_from_length}
 use Rattle.zerotrie_search.proofs.OrderLemmas.{one_from, from_none}
 
 -- keys are equal as the order of the map says
@@ -164,39 +168,73 @@ end_below (Included b) key q h g = le_more key q b h g
 end_below (Excluded b) key q h g = lt_more key q b h g
 end_below Unbounded key q h g = refl
 
--- a listing at a pair
-pub left_found : (pairs : Pairs) (to : Bound (List ℕ)) (bound key : List ℕ) (v : ℕ) → value_at simple_ascii pairs key ≡ Some v → SameFrom pairs bound key → is_up_to_end by_bytes to key ≡ true
-    → filter (λ e. is_from bound e.0 && is_up_to_end by_bytes to e.0) (entries (map_of pairs)) ≡ (key, v) ∷ filter (λ e. is_from (key ++ 0 ∷ []) e.0 && is_up_to_end by_bytes to e.0) (entries (map_of pairs))
-left_found pairs to bound key v here same ends =
-    first_left (map_of pairs) (λ q. is_from bound q && is_up_to_end by_bytes to q) (λ q. is_from (key ++ 0 ∷ []) q && is_up_to_end by_bytes to q) key v (same-entries pairs key ∙ here)
-    (ap (λ t. t && is_up_to_end by_bytes to key) (same key v here ∙ from_itself key) ∙ ends)
-    (λ q w e other. ap (λ t. t && is_up_to_end by_bytes to q) (same q w (sym (same-entries pairs q) ∙ e) ∙ sym (above_other key q other)))
-    (λ q t. sym (above_is key q) ∙ and_first (is_from (key ++ 0 ∷ []) q) (is_up_to_end by_bytes to q) t)
-
-pub left_none : (pairs : Pairs) (to : Bound (List ℕ)) (bound : List ℕ) → NoneFrom pairs bound → filter (λ e. is_from bound e.0 && is_up_to_end by_bytes to e.0) (entries (map_of pairs)) ≡ []
-left_none pairs to bound none =
-    filter_none (map_of pairs) (λ q. is_from bound q && is_up_to_end by_bytes to q) (λ q v e. ap (λ t. t && is_up_to_end by_bytes to q) (none q v (sym (same-entries pairs q) ∙ e)))
-
 beyond : (a b : Bool) → (a ≡ true → b ≡ true → ⊥) → (a && b) ≡ false
 beyond true true h = absurd (h refl refl)
 beyond true false h = refl
 beyond false b h = refl
 
-pub left_beyond : (pairs : Pairs) (to : Bound (List ℕ)) (bound key : List ℕ) → SameFrom pairs bound key → is_up_to_end by_bytes to key ≡ false → filter (λ e. is_from bound e.0 && is_up_to_end by_bytes to e.0) (entries (map_of pairs)) ≡ []
-left_beyond pairs to bound key same past =
-    filter_none (map_of pairs) (λ q. is_from bound q && is_up_to_end by_bytes to q)
-    (λ q v e. beyond (is_from bound q) (is_up_to_end by_bytes to q) (λ f u. (let t = end_below to key q (sym (same q v (sym (same-entries pairs q) ∙ e)) ∙ f) u in absurd (cc))))
+lt_le_more : (o : Ordering) → is_lt o ≡ true → is_le o ≡ true
+lt_le_more Less e = refl
+lt_le_more Equal e = absurd (cc)
+lt_le_more Greater e = absurd (cc)
 
--- the same pairs are left from bounds that the same keys are at least
-pub left_same : (pairs : Pairs) (to : Bound (List ℕ)) (x y : List ℕ) → SameFrom pairs x y → pairs_from pairs to x ≡ pairs_from pairs to y
-left_same pairs to x y same =
-    filter_alike (map_of pairs) (λ q. is_from x q && is_up_to_end by_bytes to q) (λ q. is_from y q && is_up_to_end by_bytes to q)
-    (λ q v e. ap (λ t. t && is_up_to_end by_bytes to q) (same q v (sym (same-entries pairs q) ∙ e)))
+module _ (pairs : Pairs) (to : Bound (List ℕ)) where
+  abbrev up : List ℕ → Bool
+  up q = is_up_to_end by_bytes to q
+
+  -- tests that agree choose the same pairs
+  pub chosen_same : (p r : List ℕ → Bool) → SameKeys pairs p r → pairs_where pairs to p ≡ pairs_where pairs to r
+  chosen_same p r same = filter_alike (map_of pairs) (λ q. p q && up q) (λ q. r q && up q) (λ q v e. ap (λ t. t && up q) (same q v (sym (same-entries pairs q) ∙ e)))
+
+  pub chosen_none : (p : List ℕ → Bool) → SameKeys pairs p (λ q. false) → pairs_where pairs to p ≡ []
+  chosen_none p none = filter_none (map_of pairs) (λ q. p q && up q) (λ q v e. ap (λ t. t && up q) (none q v (sym (same-entries pairs q) ∙ e)))
+
+  -- at a pair
+  module _ (p r : List ℕ → Bool) (key : List ℕ) (v : ℕ) (n : IsNext pairs p r key v) where
+    pub chosen_next : is_up_to_end by_bytes to key ≡ true → pairs_where pairs to p ≡ (key, v) ∷ pairs_where pairs to r
+    chosen_next ends =
+        first_left (map_of pairs) (λ q. p q && up q) (λ q. r q && up q) key v (same-entries pairs key ∙ n.value)
+        (ap (λ t. t && up key) n.here ∙ ends)
+        (λ q w e other. ap (λ t. t && up q) (n.others q w (sym (same-entries pairs q) ∙ e) other))
+        (λ q t. n.above q (and_first (r q) (up q) t))
+
+    -- past the end
+    pub chosen_beyond : is_up_to_end by_bytes to key ≡ false → pairs_where pairs to p ≡ []
+    chosen_beyond past = filter_none (map_of pairs) (λ q. p q && up q) (λ q w e. beyond (p q) (up q) (λ f u. by q w (sym (same-entries pairs q) ∙ e) f u (eq_by_cmp (slice_cmp nat_cmp) q key) refl))
+      where
+        by : (q : List ℕ) (w : ℕ) → value_at simple_ascii pairs q ≡ Some w → p q ≡ true → up q ≡ true → (t : Bool) → eq_by_cmp (slice_cmp nat_cmp) q key ≡ t → ⊥
+        by q w e f u true h = (let yes : up key ≡ true = ap up (tied_same q key h) ∙ u in let no = past in cc)
+        by q w e f u false h =
+            (let later = n.above q (sym (n.others q w e (not_tied q key h)) ∙ f) in let yes : up key ≡ true = end_below to key q (lt_le_more (slice_cmp nat_cmp key q) later) u in let no = past in cc)
+
+-- the same of what bytes list
+module _ {kind : Kind} {bytes : List ℕ} {pairs : Pairs} (lists : Lists kind bytes pairs) (to : Bound (List ℕ)) (p r : List ℕ → Bool) where
+  pub left_same : SameKeys pairs p r → pairs_where (listed kind bytes) to r ≡ pairs_where (listed kind bytes) to p
+  left_same same = subst (λ ps. pairs_where ps to r ≡ pairs_where ps to p) (sym (listed_pairs lists)) (sym (chosen_same pairs to p r same))
+
+  pub left_none : SameKeys pairs p (λ q. false) → pairs_where (listed kind bytes) to p ≡ []
+  left_none none = subst (λ ps. pairs_where ps to p ≡ []) (sym (listed_pairs lists)) (chosen_none pairs to p none)
+
+  pub left_few : (most : ℕ) → AreFew pairs to p most → most ≡ 0 → pairs_where (listed kind bytes) to p ≡ []
+  left_few most few none = subst (λ ps. pairs_where ps to p ≡ []) (sym (listed_pairs lists)) (nil_from_length (pairs_where pairs to p) (omega (arith, few, none)))
+
+  pub few_same : (most : ℕ) → SameKeys pairs p r → AreFew pairs to p most → AreFew pairs to r most
+  few_same most same few = let is = ap length (chosen_same pairs to p r same) in omega (arith, is, few)
+
+  module _ (key : List ℕ) (v : ℕ) (n : IsNext pairs p r key v) where
+    pub left_next : is_up_to_end by_bytes to key ≡ true → pairs_where (listed kind bytes) to p ≡ (key, v) ∷ pairs_where (listed kind bytes) to r
+    left_next ends = subst (λ ps. pairs_where ps to p ≡ (key, v) ∷ pairs_where ps to r) (sym (listed_pairs lists)) (chosen_next pairs to p r key v n ends)
+
+    pub left_beyond : is_up_to_end by_bytes to key ≡ false → pairs_where (listed kind bytes) to p ≡ []
+    left_beyond past = subst (λ ps. pairs_where ps to p ≡ []) (sym (listed_pairs lists)) (chosen_beyond pairs to p r key v n past)
+
+    pub few_next : (most : ℕ) → is_up_to_end by_bytes to key ≡ true → AreFew pairs to p most → AreFew pairs to r (most - 1)
+    few_next most ends few = let is = ap length (chosen_next pairs to p r key v n ends) in omega (arith, is, few)
 
 -- a listing has no more pairs than bytes
-pub few_from : {kind : Kind} {bytes : List ℕ} {pairs : Pairs} → Lists kind bytes pairs → (to : Bound (List ℕ)) (bound : List ℕ) → length (pairs_from pairs to bound) ≤ length bytes
-few_from {pairs = pairs} lists to bound =
-    let passes : List ℕ × ℕ → Bool = λ e. is_from bound e.0 && is_up_to_end by_bytes to e.0 in
+pub few_where : {kind : Kind} {bytes : List ℕ} {pairs : Pairs} → Lists kind bytes pairs → (to : Bound (List ℕ)) (p : List ℕ → Bool) → length (pairs_where pairs to p) ≤ length bytes
+few_where {pairs = pairs} lists to p =
+    let passes : List ℕ × ℕ → Bool = λ e. p e.0 && is_up_to_end by_bytes to e.0 in
     let count = length-filter passes (entries (map_of pairs)) in
     let fewer = count_by-le-length passes (entries (map_of pairs)) in
     let each = entries_count pairs in
@@ -209,7 +247,7 @@ first_from (Included b) q = refl
 first_from (Excluded b) q = above_is b q
 first_from Unbounded q = from_none q
 
-pub starts_left : (pairs : Pairs) (from to : Bound (List ℕ)) → pairs_from pairs to (first_bound from) ≡ within from to (map_of pairs)
+pub starts_left : (pairs : Pairs) (from to : Bound (List ℕ)) → pairs_where pairs to (is_from (first_bound from)) ≡ within from to (map_of pairs)
 starts_left pairs from to =
     filter_alike (map_of pairs) (λ q. is_from (first_bound from) q && is_up_to_end by_bytes to q) (λ q. bounds_contain by_bytes from to q)
     (λ q v e. ap (λ t. t && is_up_to_end by_bytes to q) (first_from from q))

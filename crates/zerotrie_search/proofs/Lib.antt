@@ -16,11 +16,15 @@ mod TableLemmas
 mod PlaceLemmas
 mod OrderLemmas
 pub mod PathLemmas
+mod RoomLemmas
 mod ForkLemmas
 mod LeftLemmas
 mod StandLemmas
+mod WalkLemmas
+mod NextLemmas
 mod SkipLemmas
 mod LastLemmas
 mod TurnLemmas
 mod NearestLemmas
 mod FoldLemmas
+mod ListingLemmas

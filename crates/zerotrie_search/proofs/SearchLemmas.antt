@@ -15,7 +15,7 @@ none_in_run : (accepts : List ℕ → Bool) (front : List ℕ) (pairs : Pairs) �
 none_in_run accepts front [] dead = refl
 none_in_run accepts front (e ∷ pairs) dead = rw (dead e.0) (none_in_run accepts front pairs dead)
 
-left_is : (a b : Left) → a.pairs ≡ b.pairs → a.ended ≡ b.ended → a ≡ b
+pub left_is : (a b : Left) → a.pairs ≡ b.pairs → a.ended ≡ b.ended → a ≡ b
 left_is a b p e = ap (λ ps. record { pairs = ps; ended = a.ended }) p ∙ ap (λ x. record { pairs = b.pairs; ended = x }) e
 
 pub skipped : (accepts : List ℕ → Bool) (front : List ℕ) (before after : Left) → ((more : List ℕ) → accepts (front ++ more) ≡ false) → Skips front before after → accepted_left accepts after ≡ accepted_left accepts before

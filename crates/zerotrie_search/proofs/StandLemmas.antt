@@ -1,5 +1,5 @@
 -- Where a sorted listing stands, node by node.
-use Rattle.std.proofs.Common.{◌≡◌, ℕ, suc, ◌<◌, List, [], ◌∷◌, ◌++◌, length, take, refl, sym, ◌∙◌, ap, subst, arith, Option, Some, None, Bool, true, false, cond, inl, inr, append_assoc, Ordering, Less, Equal, Greater, length-append}
+use Rattle.std.proofs.Common.{◌≡◌, ℕ, suc, ◌<◌, ◌≤◌, List, [], ◌∷◌, ◌++◌, length, take, refl, sym, ◌∙◌, ap, subst, arith, Option, Some, None, Bool, true, false, cond, inl, inr, append_assoc, Ordering, Less, Equal, Greater, length-append}
 use Rattle.std.specs.Prelude.{◌≢◌, ◌||◌, ◌&&◌, nat_le, reverse}
 use Rattle.std.specs.Borrow.{Bor}
 use Rattle.std.specs.Cmp.{nat_cmp_is, tied_itself, nat_cmp_total}
@@ -8,7 +8,7 @@ use Rattle.std.specs.Ordering.{nat_cmp, is_le, is_lt, ordering_then}
 use Rattle.std.proofs.lemmas.Bool.{eq-eqb, ne_eqb, cases_eq, cases_lt}
 use Rattle.std.proofs.lemmas.List.{append-nil, length-drop, take_all}
 use Rattle.zerotrie_base.specs.Kind.{Kind, simple_ascii}
-use Rattle.zerotrie_base.specs.Maps.{Pairs, value_at, residual, behind_all, begins_some, with_front, with_run, map_of}
+use Rattle.zerotrie_base.specs.Maps.{Pairs, value_at, residual, behind_all, begins_some, edges, with_front, with_run}
 use Rattle.zerotrie_base.specs.Branches.{before_edges}
 use Rattle.zerotrie_base.specs.Texts.{Lists, ListEach}
 use Rattle.zerotrie_base.specs.Texts.ListEach.{no_edge, edge}
@@ -27,16 +27,13 @@ use Rattle.zerotrie_core.specs.listing.Listed.{listed, listed_to, of_node, node_
 use Rattle.zerotrie_core.specs.declared.branch.Branch.{Branch}
 use Rattle.zerotrie_core.proofs.ForCallers.{listed_pairs}
 use Rattle.zerotrie_search.specs.Paths.{SameFrom, NoneFrom, is_from}
-use Rattle.zerotrie_search.specs.Forks.{is_among, NoEdge, SameEdges, IsFork, IsRun, AreForks, Arrives, ArrivesOrEnds, Stands, StandsOrEnds, Reaches, HasNext, Finds, Follows, IsPastValue, IsStart, pairs_from, first_bound, bound_by, bound_in}
-use Rattle.zerotrie_search.specs.Sets.{by_bytes}
-use Rattle.zerotrie_search.specs.Sorted.{within}
-use Rattle.std.specs.Range.Bound.{is_up_to_end}
-use Rattle.std.specs.declared.ops.Bound.{Bound}
+use Rattle.zerotrie_search.specs.Forks.{is_among, NoEdge, SameEdges, IsFork, IsRun, AreForks, Arrives, ArrivesOrEnds, Stands, StandsOrEnds, Follows, IsPastValue, bound_by, need}
 use Rattle.zerotrie_search.specs.declared.sorted.fork.Fork.{Fork}
 use Rattle.zerotrie_search.proofs.OrderLemmas.{some_none, from_low, from_same, one_from, lift, same_more, value_exact, behind_more}
 use Rattle.zerotrie_core.proofs.CallerLemmas.{value_at-residual}
-use Rattle.zerotrie_search.proofs.ForkLemmas.{forks_run, behind_is, to_run, run_key, same_value, past_edges, none_there, no_key, past_byte, arrived, stands_whole, front_from, same_begin}
-use Rattle.zerotrie_search.proofs.LeftLemmas.{le_more, above_other, left_found, left_beyond, left_none, left_same, few_from, starts_left}
+use Rattle.zerotrie_search.proofs.ForkLemmas.{yes_second, a_begin, forks_run, behind_is, to_run, run_key, same_value, past_edges, none_there, no_key, past_byte, arrived, stands_whole, front_from, same_begin}
+use Rattle.zerotrie_search.proofs.RoomLemmas.{need_opened, edge_byte}
+use Rattle.zerotrie_search.proofs.LeftLemmas.{le_more, above_other}
 
 -- the edges of a branch are the first bytes of its keys
 among_member : (c : ℕ) (edges : List ℕ) → is_among c edges ≡ member c edges
@@ -47,16 +44,29 @@ among_member c (e ∷ edges) = elim (cases_eq c e) [
 ]
 
 module _ {kind : Kind} {bytes : List ℕ} {below : Pairs} (text : Lists kind bytes below) (b : Branch) (begins : Begins kind bytes (branch_shape b)) where
-  pub fork_opened : (pairs : Pairs) → SameEdges below pairs → (f : Fork) (from : ℕ) → f.branch ≡ b → ((c : ℕ) → is_in f.left c ≡ (nat_le from c && is_among c (take b.edges b.behind.now))) → IsFork kind pairs f from
-  fork_opened pairs same f from is left =
+  -- the edges from some byte on are left
+  pub fork_left : (pairs : Pairs) → SameEdges below pairs → (f : Fork) (from : ℕ) → ((c : ℕ) → is_in f.left c ≡ (nat_le from c && is_among c (take b.edges b.behind.now))) → (c : ℕ) → is_in f.left c ≡ (nat_le from c && begins_some pairs c)
+  fork_left pairs same f from left c =
       let o = branch_opens text b.edges b.width b.table.now b.behind.now begins in
+      left c ∙ ap (λ t. nat_le from c && t) (among_member c (take b.edges b.behind.now) ∙ ap (member c) o.holds.edges_are ∙ sym (begins_each o.opens.each c) ∙ ap (λ ps. begins_some ps c) (sym o.opens.same) ∙ same_begin below pairs same c)
+
+  pub fork_opened : (pairs : Pairs) → SameEdges below pairs → (f : Fork) (from : ℕ) → f.branch ≡ b → f.room ≡ length b.behind.now → ((c : ℕ) → is_in f.left c ≡ (nat_le from c && is_among c (take b.edges b.behind.now))) → IsFork kind pairs f from
+  fork_opened pairs same f from is room left =
+      let are = fork_left pairs same f from left in
       record {
-        bytes = bytes;
-        below = below;
-        text = text;
-        begins = subst (λ x. Begins kind bytes (branch_shape x)) (sym is) begins;
-        same = same;
-        left = λ c. left c ∙ ap (λ t. nat_le from c && t) (among_member c (take b.edges b.behind.now) ∙ ap (member c) o.holds.edges_are ∙ sym (begins_each o.opens.each c) ∙ ap (λ ps. begins_some ps c) (sym o.opens.same) ∙ same_begin below pairs same c);
+        opens = record {
+          bytes = bytes;
+          below = below;
+          text = text;
+          begins = subst (λ x. Begins kind bytes (branch_shape x)) (sym is) begins;
+          same = same;
+          edges = λ c here. (
+              let begun = yes_second (nat_le from c) (begins_some pairs c) (sym (are c) ∙ here) in
+              (edge_byte text b.edges b.width b.table.now b.behind.now begins c (same_begin below pairs same c ∙ begun), a_begin pairs c begun)
+              );
+          room = subst (λ n. need kind below f.left (edges below) ≤ n) (sym room) (need_opened text b.edges b.width b.table.now b.behind.now begins f.left);
+        };
+        left = are;
       }
 
   pub branch_no_value : value_at simple_ascii below [] ≡ None
@@ -107,71 +117,12 @@ module _ {kind : Kind} {pairs : Pairs} {bound key bytes : List ℕ} {forks : Lis
         r.4,
       )
 
-  -- at a value
-  pub stands_value : (v : ℕ) (after : List ℕ) → Begins kind bytes (value v after) → Reaches kind pairs bound key v after forks
-  stands_value v after begins =
-      let o = value_opens s.text v after begins in
-      let here : value_at simple_ascii s.below [] ≡ Some v = ap (λ ps. value_at simple_ascii ps []) o.is in
-      let none : value_at simple_ascii o.below [] ≡ None = sym (value_exact kind o.below) ∙ canonical.no_value o.inner o.apart in
-      record {
-        value = s.value v here;
-        from = subst (λ x. SameFrom pairs bound (bound_by key x)) here s.from;
-        stands = record {
-          below = o.below;
-          text = o.inner;
-          same = λ c. ap (residual c) (sym o.is) ∙ s.same c;
-          value = λ w e. absurd (some_none w (sym e ∙ none));
-          way = s.way;
-          from = subst (λ x. SameFrom pairs (key ++ 0 ∷ []) (bound_by key x)) (sym none) (λ q w e. refl);
-        };
-      }
-
-  -- at a branch whose least edge was entered
-  pub stands_entered : (key' target : List ℕ) (forks' : List Fork) → value_at simple_ascii s.below [] ≡ None → Arrives kind pairs (key ++ 0 ∷ []) key' target forks' → Stands kind pairs bound key' target forks' × (target ≢ [])
-  stands_entered key' target forks' none a = (
-    arrived (record {
-      text = a.text;
-      some = a.some;
-      way = a.way;
-      from = same_more pairs bound (key ++ 0 ∷ []) key' (from_behind none) a.from;
-    }),
-    (λ e. a.some (nothing_listed a.text e)),
-  )
-
   -- some edge is left as long as there are bytes without a value
   pub stands_some : bytes ≢ [] → value_at simple_ascii s.below [] ≡ None → NoEdge (behind_all key pairs) 0 → ⊥
   stands_some some none edges = lists_some s.text some (none_there s.below none (λ c h. s.same c ∙ edges c h))
 
   pub stands_node : bytes ≢ [] → node_of kind bytes ≡ None → ⊥
   stands_node some none = lists_some s.text some (none_listed s.text none)
-
-  -- at the end of the bytes
-  module _ (over : bytes ≡ []) where
-    none_below : s.below ≡ []
-    none_below = nothing_listed s.text over
-
-    pub stands_over : NoneFrom (behind_all key pairs) (0 ∷ [])
-    stands_over = past_edges (behind_all key pairs) 0 (λ c h. sym (s.same c) ∙ ap (residual c) none_below)
-
-    pub stands_behind : SameFrom pairs bound (key ++ 0 ∷ [])
-    stands_behind = from_behind (ap (λ ps. value_at simple_ascii ps []) none_below)
-
-    pub stands_climbed : (key' target : List ℕ) (forks' : List Fork) → Arrives kind pairs (key ++ 0 ∷ []) key' target forks' → Stands kind pairs bound key' target forks' × (target ≢ [])
-    stands_climbed key' target forks' a = stands_entered key' target forks' (ap (λ ps. value_at simple_ascii ps []) none_below) a
-
-  -- a listing that stands there for its own bound
-  pub restand : Stands kind pairs (bound_in kind key bytes) key bytes forks
-  restand = record {
-    below = s.below;
-    text = s.text;
-    same = s.same;
-    value = s.value;
-    way = s.way;
-    from = subst (λ ps. SameFrom pairs (bound_by key (value_at simple_ascii ps [])) (bound_by key (value_at simple_ascii s.below []))) (sym (listed_pairs s.text)) (λ q w e. refl);
-  }
-
-  pub stands_from : SameFrom pairs bound (bound_in kind key bytes)
-  stands_from = subst (λ ps. SameFrom pairs bound (bound_by key (value_at simple_ascii ps []))) (sym (listed_pairs s.text)) s.from
 
 -- the value of a key is that of its rest behind its front
 pub value_front : (p q : List ℕ) (pairs : Pairs) → value_at simple_ascii (behind_all p pairs) q ≡ value_at simple_ascii pairs (p ++ q)
@@ -385,44 +336,6 @@ behind_shorter kind bytes n w table behind b =
     let lead = ap length b.begins.spells.bytes_are in
     let parts = length-append b.begins.spelling b.body in
     omega (arith, len, dropped, all, lead, parts)
-
--- a listing that goes on after a climb
-pub has_climbed : {kind : Kind} {pairs : Pairs} {bound key bytes : List ℕ} {forks : List Fork} → (s : Stands kind pairs bound key bytes forks) → bytes ≡ [] → (key' : List ℕ) (forks' : List Fork) (found : Option (Bor (List ℕ)))
-    → ArrivesOrEnds kind pairs (key ++ 0 ∷ []) key' forks' found → HasNext kind pairs bound key' forks' found
-has_climbed s over key' forks' None none = λ q v e. stands_behind s over q v e ∙ none q v e
-has_climbed s over key' forks' (Some target) a = stands_climbed s over key' target.now forks' a
-
--- a pair that was found is within the upper bound, or no other is
-pub finds_within : (kind : Kind) (pairs : Pairs) (to : Bound (List ℕ)) (bound key : List ℕ) (v : ℕ) (bytes : List ℕ) (forks : List Fork) (inside : Bool) → is_up_to_end by_bytes to key ≡ inside → Reaches kind pairs bound key v bytes forks → Finds kind pairs to bound key v bytes forks inside
-finds_within kind pairs to bound key v bytes forks true ends r = (left_found pairs to bound key v r.value r.from ends, r.stands)
-finds_within kind pairs to bound key v bytes forks false ends r = left_beyond pairs to bound key r.from ends
-
--- a pair is taken off
-pub one_taken : {kind : Kind} {bytes : List ℕ} {pairs : Pairs} → Lists kind bytes pairs → (to : Bound (List ℕ)) (bound key : List ℕ) (v : ℕ) (rest : List ℕ) (forks : List Fork) (most : ℕ) → Finds kind pairs to bound key v rest forks true
-    → take (suc most) (pairs_from (listed kind bytes) to bound) ≡ (key, v) ∷ take most (pairs_from (listed kind bytes) to (bound_in kind key rest))
-one_taken {kind = kind} {bytes = bytes} {pairs = pairs} lists to bound key v rest forks most f =
-    subst (λ ps. take (suc most) (pairs_from ps to bound) ≡ (key, v) ∷ take most (pairs_from ps to (bound_in kind key rest))) (sym (listed_pairs lists))
-    (ap (take (suc most)) f.0 ∙ ap (λ ps. (key, v) ∷ take most ps) (left_same pairs to (key ++ 0 ∷ []) (bound_in kind key rest) (stands_from f.1)))
-
-pub none_taken : {kind : Kind} {bytes : List ℕ} {pairs : Pairs} → Lists kind bytes pairs → (to : Bound (List ℕ)) (bound : List ℕ) (most : ℕ) → pairs_from pairs to bound ≡ [] → take most (pairs_from (listed kind bytes) to bound) ≡ []
-none_taken {kind = kind} {bytes = bytes} lists to bound most none =
-    subst (λ ps. take most (pairs_from ps to bound) ≡ []) (sym (listed_pairs lists)) (ap (take most) none ∙ take_all most [] (omega arith))
-
--- where a listing begins
-pub start_left : {kind : Kind} {bytes : List ℕ} {pairs : Pairs} → Lists kind bytes pairs → (from to : Bound (List ℕ)) (key rest : List ℕ) (forks : List Fork) (most : ℕ) (found : Option (Bor (List ℕ))) → StandsOrEnds kind pairs (first_bound from) key forks found → IsStart found bytes rest most
-    → take most (pairs_from (listed kind bytes) to (bound_in kind key rest)) ≡ within from to (map_of pairs)
-start_left {kind = kind} {bytes = bytes} {pairs = pairs} lists from to key rest forks most None none is =
-    ap (λ n. take n (pairs_from (listed kind bytes) to (bound_in kind key rest))) is ∙ sym (left_none pairs to (first_bound from) none) ∙ starts_left pairs from to
-start_left {kind = kind} {bytes = bytes} {pairs = pairs} lists from to key rest forks most (Some found) s is =
-    subst (λ ps. take most (pairs_from ps to (bound_in kind key rest)) ≡ within from to (map_of pairs)) (sym (listed_pairs lists))
-    (ap (λ r. take most (pairs_from pairs to (bound_in kind key r))) is.0
-    ∙ ap (λ n. take n (pairs_from pairs to (bound_in kind key found.now))) is.1
-    ∙ take_all (length bytes) (pairs_from pairs to (bound_in kind key found.now)) (few_from lists to (bound_in kind key found.now))
-    ∙ sym (left_same pairs to (first_bound from) (bound_in kind key found.now) (stands_from s)) ∙ starts_left pairs from to)
-
-pub start_stands : (kind : Kind) (pairs : Pairs) (bound bytes key rest : List ℕ) (forks : List Fork) (most : ℕ) (found : Option (Bor (List ℕ))) → StandsOrEnds kind pairs bound key forks found → IsStart found bytes rest most → 0 < most → Stands kind pairs (bound_in kind key rest) key rest forks
-start_stands kind pairs bound bytes key rest forks most None none is some = absurd (omega (arith, is, some))
-start_stands kind pairs bound bytes key rest forks most (Some found) s is some = subst (λ r. Stands kind pairs (bound_in kind key r) key r forks) (sym is.0) (restand s)
 
 pub value_shorter : (bytes : List ℕ) (v : ℕ) (after : List ℕ) → BeginsWith 16 4 v bytes after → length after < length bytes
 value_shorter bytes v after b =

@@ -41,6 +41,10 @@ front_whole d bytes key front =
     let most = length-take d key in
     front ∙ take-take (length bytes) d key (omega (arith, within, most))
 
+-- a front of a key that is no shorter is the key
+pub whole_front : {S : Type 0} (trail : List (ℕ × S)) (key : List ℕ) → IsFront (trail_bytes trail) key → length key ≤ length trail → trail_bytes trail ≡ key
+whole_front trail key front low = let len = bytes_len trail in front ∙ take_all (length (trail_bytes trail)) key (omega (arith, low, len))
+
 module _ {S : Type 0} (IsAfter : List ℕ → S → Type 0) (accepts_from : S → List ℕ → Bool) (accepts : List ℕ → Bool) where
   pub trail_take : (front : List ℕ) (n : ℕ) (trail : List (ℕ × S)) → IsTrail IsAfter accepts_from accepts front trail → IsTrail IsAfter accepts_from accepts front (take n trail)
   trail_take front zero trail is = tt

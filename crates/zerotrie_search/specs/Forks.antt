@@ -1,5 +1,5 @@
 -- Open branches, and the keys beyond a key.
-use Rattle.std.specs.Prelude.{◌≡◌, ◌≢◌, ◌≤◌, ◌<◌, ◌==◌, ◌||◌, ◌&&◌, ℕ, List, [], ◌∷◌, ◌++◌, Bool, false, true, Option, Some, None, length, nat_le, take, filter, if◌then◌else◌}
+use Rattle.std.specs.Prelude.{◌≡◌, ◌≢◌, ◌≤◌, ◌<◌, ◌+◌, ◌==◌, ◌||◌, ◌&&◌, ℕ, List, [], ◌∷◌, ◌++◌, Bool, false, true, Option, Some, None, length, nat_le, not, filter, if◌then◌else◌}
 use Rattle.std.proofs.Common.{suc}
 use Rattle.std.specs.Borrow.{Bor}
 use Rattle.std.specs.FinMap.{entries}
@@ -7,13 +7,14 @@ use Rattle.std.specs.Range.Bound.{is_up_to_end}
 use Rattle.std.specs.declared.ops.Bound.{Bound}
 use Rattle.std.specs.declared.ops.Bound.TheVariants.{Included, Excluded, Unbounded}
 use Rattle.zerotrie_base.specs.Kind.{Kind, simple_ascii}
+use Rattle.zerotrie_base.specs.Canonical.{size_of}
 use Rattle.zerotrie_base.specs.Maps.{Pairs, value_at, residual, behind_all, begins_some, with_run, map_of}
+use Rattle.zerotrie_base.specs.Maps.{edges as edges_of}
 use Rattle.zerotrie_base.specs.Texts.{Lists}
 use Rattle.zerotrie_base.specs.Nodes.{Begins}
 use Rattle.zerotrie_core.specs.ByteSets.{is_in}
-use Rattle.zerotrie_core.specs.Listings.{Left, to_come, over}
 use Rattle.zerotrie_core.specs.Shapes.{branch_shape}
-use Rattle.zerotrie_core.specs.listing.Listed.{listed}
+use Rattle.zerotrie_core.specs.declared.byte_set.ByteSet.{ByteSet}
 use Rattle.zerotrie_search.specs.Paths.{SameFrom, NoneFrom, is_from}
 use Rattle.zerotrie_search.specs.Sets.{by_bytes}
 use Rattle.zerotrie_search.specs.declared.sorted.fork.Fork.{Fork}
@@ -47,18 +48,35 @@ abbrev pub IsTarget : Kind → Pairs → ℕ → Option (Bor (List ℕ)) → Typ
 IsTarget kind pairs b None = residual b pairs ≡ []
 IsTarget kind pairs b (Some target) = Lists kind target.now (residual b pairs)
 
--- An open branch has the edges of these pairs. Those that are at least `from` are left.
-pub record IsFork (kind : Kind) (pairs : Pairs) (fork : Fork) (from : ℕ) : Type 0 where
+-- how many bytes the edges of a set and their targets have
+abbrev pub need : Kind → Pairs → ByteSet → List ℕ → ℕ
+need kind pairs set [] = 0
+need kind pairs set (c ∷ edges) = (if is_in set c then suc (size_of kind (residual c pairs)) else 0) + need kind pairs set edges
+
+-- An open branch has the edges of these pairs. Some are left, and there are enough bytes for them.
+pub record IsOpen (kind : Kind) (pairs : Pairs) (fork : Fork) : Type 0 where
   pub bytes : List ℕ
   pub below : Pairs
   pub text : Lists kind bytes below
   pub begins : Begins kind bytes (branch_shape fork.branch)
   pub same : SameEdges below pairs
+  pub edges : (c : ℕ) → is_in fork.left c ≡ true → (c < 256) × (residual c pairs ≢ [])
+  pub room : need kind below fork.left (edges_of below) ≤ fork.room
+
+-- Those that are at least `from` are left.
+pub record IsFork (kind : Kind) (pairs : Pairs) (fork : Fork) (from : ℕ) : Type 0 where
+  pub opens : IsOpen kind pairs fork
   pub left : (c : ℕ) → is_in fork.left c ≡ (nat_le from c && begins_some pairs c)
 
 -- no edge is left
 abbrev pub IsOver : Fork → Type 0
 IsOver fork = (c : ℕ) → is_in fork.left c ≡ false
+
+-- The least edge that is left was taken, or none is left.
+abbrev pub TakesLeast : Kind → Pairs → Fork → Fork → Option (ℕ × Bor (List ℕ)) → Type 0
+TakesLeast kind pairs fork after None = IsOver fork
+TakesLeast kind pairs fork after (Some r) =
+    (is_in fork.left r.0 ≡ true) × ((c : ℕ) → c < r.0 → is_in fork.left c ≡ false) × Lists kind r.1.now (residual r.0 pairs) × IsOpen kind pairs after × ((c : ℕ) → is_in after.left c ≡ (not (c == r.0) && is_in fork.left c))
 
 -- The least edge from `from` on was taken, and those above it are left; or none was left.
 abbrev pub TakesEdge : Kind → Pairs → ℕ → Fork → Option (ℕ × Bor (List ℕ)) → Type 0
@@ -111,9 +129,6 @@ abbrev pub bound_by : List ℕ → Option ℕ → List ℕ
 bound_by key None = key ++ 0 ∷ []
 bound_by key (Some v) = key
 
-abbrev pub bound_in : Kind → List ℕ → List ℕ → List ℕ
-bound_in kind key bytes = bound_by key (value_at simple_ascii (listed kind bytes) [])
-
 -- The bytes list what remains after the key, but perhaps for its value. The keys from the bound on are
 -- those that are still to come.
 pub record Stands (kind : Kind) (pairs : Pairs) (bound key bytes : List ℕ) (forks : List Fork) : Type 0 where
@@ -123,32 +138,6 @@ pub record Stands (kind : Kind) (pairs : Pairs) (bound key bytes : List ℕ) (fo
   pub value : (v : ℕ) → value_at simple_ascii below [] ≡ Some v → value_at simple_ascii pairs key ≡ Some v
   pub way : AreForks kind pairs key forks
   pub from : SameFrom pairs bound (bound_by key (value_at simple_ascii below []))
-
--- The first pair from a bound on, and what comes behind it.
-pub record Reaches (kind : Kind) (pairs : Pairs) (bound key : List ℕ) (v : ℕ) (bytes : List ℕ) (forks : List Fork) : Type 0 where
-  pub value : value_at simple_ascii pairs key ≡ Some v
-  pub from : SameFrom pairs bound key
-  pub stands : Stands kind pairs (key ++ 0 ∷ []) key bytes forks
-
--- a listing goes down to that
-abbrev pub Descends : Kind → Pairs → List ℕ → List ℕ → List Fork → Option (ℕ × Bor (List ℕ)) → Type 0
-Descends kind pairs bound key forks None = ⊥
-Descends kind pairs bound key forks (Some r) = Reaches kind pairs bound key r.0 r.1.now forks
-
--- a listing is before some bytes, or no key is at least the bound
-abbrev pub HasNext : Kind → Pairs → List ℕ → List ℕ → List Fork → Option (Bor (List ℕ)) → Type 0
-HasNext kind pairs bound key forks None = NoneFrom pairs bound
-HasNext kind pairs bound key forks (Some bytes) = Stands kind pairs bound key bytes.now forks × (bytes.now ≢ [])
-
--- a listing moves to that, or no key is at least the bound
-abbrev pub Moves : Kind → Pairs → List ℕ → List ℕ → List ℕ → List Fork → Option ℕ → Type 0
-Moves kind pairs bound key bytes forks None = NoneFrom pairs bound
-Moves kind pairs bound key bytes forks (Some v) = Reaches kind pairs bound key v bytes forks
-
--- A listing comes to the keys that are past all that begin with a front, or there are none.
-abbrev pub GoesPast : Kind → Pairs → List ℕ → List ℕ → List ℕ → List Fork → Bool → Type 0
-GoesPast kind pairs front key bytes forks false = (x : List ℕ) × NoneFrom (behind_all front pairs) x × NoneFrom pairs (front ++ x)
-GoesPast kind pairs front key bytes forks true = (x : List ℕ) × NoneFrom (behind_all front pairs) x × Stands kind pairs (front ++ x) key bytes forks
 
 -- On the way along a lower bound: the key is what was followed of it, and the bytes list what remains
 -- after the key, but perhaps for its value if bytes of the bound are left.
@@ -182,10 +171,11 @@ abbrev pub IsRun : Kind → List ℕ → List ℕ → List ℕ → Type 0
 IsRun kind bytes run after = (pairs : Pairs) → Lists kind bytes pairs
     → (below : Pairs) × Lists kind after below × (pairs ≡ with_run run below) × (run ≢ []) × (after ≢ [])
 
--- if the way continues, fewer bytes are left than before
-abbrev pub IsShorter : List ℕ → Way → Type 0
-IsShorter bytes (Down after left) = length after.now < length bytes
-IsShorter bytes (Found after) = Unit {0}
+-- no more bytes are left to read than before, and fewer if the way continues
+abbrev pub IsShorter : ℕ → Way → ℕ → Type 0
+IsShorter before (Down after left) rooms = length after.now + rooms < before
+IsShorter before (Found None) rooms = Unit {0}
+IsShorter before (Found (Some after)) rooms = length after.now + rooms ≤ before
 
 -- the keys that are within a lower bound are those that are at least this
 abbrev pub first_bound : Bound (List ℕ) → List ℕ
@@ -196,23 +186,3 @@ first_bound Unbounded = []
 -- the pairs whose keys are at least a bound, and within an upper one
 abbrev pub pairs_from : Pairs → Bound (List ℕ) → List ℕ → Pairs
 pairs_from pairs to bound = filter (λ e. is_from bound e.0 && is_up_to_end by_bytes to e.0) (entries (map_of pairs))
-
--- no more pairs are left from a bound on than may be listed
-abbrev pub AreFew : Pairs → Bound (List ℕ) → List ℕ → ℕ → Type 0
-AreFew pairs to bound most = length (pairs_from pairs to bound) ≤ most
-
--- what is left of a listing, which may have ended: at most this many pairs from a bound on
-abbrev pub left_from : Bool → ℕ → Kind → List ℕ → Bound (List ℕ) → List ℕ → Left
-left_from ended most kind bytes to bound = if ended then over else to_come (take most (pairs_from (listed kind bytes) to bound))
-
--- A listing moves from a bound to the first pair, or there is none.
-abbrev pub Finds : Kind → Pairs → Bound (List ℕ) → List ℕ → List ℕ → ℕ → List ℕ → List Fork → Bool → Type 0
-Finds kind pairs to bound key v bytes forks false = pairs_from pairs to bound ≡ []
-Finds kind pairs to bound key v bytes forks true =
-    (pairs_from pairs to bound ≡ (key, v) ∷ pairs_from pairs to (key ++ 0 ∷ [])) × Stands kind pairs (key ++ 0 ∷ []) key bytes forks
-
--- where a listing begins that came to some bytes, with as many pairs to come as the trie has bytes; or
--- none is to come
-abbrev pub IsStart : Option (Bor (List ℕ)) → List ℕ → List ℕ → ℕ → Type 0
-IsStart None bytes rest most = most ≡ 0
-IsStart (Some found) bytes rest most = (rest ≡ found.now) × (most ≡ length bytes)

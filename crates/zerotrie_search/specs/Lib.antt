@@ -22,6 +22,8 @@ pub mod Laws
 pub mod Sorted
 pub mod Paths
 pub mod Forks
+pub mod Walks
 pub mod SortedLaws
 pub mod Lasts
 pub mod Nearest
+pub mod AnyOf

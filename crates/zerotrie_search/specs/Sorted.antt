@@ -1,12 +1,16 @@
 -- The pairs of a map in the order of bytes.
-use Rattle.std.specs.Prelude.{◌≡◌, ◌<◌, ◌+◌, ℕ, List, [], ◌∷◌, Bool, true, false, Option, Some, None, Result, Ok, Err, filter, is_some, not, if◌then◌else◌}
+use Rattle.std.specs.Prelude.{◌≡◌, ◌<◌, ◌+◌, ℕ, List, [], ◌∷◌, ◌++◌, Bool, true, false, Option, Some, None, Result, Ok, Err, filter, is_some, not, take, if◌then◌else◌}
 use Rattle.std.specs.FinMap.{entries}
 use Rattle.std.specs.Range.Bound.{bounds_contain}
 use Rattle.std.specs.declared.alloc.AllocError.{AllocError}
 use Rattle.std.specs.declared.ops.Bound.{Bound}
 use Rattle.zerotrie_base.specs.Kind.{Kind}
 use Rattle.zerotrie_base.specs.Maps.{Pairs, Map, after_run}
-use Rattle.zerotrie_core.specs.Listings.{Left, ListsOne, MemoryOnly}
+use Rattle.zerotrie_core.specs.ByteSets.{is_in}
+use Rattle.zerotrie_core.specs.Listings.{Left, ListsOne, MemoryOnly, over}
+use Rattle.zerotrie_core.specs.declared.byte_set.ByteSet.{ByteSet}
+use Rattle.zerotrie_core.specs.declared.stream.Reached.{Reached}
+use Rattle.zerotrie_core.specs.declared.stream.Reached.TheVariants.{Pair, Bytes, Branch, End}
 use Rattle.zerotrie_core.specs.declared.listing.ListError.{ListError}
 use Rattle.zerotrie_core.specs.declared.listing.ListError.TheVariants.{OutOfMemory}
 use Rattle.zerotrie_core.specs.WellFormed.{IsWellFormed}
@@ -28,13 +32,16 @@ last_of [] = None
 last_of (e ∷ []) = Some e
 last_of (e ∷ f ∷ pairs) = last_of (f ∷ pairs)
 
--- A sorted listing: the key and the value in hand, what is left, at most how many pairs are to come
--- on any bytes, and the trie.
+-- A sorted listing: the key and the value in hand, what is left, at most how many pairs are to come and
+-- how many bytes are still to be read on any bytes, whether the pair in hand was found by the last call
+-- of `advance`, and the trie.
 pub record Sorting : Type 0 where
   pub key : List ℕ
   pub value : ℕ
   pub left : Left
   pub most : ℕ
+  pub work : ℕ
+  pub found : Bool
   pub kind : Kind
   pub bytes : List ℕ
 
@@ -55,6 +62,27 @@ Spends (Ok true) before after = before ≡ 1 + after
 Spends (Ok false) before after = after ≡ 0
 Spends (Err e) before after = (0 < before) × (after ≡ 0)
 
+-- One move over bytes that mean a map: to a pair, the first of those to come, whose key is the one in
+-- hand; or to other bytes of the key, or to the targets of a branch, before the same pairs; or nothing
+-- was left.
+abbrev pub SortsByNode : Sorting → Result Reached AllocError → Sorting → Type 0
+SortsByNode before (Ok Pair) after = before.left.pairs ≡ (after.key, after.value) ∷ after.left.pairs
+SortsByNode before (Ok (Bytes kept)) after = after.left ≡ before.left
+SortsByNode before (Ok Branch) after = after.left ≡ before.left
+SortsByNode before (Ok End) after = before.left.pairs ≡ []
+SortsByNode before (Err e) after = Unit {0}
+
+-- One move on any bytes. After an error or the end it is over.
+abbrev pub StepsByNode : Sorting → Result Reached AllocError → Sorting → Type 0
+StepsByNode before (Ok Pair) after =
+    (before.left.ended ≡ false) × (after.left.ended ≡ false) × (after.key ≡ before.key) × (after.found ≡ true) × (before.most ≡ 1 + after.most) × (after.work < before.work)
+StepsByNode before (Ok (Bytes kept)) after =
+    (before.left.ended ≡ false) × (after.left.ended ≡ false) × (take kept after.key ≡ take kept before.key) × (after.value ≡ before.value) × (after.found ≡ false) × (after.most ≡ before.most) × (after.work < before.work)
+StepsByNode before (Ok Branch) after =
+    (before.left.ended ≡ false) × (after.left.ended ≡ false) × (after.key ≡ before.key) × (after.value ≡ before.value) × (after.found ≡ false) × (after.most ≡ before.most) × (after.work < before.work)
+StepsByNode before (Ok End) after = (after.left ≡ over) × (after.found ≡ false) × (after.most ≡ before.most)
+StepsByNode before (Err e) after = (before.left.ended ≡ false) × (after.left ≡ over) × (after.found ≡ false) × (after.most ≡ before.most)
+
 -- One call of `next` of a sorted iterator. Over bytes that mean a map it is that of a listing.
 pub record SortsOne {K : Type 0} (key : K → List ℕ) (before : Sorting) (item : Option (Result (K × ℕ) ListError)) (after : Sorting) : Type 0 where
   pub lists : IsWellFormed before.kind before.bytes → ListsOne key MemoryOnly before.left item after.left
@@ -74,6 +102,14 @@ begins_else front key = not (is_some (after_run front key))
 -- what is left of a listing, without the pairs whose keys begin with a front
 abbrev pub without : List ℕ → Left → Left
 without front left = accepted_left (begins_else front) left
+
+-- the key is a front, a byte that is not in a set, and more
+abbrev pub IsOutside : List ℕ → ByteSet → List ℕ → Type 0
+IsOutside front set key = (byte : ℕ) × (more : List ℕ) × (byte < 256) × (is_in set byte ≡ false) × (key ≡ front ++ byte ∷ more)
+
+-- some of these keys alone were left out
+abbrev pub LeavesOut : (List ℕ → Type 0) → Left → Left → Type 0
+LeavesOut IsOut before after = (keeps : List ℕ → Bool) × (after ≡ accepted_left keeps before) × ((key : List ℕ) → keeps key ≡ false → IsOut key)
 
 -- A search in the order of bytes: the sorted listing that it reads, what is left of that, of the
 -- accepted pairs alone, the automaton, and its state after the key in hand.

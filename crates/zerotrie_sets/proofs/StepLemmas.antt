@@ -21,13 +21,6 @@ use Rattle.zerotrie_sets.proofs.MergeLemmas.Compared.{less, equal, greater}
 true_false : true ≡ false → ⊥
 true_false h = cc
 
-above_not_below : (k a b : List ℕ) → Below b a → is_lt (slice_cmp nat_cmp b k) ≡ false → is_lt (slice_cmp nat_cmp a k) ≡ false
-above_not_below k a b below h = elim (compared a k) [
-  | less e ↦ absurd (true_false (sym (ap is_lt (nat_list_cmp_total.trans b a k below e)) ∙ h))
-  | equal e ↦ ap is_lt e
-  | greater e ↦ ap is_lt e
-]
-
 some_none : {A : Type 0} (a : A) → Some a ≡ None → ⊥
 some_none a h = cc
 

@@ -1,7 +1,9 @@
 //! Asks the library what random pairs and random bytes give, and prints a checksum of all answers. The
 //! same number of rounds and the same seed give the same checksum on each platform.
 //!
-//!     cargo run --release -- ROUNDS SEED
+//!     cargo run --release -- ROUNDS SEED [narrow]
+//!
+//! With `narrow` values are small, and of damaged bytes nothing goes into the checksum: so it is the same where `usize` has 32 bits.
 //!
 //! With the feature `proved` it asks the proved library the same, and ends at the first answer that
 //! differs.
@@ -13,7 +15,7 @@ mod proved;
 mod questions;
 
 use plain::Plain;
-use questions::{Random, Round};
+use questions::{Random, Round, Width};
 
 /// A checksum: FNV-1a of what is printed.
 fn mixed(sum: u64, text: &str) -> u64 {
@@ -35,9 +37,15 @@ fn compare(round: &Round, number: usize, plain: &[String]) {
 fn compare(_round: &Round, _number: usize, _plain: &[String]) {}
 
 fn main() {
-    let mut arguments = std::env::args().skip(1).map(|it| it.parse::<u64>().expect("a number"));
-    let (rounds, seed) = (arguments.next().unwrap_or(1000), arguments.next().unwrap_or(1));
-    let mut random = Random::new(seed);
+    let arguments: Vec<_> = std::env::args().skip(1).collect();
+    let number = |at: usize, else_: u64| arguments.get(at).map_or(else_, |it| it.parse().expect("a number"));
+    let (rounds, seed) = (number(0, 1000), number(1, 1));
+    let width = match arguments.get(2) {
+        Some(word) if word == "narrow" => Width::Narrow,
+        Some(word) => panic!("{word}: it is narrow, or left out"),
+        None => Width::Whole,
+    };
+    let mut random = Random::new(seed, width);
     let (mut sum, mut answers) = (0xcbf2_9ce4_8422_2325, 0);
     for number in 0..rounds as usize {
         let round = Round::new(&mut random);

@@ -6,12 +6,21 @@ use std::fmt::Debug;
 use std::ops::Bound;
 use zerotrie::sets::{Rule, Selection};
 
+/// Which values there are.
+#[derive(Clone, Copy, PartialEq, Debug)]
+pub enum Width {
+    /// All that a `usize` has.
+    Whole,
+    /// Such that they and sums of a few fit into 32 bits. Of damaged bytes, which may have others, nothing is said.
+    Narrow,
+}
+
 /// Numbers that look random.
-pub struct Random(u64);
+pub struct Random(u64, Width);
 
 impl Random {
-    pub fn new(seed: u64) -> Self {
-        Random(seed.wrapping_mul(0x9e37_79b9_7f4a_7c15) | 1)
+    pub fn new(seed: u64, width: Width) -> Self {
+        Random(seed.wrapping_mul(0x9e37_79b9_7f4a_7c15) | 1, width)
     }
 
     fn next(&mut self) -> u64 {
@@ -22,7 +31,7 @@ impl Random {
     }
 
     fn below(&mut self, n: usize) -> usize {
-        (self.next() >> 11) as usize % n
+        ((self.next() >> 11) % n as u64) as usize
     }
 
     fn one<T: Copy>(&mut self, of: &[T]) -> T {
@@ -74,9 +83,13 @@ impl Random {
     }
 
     fn value(&mut self) -> usize {
-        let most = self.one(&[16, 3000, 1 << 20, 1 << 40]);
+        let (large, greatest) = match self.1 {
+            Width::Whole => (usize::MAX >> 24, usize::MAX),
+            Width::Narrow => (1 << 28, 1 << 28),
+        };
+        let most = self.one(&[16, 3000, 1 << 20, large]);
         if self.below(20) == 0 {
-            usize::MAX
+            greatest
         } else {
             self.below(most)
         }
@@ -94,6 +107,8 @@ pub struct Round {
     moves: Vec<Move>,
     edits: u8,
     seed: u64,
+    missing: usize,
+    width: Width,
     table: BTreeMap<(String, String), usize>,
     delimiter: u8,
 }
@@ -139,11 +154,18 @@ impl Round {
                 .collect(),
             edits: random.below(3) as u8,
             seed: random.next(),
+            missing: random.value(),
+            width: random.1,
             table: random.table(),
             delimiter: random.one(b"-----/\x80"),
             pairs,
             keys,
         }
+    }
+
+    /// The number of the round, as far as each `usize` has it.
+    fn number(&self) -> usize {
+        self.seed as u32 as usize
     }
 
     /// The bytes with some of them changed.
@@ -160,7 +182,7 @@ impl Round {
 
     /// Asks a library everything. Each answer is a line.
     pub fn ask(&self, library: &impl Library) -> Vec<String> {
-        let mut answers = Answers(Vec::new());
+        let mut answers = Answers { said: true, lines: Vec::new() };
         let pairs: Vec<(&[u8], usize)> = self.pairs.iter().map(|(key, value)| (key.as_slice(), *value)).collect();
         let built = library.build(self.kind, &pairs);
         answers.add("build", &built);
@@ -173,11 +195,13 @@ impl Round {
         }
         let trie = built.unwrap_or_default();
         self.ask_trie(library, &trie, &mut answers);
-        self.ask_trie(library, &self.damaged(&trie), &mut answers);
-        self.ask_trie(library, &self.bytes, &mut answers);
         self.ask_index(library, &pairs, &mut answers);
         self.ask_table(library, &mut answers);
-        answers.0
+        answers.said = self.width == Width::Whole;
+        self.ask_trie(library, &self.damaged(&trie), &mut answers);
+        self.ask_trie(library, &self.bytes, &mut answers);
+        self.ask_damaged_table(library, &mut answers);
+        answers.lines
     }
 
     fn ask_trie(&self, library: &impl Library, bytes: &[u8], answers: &mut Answers) {
@@ -190,8 +214,7 @@ impl Round {
         }
         // look-ups that start where the last one ended answer malformed bytes by what came before
         if library.is_well_formed(self.kind, bytes) {
-            let missing = self.seed as usize;
-            answers.add("get_many", library.get_many(self.kind, bytes, &self.keys, missing));
+            answers.add("get_many", library.get_many(self.kind, bytes, &self.keys, self.missing));
         }
         for key in &self.keys {
             answers.add("get", library.get(self.kind, bytes, key));
@@ -221,7 +244,7 @@ impl Round {
             "last_within",
             library.last_within(self.kind, bytes, Bound::Unbounded, Bound::Included(two)),
         );
-        for value in [self.seed as usize % 16, self.pairs.first().map_or(0, |pair| pair.1)] {
+        for value in [self.number() % 16, self.pairs.first().map_or(0, |pair| pair.1)] {
             answers.add("first_key_of", library.first_key_of(self.kind, bytes, value));
         }
         self.ask_sets(library, bytes, answers);
@@ -232,7 +255,7 @@ impl Round {
             Search::Edits(one, self.edits),
             Search::CharEdits(two, self.edits),
         ];
-        let by = searches[self.seed as usize % searches.len()];
+        let by = searches[self.number() % searches.len()];
         answers.add("search", library.search(self.kind, bytes, b"", by, self.seed & 64 == 0));
         answers.add(
             "search",
@@ -244,7 +267,7 @@ impl Round {
         answers.add("tagged", tagged);
         let mut file = library.seal(self.kind, bytes);
         answers.add("open", library.open(&file));
-        let at = self.seed as usize % file.len();
+        let at = self.number() % file.len();
         file[at] ^= 1 << (self.seed >> 61);
         answers.add("open", library.open(&file));
         answers.add("seal", file);
@@ -265,42 +288,41 @@ impl Round {
             Selection::SymmetricDifference,
         ];
         let rules = [Rule::First, Rule::Last, Rule::Sum, Rule::Min, Rule::Max, Rule::Equal, Rule::Refuse];
-        let selection = selections[self.seed as usize >> 8 & 3];
-        let rule = rules[(self.seed as usize >> 16) % rules.len()];
-        let count = (self.seed as usize >> 32) % 4;
-        let kind = KINDS[self.seed as usize >> 40 & 3];
+        let selection = selections[self.number() >> 8 & 3];
+        let rule = rules[(self.number() >> 16) % rules.len()];
+        let count = (self.seed >> 32 & 3) as usize;
+        let kind = KINDS[(self.seed >> 40 & 3) as usize];
         answers.add("combine", library.combine(selection, rule, &tries[..count], kind));
     }
 
+    fn entries(&self) -> Vec<Entry<'_>> {
+        let entries = self.table.iter();
+        entries.map(|((prefix, suffix), value)| (prefix.as_str(), suffix.as_str(), *value)).collect()
+    }
+
     fn ask_table(&self, library: &impl Library, answers: &mut Answers) {
-        let entries = self
-            .table
-            .iter()
-            .map(|((prefix, suffix), value)| (prefix.as_str(), suffix.as_str(), *value));
-        let entries: Vec<Entry> = entries.collect();
-        let built = library.dense_build(&entries, self.delimiter);
+        let built = library.dense_build(&self.entries(), self.delimiter);
         answers.add("dense_build", &built);
         let record = built.unwrap_or_default();
         let longer = [record.as_slice(), b"-"].concat();
-        for bytes in [
-            &record,
-            &self.damaged(&record),
-            &longer,
-            &record[..record.len() / 2],
-            &self.bytes,
-        ] {
-            for (prefix, suffix, _) in &entries {
-                answers.add(
-                    "dense_get",
-                    library.dense_get(bytes, prefix.as_bytes(), suffix.as_bytes()),
-                );
-                answers.add(
-                    "dense_get",
-                    library.dense_get(bytes, suffix.as_bytes(), prefix.as_bytes()),
-                );
-            }
-            answers.add("dense_get", library.dense_get(bytes, &self.keys[0], &self.keys[1]));
+        for bytes in [&record, &longer, &record[..record.len() / 2]] {
+            self.ask_record(library, bytes, answers);
         }
+    }
+
+    fn ask_damaged_table(&self, library: &impl Library, answers: &mut Answers) {
+        let record = library.dense_build(&self.entries(), self.delimiter).unwrap_or_default();
+        self.ask_record(library, &self.damaged(&record), answers);
+        self.ask_record(library, &self.bytes, answers);
+    }
+
+    fn ask_record(&self, library: &impl Library, bytes: &[u8], answers: &mut Answers) {
+        for (prefix, suffix, _) in self.entries() {
+            let (prefix, suffix) = (prefix.as_bytes(), suffix.as_bytes());
+            answers.add("dense_get", library.dense_get(bytes, prefix, suffix));
+            answers.add("dense_get", library.dense_get(bytes, suffix, prefix));
+        }
+        answers.add("dense_get", library.dense_get(bytes, &self.keys[0], &self.keys[1]));
     }
 
     fn ask_index(&self, library: &impl Library, pairs: &[(&[u8], usize)], answers: &mut Answers) {
@@ -315,7 +337,7 @@ impl Round {
         }
         let mut file = library.index_seal(&index);
         answers.add("index_open", library.index_open(&file));
-        let at = self.seed as usize % file.len();
+        let at = self.number() % file.len();
         file[at] ^= 1 << (self.seed >> 61);
         answers.add("index_open", library.index_open(&file));
         answers.add("index_open", library.index_open(&self.bytes));
@@ -333,10 +355,17 @@ fn why_shown((status, first, second): (Status, usize, usize), pairs: &[Pair]) ->
     (status, Some((first, second)))
 }
 
-struct Answers(Vec<String>);
+struct Answers {
+    /// Whether the next answers are kept: each is asked for.
+    said: bool,
+    lines: Vec<String>,
+}
 
 impl Answers {
     fn add(&mut self, question: &str, answer: impl Debug) {
-        self.0.push(format!("{question}: {answer:?}"));
+        let line = format!("{question}: {answer:?}");
+        if self.said {
+            self.lines.push(line);
+        }
     }
 }

@@ -58,7 +58,7 @@ impl fmt::Debug for Parts {
     #[inline]
     fn fmt(&self, f: &mut fmt::Formatter<'_>) -> fmt::Result {
         let (head, rest) = self.1.split_at(27);
-        let number = |at: usize| head[at..at + 8].iter().rev().fold(0, |n, byte| n << 8 | usize::from(*byte));
+        let number = |at: usize| head[at..at + 8].iter().rev().fold(0, |n, byte| n << 8 | u64::from(*byte)) as usize;
         let (primary, rest) = rest.split_at(number(3));
         let (suffixes, cells) = rest.split_at(number(11));
         let cells = cells.chunks_exact(2).map(|cell| u16::from_le_bytes([cell[0], cell[1]]));

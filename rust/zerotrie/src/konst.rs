@@ -36,57 +36,59 @@ impl<'a> Pairs<'a> {
     }
 }
 
-const fn is_below(a: &[u8], b: &[u8]) -> bool {
-    let mut i = 0;
-    while i < a.len() && i < b.len() {
-        if a[i] != b[i] {
-            return a[i] < b[i];
-        }
-        i += 1;
+/// Returns how many bytes two keys have in common, of which the first must be below the second.
+const fn shared_len(a: &[u8], b: &[u8]) -> usize {
+    let mut len = 0;
+    while len < a.len() && len < b.len() && a[len] == b[len] {
+        len += 1;
     }
-    a.len() < b.len()
+    assert!(len < b.len() && (len == a.len() || a[len] < b[len]), "the keys do not ascend");
+    len
 }
 
-/// The pairs from `from` up to `to`, whose keys have their first `depth` bytes in common.
+/// A target of a branch that is still open: its edge, the depth of that, and its length.
 #[derive(Clone, Copy)]
-struct Window {
-    from: usize,
-    to: usize,
+struct Target {
+    edge: u8,
     depth: usize,
+    len: usize,
 }
 
-/// The targets of a branch, the last one first.
-struct Targets {
-    edges: [u8; 256],
-    lens: [usize; 256],
-    count: usize,
-}
+/// How many targets of open branches there may be at once.
+const TARGETS: usize = 1024;
 
-/// An array that is filled from its end. It counts all bytes of the trie, also those that have no
-/// room.
+/// An array that is filled from its end, from the last pair to the first. It counts all bytes of the trie, also those that have no room.
+///
+/// No call calls itself: how deep a constant may be does not depend on the compiler's limit for nested calls.
 struct Filled<'a, const N: usize> {
     pairs: Pairs<'a>,
     bytes: [u8; N],
     len: usize,
+    /// The length before the text that is being put.
+    start: usize,
+    /// The targets of open branches, the last one of each branch first.
+    targets: [Target; TARGETS],
+    count: usize,
 }
 
 impl<'a, const N: usize> Filled<'a, N> {
     /// Returns the array with the trie of the pairs at its end.
     const fn of(pairs: Pairs<'a>) -> Self {
-        let mut i = 1;
-        while i < pairs.len() {
-            assert!(is_below(pairs.key(i - 1), pairs.key(i)), "the keys do not ascend");
-            i += 1;
-        }
-        let mut filled = Filled { pairs, bytes: [0; N], len: 0 };
-        if pairs.len() > 0 {
-            filled.put_trie(Window { from: 0, to: pairs.len(), depth: 0 });
+        let targets = [Target { edge: 0, depth: 0, len: 0 }; TARGETS];
+        let mut filled = Filled { pairs, bytes: [0; N], len: 0, start: 0, targets, count: 0 };
+        let mut index = pairs.len();
+        while index > 0 {
+            index -= 1;
+            filled.put_pair(index);
         }
         filled
     }
 
     const fn put(&mut self, byte: u8) {
-        self.len += 1;
+        match self.len.checked_add(1) {
+            Some(len) => self.len = len,
+            None => panic!("Reached maximum capacity of trie"),
+        }
         if self.len <= N {
             self.bytes[N - self.len] = byte;
         }
@@ -110,82 +112,75 @@ impl<'a, const N: usize> Filled<'a, N> {
         self.put(mark | more | left as u8);
     }
 
-    /// Puts the trie of some pairs.
-    const fn put_trie(&mut self, window: Window) {
-        let key = self.pairs.key(window.from);
-        let last = self.pairs.key(window.to - 1);
-        let mut depth = window.depth;
-        while depth < key.len() && depth < last.len() && key[depth] == last[depth] {
-            depth += 1;
+    /// Puts the value of a pair and as much of its key as the one before does not share, so that this one may follow.
+    const fn put_pair(&mut self, index: usize) {
+        let key = self.pairs.key(index);
+        self.put_number(0x80, 4, self.pairs.value(index));
+        if index == 0 {
+            return self.put_key(key, 0);
         }
-        let has_value = key.len() == depth;
-        let from = if has_value { window.from + 1 } else { window.from };
-        if from < window.to {
-            let rest = Window { from, to: window.to, depth };
-            if self.pairs.key(from)[depth] == last[depth] {
-                self.put_trie(rest);
+        let before = self.pairs.key(index - 1);
+        let shared = shared_len(before, key);
+        if shared == before.len() {
+            return self.put_key(key, shared);
+        }
+        self.put_key(key, shared + 1);
+        self.set_aside(key[shared], shared);
+    }
+
+    /// Puts a key's bytes from a depth on, and the branches among them.
+    const fn put_key(&mut self, key: &[u8], depth: usize) {
+        let mut at = key.len();
+        while at > depth {
+            at -= 1;
+            if self.count > 0 && self.targets[self.count - 1].depth == at {
+                self.set_aside(key[at], at);
+                self.put_branch(at);
             } else {
-                self.put_branch(rest);
+                self.put_ascii(key[at]);
             }
-        }
-        if has_value {
-            self.put_number(0x80, 4, self.pairs.value(window.from));
-        }
-        while depth > window.depth {
-            depth -= 1;
-            self.put_ascii(key[depth]);
         }
     }
 
-    const fn put_branch(&mut self, window: Window) {
-        let end = self.len;
-        let targets = self.put_targets(window);
-        let width = ((self.len - end).ilog2() / 8) as usize;
+    /// Sets the text that was put last aside, as a target of a branch.
+    const fn set_aside(&mut self, edge: u8, depth: usize) {
+        assert!(self.count < TARGETS, "Reached maximum capacity of trie");
+        self.targets[self.count] = Target { edge, depth, len: self.len - self.start };
+        self.count += 1;
+        self.start = self.len;
+    }
+
+    /// Puts the branch to the targets that were set aside at this depth.
+    const fn put_branch(&mut self, depth: usize) {
+        let end = self.count;
+        let mut total = 0;
+        while self.count > 0 && self.targets[self.count - 1].depth == depth {
+            self.count -= 1;
+            total += self.targets[self.count].len;
+        }
+        self.start = self.len - total;
+        let width = (total.ilog2() / 8) as usize;
         assert!(width < 4, "Reached maximum capacity of trie");
         let mut plane = 0;
         while plane <= width {
-            self.put_offsets(&targets, 8 * plane);
+            self.put_offsets(end, total, 8 * plane);
             plane += 1;
         }
-        let mut i = 0;
-        while i < targets.count {
-            self.put_ascii(targets.edges[i]);
+        let mut i = self.count;
+        while i < end {
+            self.put_ascii(self.targets[i].edge);
             i += 1;
         }
-        self.put_number(0xC0, 5, (width << 8) + (targets.count & 0xFF));
+        self.put_number(0xC0, 5, (width << 8) + ((end - self.count) & 0xFF));
     }
 
-    const fn put_targets(&mut self, window: Window) -> Targets {
-        let mut targets = Targets { edges: [0; 256], lens: [0; 256], count: 0 };
-        let mut to = window.to;
-        while to > window.from {
-            let edge = self.pairs.key(to - 1)[window.depth];
-            let mut from = to - 1;
-            while from > window.from && self.pairs.key(from - 1)[window.depth] == edge {
-                from -= 1;
-            }
-            let end = self.len;
-            self.put_trie(Window { from, to, depth: window.depth + 1 });
-            targets.edges[targets.count] = edge;
-            targets.lens[targets.count] = self.len - end;
-            targets.count += 1;
-            to = from;
-        }
-        targets
-    }
-
-    /// Puts one byte of each offset: the bits from `shift` on.
-    const fn put_offsets(&mut self, targets: &Targets, shift: usize) {
-        let mut offset = 0;
-        let mut i = 1;
-        while i < targets.count {
-            offset += targets.lens[i];
-            i += 1;
-        }
-        let mut i = 1;
-        while i < targets.count {
+    /// Puts one byte of each offset, the bits from `shift` on, of a branch to the targets up to `end`, which have `total` bytes.
+    const fn put_offsets(&mut self, end: usize, total: usize, shift: usize) {
+        let mut offset = total;
+        let mut i = self.count;
+        while i + 1 < end {
+            offset -= self.targets[i].len;
             self.put((offset >> shift) as u8);
-            offset -= targets.lens[i];
             i += 1;
         }
     }
@@ -314,7 +309,7 @@ mod tests {
         let mut state = seed;
         let mut next = |below: usize| {
             state = state.wrapping_mul(6364136223846793005).wrapping_add(1442695040888963407);
-            (state >> 33) as usize % below
+            ((state >> 33) % below as u64) as usize
         };
         let mut pairs: Vec<(Vec<u8>, usize)> =
             (0..count).map(|_| ((0..next(12)).map(|_| letters[next(letters.len())]).collect(), next(1 << 18))).collect();
@@ -337,9 +332,55 @@ mod tests {
         }
     }
 
+    const LETTERS: [u8; 700] = {
+        let mut letters = [b'a'; 700];
+        letters[699] = b'b';
+        letters
+    };
+
+    /// Keys each of which begins the next.
+    const NESTED: [(&[u8], usize); 600] = {
+        let mut pairs = [(LETTERS.as_slice(), 0); 600];
+        let mut i = 0;
+        while i < 600 {
+            pairs[i] = (LETTERS.split_at(i).0, i);
+            i += 1;
+        }
+        pairs
+    };
+
+    /// Keys each of which leaves the one before at its last letter.
+    const BRANCHES: [(&[u8], usize); 600] = {
+        let mut pairs = [(LETTERS.as_slice(), 0); 600];
+        let mut i = 0;
+        while i < 600 {
+            pairs[i] = (LETTERS.split_at(i).1, i);
+            i += 1;
+        }
+        pairs
+    };
+
+    /// A constant is as deep as it likes: the compiler has no limit for loops.
+    #[test]
+    fn constants_are_deep() {
+        static DEEP: ZeroTrieSimpleAscii<[u8; len_of(Pairs::Bytes(&NESTED))]> =
+            ZeroTrieSimpleAscii::from_sorted_u8_tuples(&NESTED);
+        static WIDE: ZeroTrieSimpleAscii<[u8; len_of(Pairs::Bytes(&BRANCHES))]> =
+            ZeroTrieSimpleAscii::from_sorted_u8_tuples(&BRANCHES);
+        assert_eq!(DEEP.as_bytes(), ZeroTrieSimpleAscii::try_from_sorted_slice(&NESTED).unwrap().as_bytes());
+        assert_eq!(WIDE.as_bytes(), ZeroTrieSimpleAscii::try_from_sorted_slice(&BRANCHES).unwrap().as_bytes());
+        let text = [&[b'a'; 1100], b"b".as_slice()].concat();
+        let suffixes: Vec<(&[u8], usize)> = (0..TARGETS + 1).map(|i| (&text[i..], i)).collect();
+        len_of(Pairs::Bytes(&suffixes[1..]));
+        let panic = std::panic::catch_unwind(|| len_of(Pairs::Bytes(&suffixes))).unwrap_err();
+        assert_eq!(panic.downcast_ref(), Some(&"Reached maximum capacity of trie"));
+    }
+
+    const MOST: &str = if usize::BITS == 64 { "18446744073709551615" } else { "4294967295" };
+
     #[test]
     fn a_wrong_length_says_the_right_one() {
-        for (len, said) in [(0, "0"), (7, "7"), (10, "10"), (16384, "16384"), (usize::MAX, "18446744073709551615")] {
+        for (len, said) in [(0, "0"), (7, "7"), (10, "10"), (16384, "16384"), (usize::MAX, MOST)] {
             let panic = std::panic::catch_unwind(|| wrong_length(len)).unwrap_err();
             let text = panic.downcast_ref::<alloc::string::String>().unwrap();
             assert_eq!(text, &alloc::format!("the array must have the trie's length: {said}"));

@@ -4,8 +4,8 @@
 
 extern crate alloc;
 
-#[cfg(not(target_pointer_width = "64"))]
-compile_error!("zerotrie needs 64 bits: what is proved of its sources is proved for a `usize` of 64 bits");
+#[cfg(not(any(target_pointer_width = "64", target_pointer_width = "32")))]
+compile_error!("zerotrie needs a `usize` of 64 or 32 bits");
 
 mod any;
 mod calls;

@@ -360,7 +360,7 @@ impl<'a, 'p> Sorted<'a, 'p> {
     ///
     /// `next_back` lists them all the same.
     pub fn skip_below(&mut self, depth: usize) {
-        allocated(self.pairs.pairs.skip(depth));
+        self.pairs.pairs.skip(depth);
     }
 }
 

@@ -22,7 +22,7 @@ type OwnedPairs = Vec<(Vec<u8>, usize)>;
 pub(crate) fn number_of(value: &Value) -> Option<usize>
     ensures { result ≡ number_in (view value.now) }
 {
-    value.as_u64().map(|number| number as usize)
+    usize::try_from(value.as_u64()?).ok()
 }
 
 /// Returns the byte in a value.

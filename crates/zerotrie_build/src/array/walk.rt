@@ -74,7 +74,7 @@ fn join<const STACK: usize>(
     let start = start_of(siblings, depth);
     let branch = &siblings.as_slice()[start..];
     let total = total(branch);
-    if total >= 1 << 32 {
+    if total as u64 >= 1 << 32 || total == usize::MAX {
         return Err(ZeroTrieBuildError::CapacityExceeded);
     }
     text.front = total;

@@ -3,7 +3,7 @@ use Rattle.std.proofs.Common.{◌≡◌, ℕ, List, [], ◌∷◌, refl, sym, �
 use Rattle.zerotrie_base.specs.Kind.{Kind}
 use Rattle.zerotrie_base.specs.Nodes.{Shape, Begins}
 use Rattle.zerotrie_base.specs.Nodes.Shape.{value, literal, span, branch}
-use Rattle.zerotrie_core.specs.Places.{Place, MeetsSpan, HasRun, FollowsRun}
+use Rattle.zerotrie_core.specs.Places.{MeetsSpan, FollowsRun}
 use Rattle.zerotrie_core.specs.Places.MeetsSpan.{at_once, after_value}
 use Rattle.zerotrie_base.proofs.NumberLemmas.Numbers.{cons_parts}
 use Rattle.zerotrie_core.proofs.NodeLemmas.Read.{node_begun}
@@ -72,20 +72,3 @@ follows_span kind bytes rest run behind edge left trie same begins is last = rec
       );
   no_other = λ some. same.from (edge ∷ left) trie (subst (λ x. MeetsSpan kind rest x trie) is (subst (λ x. MeetsSpan kind rest run x) (sym last) (at_once begins)));
 }
-
--- the next byte of a run
-pub follows_inside : (kind : Kind) (before : Place) (edge : ℕ) (left trie : List ℕ) → before.run ≡ edge ∷ left → trie ≡ before.trie
-    → FollowsRun kind before edge (record { run = left; trie = trie })
-follows_inside kind before edge left trie is last = record {
-  along = λ b more after has. (
-      let in_run = subst (λ x. HasRun kind x before.trie (b ∷ more) after) is has in
-      let parts = cons_parts b edge more left in_run.0 in
-      (sym parts.0, ap (λ x. record { run = x; trie = trie }) (sym parts.1) ∙ ap (λ x. record { run = more; trie = x }) (last ∙ sym in_run.1))
-      );
-  no_other = λ some. subst (λ x. HasRun kind x before.trie (edge ∷ left) trie) (sym is) (refl, last);
-}
-
--- with no run left it is the text that counts
-pub follows_at : (kind : Kind) (run trie : List ℕ) (edge : ℕ) (after : Place) → run ≡ [] → FollowsRun kind (record { run = []; trie = trie }) edge after
-    → FollowsRun kind (record { run = run; trie = trie }) edge after
-follows_at kind run trie edge after none f = subst (λ x. FollowsRun kind (record { run = x; trie = trie }) edge after) (sym none) f

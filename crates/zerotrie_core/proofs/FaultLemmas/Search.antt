@@ -11,13 +11,13 @@ use Rattle.zerotrie_core.specs.Faults.{Before, Fails, FaultIn, IsFault, IsFirstF
 use Rattle.zerotrie_core.specs.Faults.Before.{a_value, a_span, a_byte}
 use Rattle.zerotrie_core.specs.Faults.FaultIn.{here, further}
 use Rattle.zerotrie_core.specs.declared.well_formed.Expected.{Expected}
-use Rattle.zerotrie_core.specs.declared.well_formed.Expected.TheVariants.{Anything, Something}
+use Rattle.zerotrie_core.specs.declared.well_formed.Expected.TheVariants.{Something}
 use Rattle.zerotrie_core.specs.well_formed.Branching.{InOrder, HasFront}
 use Rattle.zerotrie_core.specs.well_formed.Testing.{IsText, IsAllowed}
 use Rattle.zerotrie_core.specs.listing.Listed.{node_of, target_of}
 use Rattle.zerotrie_core.specs.walk.Seen.{part_of}
 use Rattle.zerotrie_core.specs.declared.walk.part.Part as parts
-use Rattle.zerotrie_core.specs.walk.Visits.{Part, whole, after_node, target_parts, parts_behind}
+use Rattle.zerotrie_core.specs.walk.Visits.{Part, after_node, target_parts, parts_behind}
 use Rattle.zerotrie_core.specs.fault_search.Rules.{before_of, expected_after, Keeps, KeepsFirst, parts_next, expected_next}
 use Rattle.zerotrie_base.proofs.NodeLemmas.Tables.{table_parts}
 use Rattle.zerotrie_core.proofs.NodeLemmas.Read.{InSome}
@@ -163,14 +163,6 @@ pub record Searched (kind : Kind) (bytes : List ℕ) (e : Expected) (ps : List P
   pub complete : (f : Fault) → IsFault kind bytes f → Left kind f (before_of e) ps
   pub back : AllTexts kind e ps → IsText kind bytes
   pub row : InRow 0 (length bytes) ps
-
-pub searched_first : (kind : Kind) (bytes : List ℕ) → Searched kind bytes Anything (whole bytes ∷ [])
-searched_first kind bytes = record {
-  sound = λ f l. (elim l [ inl x ↦ x | inr none ↦ absurd none ]);
-  complete = λ f x. inl x;
-  back = λ all. all.1;
-  row = (omega arith, omega arith);
-}
 
 searched_end : (kind : Kind) (bytes : List ℕ) (e : Expected) (at : Part) (qs : List Part) → Searched kind bytes e (at ∷ qs) → node_of kind at.bytes ≡ None → KeepsFirst kind e at.bytes None → Searched kind bytes Something qs
 searched_end kind bytes e at qs so_far none keeps = record {

@@ -215,6 +215,3 @@ skips_outside set false kind key rest old new d none stands p =
           (q.0, q.1, at_nothing kind key old ∙ q.2 ∙ ap (λ ps. q.0 ++ ps) (sym (at_nothing kind key new)));
       same = refl;
     }
-
-pub same_outside : (set : ByteSet) (front : List ℕ) (pairs : Pairs) → PassesOutside front set pairs pairs
-same_outside set front pairs = ([], tt, refl)

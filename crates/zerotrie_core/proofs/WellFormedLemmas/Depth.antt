@@ -1,5 +1,5 @@
 -- How many calls of the test are open at once.
-use Rattle.std.proofs.Common.{◌≡◌, ℕ, zero, suc, ◌+◌, ◌*◌, ◌^◌, ◌<◌, ◌≤◌, List, [], ◌∷◌, ◌++◌, length, refl, ap, arith, map, get_or, take}
+use Rattle.std.proofs.Common.{◌≡◌, ℕ, zero, suc, ◌+◌, ◌*◌, ◌^◌, ◌<◌, ◌≤◌, List, [], ◌∷◌, ◌++◌, length, refl, ap, arith, map, get_or}
 use Rattle.std.specs.Prelude.{max}
 use Rattle.std.specs.List.{concat}
 use Rattle.zerotrie_base.specs.Kind.{Kind}
@@ -79,11 +79,6 @@ at_other zero zero (d ∷ ds) h other = absurd (other refl)
 at_other zero (suc i) (d ∷ ds) h other = later_more ds i (omega arith)
 at_other (suc place) zero (d ∷ ds) h other = refl
 at_other (suc place) (suc i) (d ∷ ds) h other = at_other place i ds (omega arith) (λ e. other (ap suc e))
-
-pub greatest_next : (ns : List ℕ) (i : ℕ) → i < length ns → greatest (take (suc i) ns) ≡ max (greatest (take i ns)) (get_or ns i 0)
-greatest_next [] i h = absurd (omega arith)
-greatest_next (n ∷ ns) zero h = omega arith
-greatest_next (n ∷ ns) (suc i) h = let more = greatest_next ns i (omega arith) in omega arith
 
 pub greatest_at : (ns : List ℕ) (i : ℕ) → i < length ns → get_or ns i 0 ≤ greatest ns
 greatest_at [] i h = absurd (omega arith)

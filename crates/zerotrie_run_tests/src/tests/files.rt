@@ -1,7 +1,7 @@
 //! What files in memory hold after one is replaced.
 
 use super::planted::{are_planted, free_path, plant};
-use crate::memory::MemoryDisk;
+use crate::memory::{MemoryDisk, replaced};
 use std::alloc::Global;
 use std::io;
 use std::io::ErrorKind;
@@ -40,6 +40,15 @@ fn files_of_a_user_stay(rt: HostRuntime) -> Result<(), Fail> {
     assert!(rt; ends_so(alloc, "full", Err(ErrorKind::StorageFull))?);
     assert!(rt; ends_so(alloc, "held", Err(ErrorKind::StorageFull))?);
     assert!(rt; ends_so(alloc, "locked", Err(ErrorKind::PermissionDenied))?);
+    Ok(())
+}
+
+#[test]
+fn a_file_is_replaced_by_two_deeds(rt: HostRuntime) -> Result<(), Fail> {
+    let alloc = rt.alloc();
+    let mut disk = disk_with(alloc, "a")?;
+    assert!(rt; replaced(alloc, &mut disk, "a", b"new")? == 0);
+    assert!(rt; disk.held("a") == Some(b"new"));
     Ok(())
 }
 

@@ -1,6 +1,6 @@
 //! An open branch with the edges that are left.
 
-ghost use Rattle.std.specs.Prelude.{◌≡◌, ◌≤◌, ◌∷◌, ◌++◌, ◌&&◌, ℕ, List, [], length, reverse, take, nat_le, IsTrue, ◌↔◌, IfSome, IfOk};
+ghost use Rattle.std.specs.Prelude.{◌≡◌, ◌≤◌, ◌<◌, ◌+◌, ◌∷◌, ◌++◌, ◌&&◌, ℕ, List, [], length, reverse, take, nat_le, IsTrue, ◌↔◌, IfSome, IfOk};
 ghost use Rattle.std.proofs.Common.{suc};
 ghost use Rattle.zerotrie_base.specs.Kind.{Kind};
 ghost use Rattle.zerotrie_base.specs.Maps.{Pairs, behind_all};
@@ -9,7 +9,8 @@ ghost use Rattle.zerotrie_base.specs.Texts.{Lists};
 ghost use Rattle.zerotrie_core.specs.ByteSets.{is_in};
 ghost use Rattle.zerotrie_core.specs.Shapes.{branch_shape};
 ghost use Rattle.zerotrie_search.specs.Paths.{NoneFrom};
-ghost use Rattle.zerotrie_search.specs.Forks.{is_among, IsTarget, IsFork, IsOver, TakesEdge, AreForks, EntersLeast, ArrivesOrEnds, outer};
+ghost use Rattle.zerotrie_search.specs.Forks.{is_among, IsTarget, IsOpen, IsFork, IsOver, TakesLeast, AreForks, ArrivesOrEnds, outer};
+ghost use Rattle.zerotrie_search.specs.Walks.{AreOpen, Keeps, DropsOver, Climbs, KeepsFront, Narrows, rooms};
 
 use std::alloc::{AllocError, Allocator};
 use zerotrie_core::laws::steps_answer_stored_bytes;
@@ -20,10 +21,13 @@ use zerotrie_core::{Branch, ByteSet, ZeroTrieWithOptions};
 pub(crate) struct Fork<'a> {
     /// The branch.
     branch: Branch<'a>,
-    /// The edges that were not entered.
+    /// The edges that are left.
     left: ByteSet,
     /// The length of the key before the edges.
     depth: usize,
+    /// How many bytes there are for the edges that are left and their targets. Malformed targets may
+    /// overlap, and then there are too few.
+    room: usize,
 }
 
 /// Returns the edges of a branch that are at least `from`.
@@ -63,6 +67,7 @@ impl<'a> Fork<'a> {
     pub(crate) fn open(branch: Branch<'a>, from: usize, depth: usize) -> Self
         ensures depth { result.depth ≡ depth }
         ensures branch { result.branch ≡ branch.entry }
+        ensures room { result.room ≡ length branch.entry.behind.now }
         ensures left { (c : ℕ) → is_in result.left c
             ≡ (nat_le from c && is_among c (take branch.entry.edges branch.entry.behind.now)) }
     {
@@ -71,6 +76,7 @@ impl<'a> Fork<'a> {
             branch,
             left,
             depth,
+            room: branch.behind.len(),
         }
     }
 
@@ -82,17 +88,19 @@ impl<'a> Fork<'a> {
         self.left.least().is_none()
     }
 
-    /// Takes the least edge that is left, and returns it with its target.
+    /// Takes the least edge that is left, and returns it with its target. Returns `None` if none is
+    /// left, or if the branch has no room for the target.
     #[inline(always)]
     pub(crate) fn next<K: ZeroTrieWithOptions>(&mut self) -> Option<(u8, &'a [u8])>
-        ensures shorter { IfSome result (λ r. length r.1.now ≤ length self.old.branch.behind.now) }
+        ensures room { IfSome result (λ r. suc (length r.1.now) + self.new.room ≡ self.old.room) }
         ensures depth { self.new.depth ≡ self.old.depth }
-        ensures takes { (pairs : Pairs) (from : ℕ) → IsFork K.kind pairs self.old from
-            → TakesEdge K.kind pairs from self.new result }
+        ensures takes { (pairs : Pairs) → IsOpen K.kind pairs self.old
+            → TakesLeast K.kind pairs self.old self.new result }
     {
         let edge = self.left.least()?;
         self.left.remove(edge);
         let target = target_of::<K>(self.branch, edge)?;
+        self.room = self.room.checked_sub(target.len() + 1)?;
         Some((edge, target))
     }
 }
@@ -106,6 +114,8 @@ pub(crate) fn push<'a, A: Allocator>(
     forks: &mut Vec<Fork<'a>, A>,
 ) -> Result<(), AllocError>
     ensures key { IfOk result (λ _. key.new.items ≡ key.old.items ++ edge ∷ []) }
+    ensures keeps { IfOk result (λ _. Keeps fork.entry (reverse forks.old.items)
+        (reverse forks.new.items)) }
     ensures forks { IfOk result (λ _. (kind : Kind) (pairs : Pairs)
         → AreForks kind pairs key.old.items (reverse forks.old.items)
         → fork.entry.depth ≡ length key.old.items
@@ -119,28 +129,15 @@ pub(crate) fn push<'a, A: Allocator>(
     Ok(())
 }
 
-/// Enters the target of the least edge that is left of a branch. Returns its bytes, or `None` if no
-/// edge is left.
+/// Drops the innermost branch, the last of the open ones, if no edge of it is left.
 #[inline(always)]
-pub(crate) fn enter<'a, K: ZeroTrieWithOptions, A: Allocator>(
-    fork: Fork<'a>,
-    key: &mut Vec<u8, A>,
-    forks: &mut Vec<Fork<'a>, A>,
-) -> Result<Option<&'a [u8]>, AllocError>
-    ensures shorter { IfOk result (λ r. IfSome r (λ target.
-        length target.now ≤ length fork.entry.branch.behind.now)) }
-    ensures enters { IfOk result (λ r. (pairs : Pairs) (from : ℕ)
-        → AreForks K.kind pairs key.old.items (reverse forks.old.items)
-        → fork.entry.depth ≡ length key.old.items
-        → IsFork K.kind (behind_all key.old.items pairs) fork.entry from
-        → EntersLeast K.kind pairs from key.old.items key.new.items (reverse forks.new.items) r) }
+fn drop_over<'a, A: Allocator>(forks: &mut Vec<Fork<'a>, A>, inner: usize)
+    requires { length forks.old.items ≡ suc inner }
+    ensures { DropsOver (reverse forks.old.items) (reverse forks.new.items) }
 {
-    let mut fork = fork;
-    let Some((edge, target)) = fork.next::<K>() else {
-        return Ok(None);
-    };
-    push(edge, fork, key, forks)?;
-    Ok(Some(target))
+    if forks[inner].is_over() {
+        forks.truncate(inner);
+    }
 }
 
 /// Goes back to the innermost branch with an edge left, and enters the least. Returns the target's
@@ -150,18 +147,29 @@ pub(crate) fn climb<'a, K: ZeroTrieWithOptions, A: Allocator>(
     key: &mut Vec<u8, A>,
     forks: &mut Vec<Fork<'a>, A>,
 ) -> Result<Option<&'a [u8]>, AllocError>
-    ensures { IfOk result (λ r. (pairs : Pairs) (bound : List ℕ)
+    ensures room { IfOk result (λ r. IfSome r (λ target. length target.now
+        + rooms (reverse forks.new.items) < rooms (reverse forks.old.items))) }
+    ensures kept { IfOk result (λ r. IfSome r (λ _. KeepsFront key.old.items key.new.items)) }
+    ensures climbs { IfOk result (λ r. (pairs : Pairs) (limit : ℕ)
+        → AreOpen K.kind pairs key.old.items limit (reverse forks.old.items)
+        → Climbs K.kind pairs key.old.items (reverse forks.old.items)
+        key.new.items (reverse forks.new.items) r) }
+    ensures arrives { IfOk result (λ r. (pairs : Pairs) (bound : List ℕ)
         → AreForks K.kind pairs key.old.items (reverse forks.old.items)
         → NoneFrom (behind_all key.old.items pairs) bound
         → ArrivesOrEnds K.kind pairs (key.old.items ++ bound)
         key.new.items (reverse forks.new.items) r) }
 {
-    let Some(fork) = forks.pop() else {
+    let Some(inner) = forks.len().checked_sub(1) else {
         return Ok(None);
     };
-    key.truncate(fork.depth);
-    let found = enter::<K, A>(fork, key, forks)?;
-    Ok(found)
+    key.truncate(forks[inner].depth);
+    let Some((edge, target)) = forks[inner].next::<K>() else {
+        return Ok(None);
+    };
+    drop_over(forks, inner);
+    key.push(edge)?;
+    Ok(Some(target))
 }
 
 /// Drops the branches that are at least this deep.
@@ -173,4 +181,29 @@ pub(crate) fn drop_inner<'a, A: Allocator>(forks: &mut Vec<Fork<'a>, A>, depth: 
         count -= 1;
     }
     forks.truncate(count);
+}
+
+/// Leaves out the edges outside of a set, of the innermost branch if it is after this many bytes of the
+/// key.
+pub(crate) fn narrow_inner<'a, A: Allocator>(
+    forks: &mut Vec<Fork<'a>, A>,
+    depth: usize,
+    wanted: &ByteSet,
+)
+    ensures { Narrows depth wanted.now (reverse forks.old.items) (reverse forks.new.items) }
+{
+    let count = forks.len();
+    if count == 0 {
+        return;
+    }
+    let mut fork = forks[count - 1];
+    if fork.depth != depth {
+        return;
+    }
+    fork.left = fork.left.intersect(wanted);
+    if fork.is_over() {
+        forks.truncate(count - 1);
+    } else {
+        forks[count - 1] = fork;
+    }
 }

@@ -1,6 +1,6 @@
 //! The pairs of a sorted listing whose keys an automaton accepts.
 
-ghost use Rattle.std.specs.Prelude.{◌≡◌, ◌≤◌, ◌+◌, [], length, take, true, IfOk};
+ghost use Rattle.std.specs.Prelude.{◌≡◌, ◌≤◌, ◌<◌, ◌+◌, [], false, true, IfOk};
 ghost use Rattle.zerotrie_core.specs.Listings.{ListsOne, MemoryOnly, item_of};
 ghost use Rattle.zerotrie_core.specs.WellFormed.{IsWellFormed};
 ghost use Rattle.zerotrie_search.specs.Searches.{accepted_left};
@@ -9,9 +9,10 @@ ghost use Rattle.zerotrie_search.specs.Trails.{IsTrail, IsFront, trail_bytes};
 
 use crate::automaton::Automaton;
 use crate::sorted::ZeroTrieSorted;
-use crate::trail::{Verdict, read};
+use crate::trail::{Verdict, last_state, read};
 use std::alloc::{AllocError, Allocator, Global};
 use std::marker::Model;
+use zerotrie_core::Reached;
 
 /// Lists the pairs of a sorted listing whose keys an automaton accepts, in the order of bytes, each key
 /// borrowed from one buffer.
@@ -31,9 +32,11 @@ use std::marker::Model;
 /// assert!(rt; !search.advance()?);
 /// ```
 ///
-/// Once no accepted key begins with the bytes so far, it skips the pairs that begin with them and reads
-/// no node of them. It allocates for the longest key alone: the listing, and one state a byte, which
-/// keys that begin alike share.
+/// It goes from node to node. Once no accepted key begins with the bytes so far, it leaves out the pairs
+/// that begin with them and reads no node of them. Of a branch it enters no target whose edge the
+/// automaton does not want. It allocates for the longest key alone: the listing, and one state a byte,
+/// which keys that begin alike share. If an allocation for a state fails, it reads the next key from an
+/// earlier byte.
 #[derive(Drop)]
 pub struct ZeroTrieSortedSearch<'a, 'p, T: Automaton, A: Allocator = Global> {
     pairs: ZeroTrieSorted<'a, 'p, A>,
@@ -43,10 +46,10 @@ pub struct ZeroTrieSortedSearch<'a, 'p, T: Automaton, A: Allocator = Global> {
 }
 
 impl<'a, 'p, T: Automaton, A: Allocator> Model for ZeroTrieSortedSearch<'a, 'p, T, A> {
-    ghost use Rattle.std.specs.Prelude.{[]};
+    ghost use Rattle.std.specs.Prelude.{◌≡◌, [], false};
     ghost use Rattle.zerotrie_search.specs.Searches.{accepted_left};
     ghost use Rattle.zerotrie_search.specs.Sorted.{SortedSearching};
-    ghost use Rattle.zerotrie_search.specs.Trails.{IsTrail};
+    ghost use Rattle.zerotrie_search.specs.Trails.{IsTrail, IsFront, trail_bytes};
 
     ghost Value = { SortedSearching T T.State };
 
@@ -57,8 +60,10 @@ impl<'a, 'p, T: Automaton, A: Allocator> Model for ZeroTrieSortedSearch<'a, 'p, 
       state = s.state;
     } };
 
-    ghost invariant = { λ s. IsTrail (T.IsAfter s.automaton) (T.accepts_from s.automaton)
-        (T.accepts s.automaton) [] s.trail.items };
+    ghost invariant = { λ s.
+        IsTrail (T.IsAfter s.automaton) (T.accepts_from s.automaton) (T.accepts s.automaton)
+        [] s.trail.items
+        × (s.pairs.left.ended ≡ false → IsFront (trail_bytes s.trail.items) s.pairs.key) };
 }
 
 impl<'a, 'p, T: Automaton, A: Allocator> ZeroTrieSortedSearch<'a, 'p, T, A> {
@@ -75,6 +80,8 @@ impl<'a, 'p, T: Automaton, A: Allocator> ZeroTrieSortedSearch<'a, 'p, T, A> {
         ensures state { IfOk result (λ found. found ≡ true
             → T.IsAfter self.new.automaton self.new.sorted.key self.new.state) }
         ensures most { moved result + self.new.sorted.most ≤ self.old.sorted.most }
+        ensures work { IfOk result (λ found. found ≡ true
+            → self.new.sorted.work < self.old.sorted.work) }
         ensures kind { self.new.sorted.kind ≡ self.old.sorted.kind }
         ensures bytes { self.new.sorted.bytes ≡ self.old.sorted.bytes }
     {
@@ -138,15 +145,33 @@ impl<'a, 'p, T: Automaton, A: Allocator + Copy> ZeroTrieSortedSearch<'a, 'p, T, 
     }
 }
 
-/// Returns how many bytes of a trail a key begins with.
-fn shared<S: Copy + Drop>(trail: &[(u8, S)], key: &[u8]) -> usize
-    ensures { IsFront (take result (trail_bytes trail.now)) key.now }
+/// Leaves out the targets of the branch that was opened last whose edges the automaton does not want, as
+/// far as memory was there for the states.
+#[inline]
+fn only_wanted<'a, 'p, T: Automaton, A: Allocator>(
+    automaton: &T,
+    pairs: &mut ZeroTrieSorted<'a, 'p, A>,
+    trail: &[(u8, T::State)],
+)
+    requires trail { IsTrail (T.IsAfter automaton.now) (T.accepts_from automaton.now)
+        (T.accepts automaton.now) [] trail.now }
+    requires front { IsFront (trail_bytes trail.now) pairs.old.key }
+    ensures left { IsWellFormed pairs.old.kind pairs.old.bytes
+        → accepted_left (T.accepts automaton.now) pairs.new.left
+        ≡ accepted_left (T.accepts automaton.now) pairs.old.left }
+    ensures ended { pairs.new.left.ended ≡ pairs.old.left.ended }
+    ensures less { pairs.new.work ≤ pairs.old.work }
+    ensures key { pairs.new.key ≡ pairs.old.key }
+    ensures most { pairs.new.most ≡ pairs.old.most }
+    ensures kind { pairs.new.kind ≡ pairs.old.kind }
+    ensures bytes { pairs.new.bytes ≡ pairs.old.bytes }
 {
-    let mut count = 0;
-    while count < trail.len() && count < key.len() && trail[count].0 == key[count] {
-        count += 1;
+    if trail.len() < pairs.key().len() {
+        return;
     }
-    count
+    if let Some(wanted) = automaton.wanted(last_state(automaton, trail)) {
+        pairs.only(&wanted);
+    }
 }
 
 /// Moves a sorted listing to the next pair whose key is accepted.
@@ -156,10 +181,14 @@ fn next_accepted<'a, 'p, T: Automaton, A: Allocator>(
     trail: &mut Vec<(u8, T::State), A>,
     state: &mut T::State,
 ) -> Result<bool, AllocError>
-    requires { IsTrail (T.IsAfter automaton.now) (T.accepts_from automaton.now)
+    requires trail { IsTrail (T.IsAfter automaton.now) (T.accepts_from automaton.now)
         (T.accepts automaton.now) [] trail.old.items }
+    requires front { pairs.old.left.ended ≡ false
+        → IsFront (trail_bytes trail.old.items) pairs.old.key }
     ensures trail { IsTrail (T.IsAfter automaton.now) (T.accepts_from automaton.now)
         (T.accepts automaton.now) [] trail.new.items }
+    ensures front { pairs.new.left.ended ≡ false
+        → IsFront (trail_bytes trail.new.items) pairs.new.key }
     ensures lists { IsWellFormed pairs.old.kind pairs.old.bytes
         → ListsOne (λ key. key) MemoryOnly
         (accepted_left (T.accepts automaton.now) pairs.old.left)
@@ -168,21 +197,28 @@ fn next_accepted<'a, 'p, T: Automaton, A: Allocator>(
     ensures state { IfOk result (λ found. found ≡ true
         → T.IsAfter automaton.now pairs.new.key state.new) }
     ensures most { moved result + pairs.new.most ≤ pairs.old.most }
+    ensures work { IfOk result (λ found. found ≡ true → pairs.new.work < pairs.old.work) }
     ensures kind { pairs.new.kind ≡ pairs.old.kind }
     ensures bytes { pairs.new.bytes ≡ pairs.old.bytes }
 {
     loop {
-        if !pairs.advance()? {
-            return Ok(false);
-        }
-        let key = pairs.key();
-        let kept = shared(trail.as_slice(), key);
-        match read(automaton, key, kept, trail) {
-            Verdict::Dead(depth) => pairs.skip(depth)?,
-            Verdict::Alive(after) => {
-                if automaton.is_match(after) {
-                    *state = after;
-                    return Ok(true);
+        match pairs.advance_node()? {
+            Reached::End => return Ok(false),
+            Reached::Branch => only_wanted(automaton, pairs, trail.as_slice()),
+            Reached::Bytes(kept) => match read(automaton, pairs.key(), kept, trail) {
+                Verdict::Alive(_after) => {}
+                Verdict::Dead(depth) => pairs.leave(depth),
+            },
+            Reached::Pair => {
+                let key = pairs.key();
+                match read(automaton, key, key.len(), trail) {
+                    Verdict::Dead(depth) => pairs.leave(depth),
+                    Verdict::Alive(after) => {
+                        if automaton.is_match(after) {
+                            *state = after;
+                            return Ok(true);
+                        }
+                    }
                 }
             }
         }

@@ -1,6 +1,6 @@
 //! The way down along a lower bound.
 
-ghost use Rattle.std.specs.Prelude.{◌≡◌, ◌≢◌, ◌∷◌, ◌<◌, ◌++◌, ℕ, List, [], length, reverse, IfOk, IfSome, if◌then◌else◌};
+ghost use Rattle.std.specs.Prelude.{◌≡◌, ◌≢◌, ◌∷◌, ◌<◌, ◌≤◌, ◌+◌, ◌++◌, ℕ, List, [], length, reverse, IfOk, IfSome, if◌then◌else◌};
 ghost use Rattle.std.specs.Ordering.{nat_cmp, is_lt};
 ghost use Rattle.std.specs.Cmp.Lexicographic.{slice_cmp};
 ghost use Rattle.std.specs.Range.Bound.{bound_map};
@@ -10,8 +10,9 @@ ghost use Rattle.zerotrie_base.specs.Nodes.{Begins};
 ghost use Rattle.zerotrie_base.specs.Texts.{Lists};
 ghost use Rattle.zerotrie_core.specs.Shapes.{branch_shape};
 ghost use Rattle.zerotrie_search.specs.Forks.{Follows, GoesOn, StandsOrEnds, IsPastValue, IsRun, IsShorter, first_bound};
+ghost use Rattle.zerotrie_search.specs.Walks.{rooms};
 
-use crate::sorted::fork::{Fork, climb, enter, push, target_of};
+use crate::sorted::fork::{Fork, climb, push};
 use std::alloc::{AllocError, Allocator};
 use std::cmp::Ordering;
 use std::ops::Bound;
@@ -46,7 +47,8 @@ fn past_run<'a, 'k, K: ZeroTrieWithOptions, A: Allocator>(
     forks: &mut Vec<Fork<'a>, A>,
 ) -> Result<Way<'a, 'k>, AllocError>
     requires { length after.now < length at.now }
-    ensures shorter { IfOk result (λ way. IsShorter at.now way) }
+    ensures shorter { IfOk result (λ way. IsShorter (length at.now + rooms (reverse forks.old.items))
+        way (rooms (reverse forks.new.items))) }
     ensures goes { IfOk result (λ way. (pairs : Pairs) (bound : List ℕ)
         → left.now ≢ [] → Follows K.kind pairs bound left.now key.old.items at.now (reverse forks.old.items)
         → IsRun K.kind at.now run.now after.now
@@ -75,21 +77,23 @@ fn past_branch<'a, 'k, K: ZeroTrieWithOptions, A: Allocator>(
     forks: &mut Vec<Fork<'a>, A>,
 ) -> Result<Way<'a, 'k>, AllocError>
     requires { Begins K.kind at.now (branch_shape branch) }
-    ensures shorter { IfOk result (λ way. IsShorter at.now way) }
+    ensures shorter { IfOk result (λ way. IsShorter (length at.now + rooms (reverse forks.old.items))
+        way (rooms (reverse forks.new.items))) }
     ensures goes { IfOk result (λ way. (pairs : Pairs) (bound : List ℕ)
         → Follows K.kind pairs bound (byte ∷ more.now) key.old.items at.now (reverse forks.old.items)
         → GoesOn K.kind pairs bound key.new.items (reverse forks.new.items) way) }
 {
-    let fork = Fork::open(branch, byte as usize + 1, key.len());
-    if let Some(target) = target_of::<K>(branch, byte) {
-        push(byte, fork, key, forks)?;
-        return Ok(Way::Down(target, more));
+    let mut fork = Fork::open(branch, byte as usize, key.len());
+    let Some((edge, target)) = fork.next::<K>() else {
+        let next = climb::<K, A>(key, forks)?;
+        return Ok(Way::Found(next));
+    };
+    push(edge, fork, key, forks)?;
+    if edge == byte {
+        Ok(Way::Down(target, more))
+    } else {
+        Ok(Way::Found(Some(target)))
     }
-    if let Some(target) = enter::<K, A>(fork, key, forks)? {
-        return Ok(Way::Found(Some(target)));
-    }
-    let next = climb::<K, A>(key, forks)?;
-    Ok(Way::Found(next))
 }
 
 /// Goes past one node towards a byte of the bound.
@@ -103,7 +107,8 @@ fn past_node<'a, 'k, K: ZeroTrieWithOptions, A: Allocator>(
     forks: &mut Vec<Fork<'a>, A>,
 ) -> Result<Way<'a, 'k>, AllocError>
     requires { left.now ≡ byte ∷ more.now }
-    ensures shorter { IfOk result (λ way. IsShorter at.now way) }
+    ensures shorter { IfOk result (λ way. IsShorter (length at.now + rooms (reverse forks.old.items))
+        way (rooms (reverse forks.new.items))) }
     ensures goes { IfOk result (λ way. (pairs : Pairs) (bound : List ℕ)
         → Follows K.kind pairs bound left.now key.old.items at.now (reverse forks.old.items)
         → GoesOn K.kind pairs bound key.new.items (reverse forks.new.items) way) }
@@ -132,7 +137,8 @@ fn past_node<'a, 'k, K: ZeroTrieWithOptions, A: Allocator>(
 
 /// Returns the bytes without a value at their beginning.
 fn past_value<K: ZeroTrieWithOptions>(at: &[u8]) -> &[u8]
-    ensures { (pairs : Pairs) → Lists K.kind at.now pairs → IsPastValue K.kind pairs result.now }
+    ensures past { (pairs : Pairs) → Lists K.kind at.now pairs → IsPastValue K.kind pairs result.now }
+    ensures less { length result.now ≤ length at.now }
 {
     match first_node::<K>(at) {
         Some(Node::Value(_value, after)) => after,
@@ -154,7 +160,9 @@ fn seek<'a, K: ZeroTrieWithOptions, A: Allocator>(
 ) -> Result<Option<&'a [u8]>, AllocError>
     requires key { key.old.items ≡ [] }
     requires forks { forks.old.items ≡ [] }
-    ensures { IfOk result (λ r. (pairs : Pairs) → Lists K.kind bytes.now pairs
+    ensures room { IfOk result (λ r. IfSome r (λ rest. length rest.now
+        + rooms (reverse forks.new.items) ≤ length bytes.now)) }
+    ensures stands { IfOk result (λ r. (pairs : Pairs) → Lists K.kind bytes.now pairs
         → StandsOrEnds K.kind pairs (if with_it then bound.now else bound.now ++ 0 ∷ [])
         key.new.items (reverse forks.new.items) r) }
 {
@@ -185,7 +193,9 @@ pub(crate) fn seek_of<'a, A: Allocator>(
 ) -> Result<Option<&'a [u8]>, AllocError>
     requires key { key.old.items ≡ [] }
     requires forks { forks.old.items ≡ [] }
-    ensures { IfOk result (λ r. (pairs : Pairs) → Lists (kind_with options) bytes.now pairs
+    ensures room { IfOk result (λ r. IfSome r (λ rest. length rest.now
+        + rooms (reverse forks.new.items) ≤ length bytes.now)) }
+    ensures stands { IfOk result (λ r. (pairs : Pairs) → Lists (kind_with options) bytes.now pairs
         → StandsOrEnds (kind_with options) pairs (first_bound (bound_map (λ b. b.now) from.entry))
         key.new.items (reverse forks.new.items) r) }
 {

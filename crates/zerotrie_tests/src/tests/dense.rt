@@ -44,9 +44,9 @@ fn record_with(alloc: Global, row: &Row<'_>) -> Result<Vec<u8>, AllocError> {
         &[
             &count.to_le_bytes(),
             b"/",
-            &primary.len().to_le_bytes(),
-            &suffixes.len().to_le_bytes(),
-            &cells.len().to_le_bytes(),
+            &(primary.len() as u64).to_le_bytes(),
+            &(suffixes.len() as u64).to_le_bytes(),
+            &(cells.len() as u64).to_le_bytes(),
             primary,
             suffixes,
         ],
@@ -214,7 +214,7 @@ fn has_cells(
     match table.to_record_bytes(alloc) {
         Ok(record) => {
             let told = record.as_slice().get(19..27);
-            told == Some(cells.to_le_bytes().as_slice()) && finds(table, entries)
+            told == Some((cells as u64).to_le_bytes().as_slice()) && finds(table, entries)
         }
         Err(_) => false,
     }

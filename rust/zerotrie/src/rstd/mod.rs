@@ -32,7 +32,7 @@ macro_rules! over {
 }
 use over;
 
-pub use core::{cmp, convert, error, fmt, marker, ops, str};
+pub use core::{cell, cmp, convert, error, fmt, marker, ops, str};
 
 pub mod alloc;
 pub mod arrayvec;

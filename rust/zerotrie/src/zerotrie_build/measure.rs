@@ -159,7 +159,7 @@ fn total(lens: &[usize]) -> Result<usize, ZeroTrieBuildError> {
 
 /// Returns whether this length is beyond every offset of the kind.
 fn is_too_wide<K: ZeroTrieWithOptions>(total: usize) -> bool {
-    !K::EXTENDED && total >= 1 << 32
+    !K::EXTENDED && total as u64 >= 1 << 32
 }
 
 /// Returns how long a text is that has `len` bytes in front of a branch to targets of these

@@ -94,7 +94,7 @@ impl CursorPlace {
     ///
     /// Skips a value before the edge. If no edge equals the byte, returns `None` and leaves the
     /// cursor empty.
-    #[inline(always)]
+    #[inline(never)]
     pub fn step<K: ZeroTrieWithOptions>(&mut self, bytes: &[u8], byte: u8) -> Option<u8> {
         let place = self.within(bytes);
         let (run, trie) = place.parts(bytes);

@@ -120,7 +120,7 @@ fn put_records<A: Allocator>(
 ) -> Result<(), ZeroIndexBuildError> {
     for pair in bucket {
         put_record(pool, pair.key, pair.value)?;
-        if pool.len() >= 1 << 32 {
+        if pool.len() as u64 >= 1 << 32 {
             return Err(ZeroIndexBuildError::CapacityExceeded);
         }
     }

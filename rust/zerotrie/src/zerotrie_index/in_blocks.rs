@@ -55,8 +55,9 @@ where
 {
     /// Reads the header of a file and the table behind it.
     ///
-    /// The errors are those of the reads, and `table_len` and `open_table` return the others: the
-    /// file does not begin as an index that is sealed in blocks.
+    /// An error is one of a read of the header or of the table, one of an allocation, or what
+    /// `table_len` or `open_table` returns, in their order: the file does not begin as an index that
+    /// is sealed in blocks.
     pub fn open(alloc: Global, source: S) -> Result<Self, S::Error> {
         let mut source = source;
         let mut header = [0; HEADER_LEN];
@@ -97,7 +98,7 @@ impl Front {
     {
         let place = number * BLOCK_LEN;
         let mut block = Vec::new(alloc);
-        block.resize(BLOCK_LEN.min(self.index_len.saturating_sub(place)), 0)?;
+        block.resize(BLOCK_LEN.min(self.index_len - place), 0)?;
         let Some(place) = self.start.checked_add(place as u64) else {
             return Err(S::Error::from(SealError::CutShort));
         };
@@ -111,22 +112,28 @@ impl Front {
         &self,
         alloc: Global,
         source: &mut S,
-        place: u64,
+        place: usize,
         most: usize,
         part: &mut Vec<u8>,
     ) -> Result<(), S::Error>
     where
         S::Error: From<AllocError> + From<SealError>,
     {
-        let number = (place / BLOCK_LEN as u64) as usize;
-        let block = self.read_block(alloc, source, number)?;
-        let offset = (place % BLOCK_LEN as u64) as usize;
-        if block.len() <= offset {
-            return Err(S::Error::from(SealError::CutShort));
-        }
+        let block = self.read_block(alloc, source, place / BLOCK_LEN)?;
+        let offset = place % BLOCK_LEN;
         let count = most.min(block.len() - offset);
         part.extend_from_slice(&block.as_slice()[offset..offset + count])?;
         Ok(())
+    }
+
+    /// Returns where as many bytes of the index from a place on start, if it has them all.
+    fn start_of(&self, place: u64, len: usize) -> Option<usize> {
+        let start = usize::try_from(place).ok()?;
+        let most = self.index_len.checked_sub(len)?;
+        if most < start {
+            return None;
+        }
+        Some(start)
     }
 
     /// Reads as many bytes of the index from this place on.
@@ -140,11 +147,12 @@ impl Front {
     where
         S::Error: From<AllocError> + From<SealError>,
     {
+        let Some(start) = self.start_of(place, len) else {
+            return Err(S::Error::from(SealError::CutShort));
+        };
         let mut part = Vec::new(alloc);
         while part.len() < len {
-            let Some(next) = place.checked_add(part.len() as u64) else {
-                return Err(S::Error::from(SealError::CutShort));
-            };
+            let next = start + part.len();
             self.add_part(alloc, source, next, len - part.len(), &mut part)?;
         }
         Ok(part)

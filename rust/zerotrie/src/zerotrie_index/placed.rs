@@ -64,9 +64,10 @@ where
 ///
 /// Reads the seed and the number of buckets, the entry of the key's bucket and the next one, and the
 /// records of the bucket if the key is marked there: in three reads, if they have at most 1,024
-/// bytes. If the bytes are an index, this is what `get` returns. Of others the result is
-/// unspecified, and the memory that is taken grows with what was read. An error is that of a read
-/// or of an allocation.
+/// bytes. If the bytes are an index, this is what `get` returns. Of others the result is what it is
+/// of each index with the bytes that were read, and unspecified if none has them; the memory that is
+/// taken grows with what was read. An error is that of a read or of an allocation. If the bytes are
+/// an index, each read is inside it.
 pub fn get_at<S: ReadAt>(
     alloc: Global,
     source: &mut S,

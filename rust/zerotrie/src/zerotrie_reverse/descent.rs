@@ -23,7 +23,7 @@ fn branch_with<K: ZeroTrieWithOptions>(
     width: usize,
     body: &[u8],
 ) -> Option<Branch<'_>> {
-    if edges < 2 || width > 8 {
+    if edges < 2 || width > usize::BITS as usize / 8 {
         return None;
     }
     let before = if K::USE_PHF && edges >= 16 {

@@ -29,8 +29,8 @@ pub fn is_index_number(number: u16) -> bool {
 
 /// Returns the parts of a table, if it is as long as one of an index of the length in it.
 fn parts_of(table: &[u8]) -> Option<IndexTable<'_>> {
-    let (index_len, sums) = table.split_first_chunk::<8>()?;
-    let index_len = usize::from_le_bytes(*index_len);
+    let (len, sums) = table.split_first_chunk::<8>()?;
+    let index_len = usize::try_from(u64::from_le_bytes(*len)).ok()?;
     if sums.len() != 4 * block_count(index_len) {
         return None;
     }
@@ -112,7 +112,7 @@ pub fn open_index(file: &[u8]) -> Result<&[u8], SealError> {
 /// ```
 ///
 /// The errors are `NoMagic`, `UnknownVersion` and `UnknownKind`, also of a file that is sealed as a
-/// whole, with the number 24.
+/// whole, with the number 24. The parts are looked at in this order.
 pub fn table_len(header: &[u8; HEADER_LEN]) -> Result<usize, SealError> {
     let number = number_in(header)?;
     if number != BLOCKS_NUMBER {
@@ -136,7 +136,8 @@ pub fn table_len(header: &[u8; HEADER_LEN]) -> Result<usize, SealError> {
 /// ```
 ///
 /// What an error says is true of each file that begins with these bytes: none is a sealed index but
-/// one as a whole, of which `UnknownKind(24)` is returned.
+/// one as a whole, of which `UnknownKind(24)` is returned. The header is looked at first, then the
+/// length of the table and its checksum.
 pub fn open_table<'a>(
     header: &[u8; HEADER_LEN],
     table: &'a [u8],

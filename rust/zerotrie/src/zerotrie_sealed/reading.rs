@@ -121,10 +121,11 @@ fn kind_of(number: u16) -> Option<TrieKind> {
 /// Returns the length in the header of a file.
 pub(in crate::made::zerotrie_sealed) fn length_in(file: &[u8]) -> usize {
     let (_, numbers) = file.split_at(12);
-    usize::from_le_bytes([
+    let len = u64::from_le_bytes([
         numbers[0], numbers[1], numbers[2], numbers[3], numbers[4], numbers[5], numbers[6],
         numbers[7],
-    ])
+    ]);
+    usize::try_from(len).unwrap_or(usize::MAX)
 }
 
 /// Returns the bytes behind the header of a file, if they are as many as it says.

@@ -31,7 +31,7 @@ fn header_with(number: u16, bytes: &[u8], checksum: u32) -> [u8; HEADER_LEN] {
     let [m0, m1, m2, m3, m4, m5, m6, m7] = MAGIC;
     let [v0, v1] = VERSION.to_le_bytes();
     let [k0, k1] = number.to_le_bytes();
-    let [l0, l1, l2, l3, l4, l5, l6, l7] = bytes.len().to_le_bytes();
+    let [l0, l1, l2, l3, l4, l5, l6, l7] = (bytes.len() as u64).to_le_bytes();
     let [c0, c1, c2, c3] = checksum.to_le_bytes();
     [
         m0, m1, m2, m3, m4, m5, m6, m7, v0, v1, k0, k1, l0, l1, l2, l3, l4, l5, l6, l7, c0, c1, c2,
@@ -85,7 +85,7 @@ pub fn seal(alloc: Global, kind: TrieKind, trie: &[u8]) -> Result<Vec<u8>, Alloc
 /// Returns the table of an index: its length, and the checksum of each of its blocks.
 fn table_of(alloc: Global, index: &[u8]) -> Result<Vec<u8>, AllocError> {
     let mut table = Vec::new(alloc);
-    table.extend_from_slice(&index.len().to_le_bytes())?;
+    table.extend_from_slice(&(index.len() as u64).to_le_bytes())?;
     add_sums(index, &mut table)?;
     Ok(table)
 }

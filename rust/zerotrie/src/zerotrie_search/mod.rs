@@ -18,6 +18,7 @@ mod glob;
 mod keys_of;
 pub mod laws;
 mod levenshtein;
+mod listing;
 mod nearest;
 mod pending;
 mod prefix;
@@ -41,6 +42,7 @@ pub use levenshtein::{
     CharsState, Levenshtein, LevenshteinChars, LevenshteinState, Osa, OsaChars, OsaCharsState,
     OsaState,
 };
+pub use listing::{AnyOf, TrieListing};
 pub use nearest::ZeroTrieNearest;
 pub use prefix::StartsWith;
 pub use range::KeyRange;

@@ -13,16 +13,17 @@ mod seek;
 mod walk;
 
 pub(in crate::made::zerotrie_search) use back::last_between;
-use fork::Fork;
+use fork::{Fork, drop_inner, narrow_inner};
 pub use iterator::ZeroTrieSortedIterator;
 pub use search::ZeroTrieSortedSearch;
 use seek::seek_of;
 use crate::rstd::alloc::{AllocError, Allocator, Global};
 use crate::rstd::cmp::Ordering;
 use crate::rstd::ops::Bound;
-use walk::{go_past_of, next_pair_of};
+use walk::{next_node_of, next_pair_of};
 use crate::zerotrie_core::{
-    TrieKind, ZeroTrieBuilderOptions, ZeroTrieWithOptions, by_kind, is_well_formed,
+    ByteSet, Reached, TrieKind, ZeroTrieBuilderOptions, ZeroTrieWithOptions, by_kind,
+    is_well_formed,
 };
 
 /// Lists the pairs of a trie of any kind in the order of bytes, each key borrowed from one buffer.
@@ -46,7 +47,7 @@ use crate::zerotrie_core::{
 /// The order is that of the bytes of the stored keys, in every kind. So in a kind that ignores case
 /// upper case comes before lower case. It allocates for the longest key alone: the key, and the open
 /// branches on the way to it. Each has the set of its edges that are left, so that no edge is read
-/// twice. Of any n bytes it lists at most n pairs.
+/// twice. Of any n bytes it reads none twice, and lists at most n pairs.
 #[derive(Clone)]
 pub struct ZeroTrieSorted<'a, 'p, A: Allocator = Global> {
     options: ZeroTrieBuilderOptions,
@@ -56,8 +57,10 @@ pub struct ZeroTrieSorted<'a, 'p, A: Allocator = Global> {
     rest: &'a [u8],
     forks: Vec<Fork<'a>, A>,
     value: usize,
-    // Malformed targets may overlap, so that edges lead to more pairs than there are bytes.
+    // At most how many pairs are to come.
     most: usize,
+    // Whether the key is that of the pair that was listed last.
+    found: bool,
     ended: bool,
 }
 
@@ -92,11 +95,15 @@ fn next_within<'a, A: Allocator>(
     Ok(within)
 }
 
-/// Returns where a listing begins, and how many pairs it may list.
-fn start_at<'a>(found: Option<&'a [u8]>, bytes: &'a [u8]) -> (&'a [u8], usize) {
+/// Returns the bytes where a listing begins. If nothing was found, there are none, and no branch is
+/// open.
+fn start_at<'a, A: Allocator>(found: Option<&'a [u8]>, forks: &mut Vec<Fork<'a>, A>) -> &'a [u8] {
     match found {
-        Some(rest) => (rest, bytes.len()),
-        None => (bytes, 0),
+        Some(rest) => rest,
+        None => {
+            forks.truncate(0);
+            &[]
+        }
     }
 }
 
@@ -122,7 +129,7 @@ impl<'a, 'p, A: Allocator + Copy> ZeroTrieSorted<'a, 'p, A> {
         let mut key = Vec::new(alloc);
         let mut forks = Vec::new(alloc);
         let found = seek_of(options, bytes, from, &mut key, &mut forks)?;
-        let (rest, most) = start_at(found, bytes);
+        let rest = start_at(found, &mut forks);
         Ok(ZeroTrieSorted {
             options,
             bytes,
@@ -131,7 +138,8 @@ impl<'a, 'p, A: Allocator + Copy> ZeroTrieSorted<'a, 'p, A> {
             rest,
             forks,
             value: 0,
-            most,
+            most: bytes.len(),
+            found: false,
             ended: false,
         })
     }
@@ -143,7 +151,11 @@ impl<'a, 'p, A: Allocator> ZeroTrieSorted<'a, 'p, A> {
     /// The only error is a failed allocation for a longer key. On malformed bytes the result is
     /// unspecified; it never panics or reads outside them, and lists at most as many pairs as bytes.
     pub fn advance(&mut self) -> Result<bool, AllocError> {
-        if self.ended || self.most == 0 {
+        self.found = false;
+        if self.ended {
+            return Ok(false);
+        }
+        if self.most == 0 {
             self.ended = true;
             return Ok(false);
         }
@@ -157,6 +169,7 @@ impl<'a, 'p, A: Allocator> ZeroTrieSorted<'a, 'p, A> {
         ) {
             Ok(true) => {
                 self.most -= 1;
+                self.found = true;
                 Ok(true)
             }
             Ok(false) => {
@@ -170,8 +183,61 @@ impl<'a, 'p, A: Allocator> ZeroTrieSorted<'a, 'p, A> {
         }
     }
 
+    /// Moves by one node: to the value of the current key, to more bytes of the keys that come next, or
+    /// to the targets of a branch. An error ends the listing.
+    ///
+    /// It ends behind the upper bound, and where the bytes turn out to be malformed.
+    pub(in crate::made::zerotrie_search) fn advance_node(&mut self) -> Result<Reached, AllocError> {
+        self.found = false;
+        if self.ended {
+            return Ok(Reached::End);
+        }
+        self.ended = true;
+        match next_node_of(
+            self.options,
+            &mut self.rest,
+            &mut self.key,
+            &mut self.value,
+            &mut self.forks,
+        )? {
+            Reached::End => Ok(Reached::End),
+            Reached::Pair => {
+                if self.most == 0 {
+                    return Ok(Reached::End);
+                }
+                if !is_up_to(self.to, self.key.as_slice()) {
+                    return Ok(Reached::End);
+                }
+                self.most -= 1;
+                self.found = true;
+                self.ended = false;
+                Ok(Reached::Pair)
+            }
+            Reached::Bytes(kept) => {
+                self.ended = false;
+                Ok(Reached::Bytes(kept))
+            }
+            Reached::Branch => {
+                self.ended = false;
+                Ok(Reached::Branch)
+            }
+        }
+    }
+
+    /// Leaves out the pairs still to come whose keys begin with the first `depth` bytes of the key.
+    pub(in crate::made::zerotrie_search) fn leave(&mut self, depth: usize) {
+        drop_inner(&mut self.forks, depth.min(self.key.len()));
+        self.rest = &[];
+    }
+
+    /// Leaves out targets of the branch that was opened last whose edges are outside of a set. If that is
+    /// not after the whole key, it does nothing.
+    pub(in crate::made::zerotrie_search) fn only(&mut self, wanted: &ByteSet) {
+        narrow_inner(&mut self.forks, self.key.len(), wanted);
+    }
+
     /// Leaves out the pairs still to come whose keys begin with the first `depth` bytes of the current
-    /// key. They are the next ones.
+    /// key. They are the next ones. If the last call of `advance` found no pair, it does nothing.
     ///
     /// ```
     /// # use zerotrie::{rstd::examples::*, zerotrie_search::*, zerotrie_base::*, zerotrie_core::*, zerotrie_any::*, zerotrie_ascii::*, zerotrie_hashed::*};
@@ -183,34 +249,16 @@ impl<'a, 'p, A: Allocator> ZeroTrieSorted<'a, 'p, A> {
     /// let mut sorted = ZeroTrieSorted::new::<Simple>(Global, bytes, all, all)?;
     /// assert!(sorted.advance()?);
     /// assert_eq!(sorted.key(), b"ab".as_slice());
-    /// sorted.skip(1)?;
+    /// sorted.skip(1);
     /// assert!(sorted.advance()?);
     /// assert_eq!((sorted.key(), sorted.value()), (b"b".as_slice(), 3));
     /// # Ok::<(), Fail>(())
     /// ```
     ///
-    /// It reads none of them. Until the next call of `advance`, the key is not one of the trie. An
-    /// error means that an allocation failed, and ends the listing.
-    pub fn skip(&mut self, depth: usize) -> Result<(), AllocError> {
-        if self.most == 0 || self.ended {
-            return Ok(());
-        }
-        match go_past_of(
-            self.options,
-            depth,
-            &mut self.rest,
-            &mut self.key,
-            &mut self.forks,
-        ) {
-            Ok(true) => Ok(()),
-            Ok(false) => {
-                self.most = 0;
-                Ok(())
-            }
-            Err(error) => {
-                self.ended = true;
-                Err(error)
-            }
+    /// It reads none of them. The key and its value stay.
+    pub fn skip(&mut self, depth: usize) {
+        if self.found {
+            self.leave(depth);
         }
     }
 

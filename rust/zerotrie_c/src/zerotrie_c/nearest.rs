@@ -1,157 +1,14 @@
 // Made from crates/zerotrie_c/src/nearest.rt by rust/make: edit that.
 //! The keys that few edits make of a word, the nearest first.
 
-use crate::zerotrie_c::folding::{fold_copy, ignores_case};
+use crate::zerotrie_c::folding::fold_copy;
 use crate::zerotrie_c::numbers::{
-    BUFFER_TOO_SMALL, DONE, MALFORMED_SEARCH, OUT_OF_MEMORY, SEARCH_TOO_LONG, UNKNOWN_KIND,
-    UNKNOWN_SEARCH, trie_of,
+    BUFFER_TOO_SMALL, DONE, OUT_OF_MEMORY, UNKNOWN_KIND, UNKNOWN_SEARCH, trie_of,
 };
-use crate::zerotrie_c::parts::put_at;
+use crate::zerotrie_c::parts::{Page, put_at};
 use crate::zerotrie_c::searches::{search_by, word_of};
-use crate::rstd::alloc::Global;
-use crate::zerotrie_core::{TrieKind, TrieRef};
-use crate::zerotrie_search::{
-    ByKind, Fuzzy, Levenshtein, LevenshteinChars, Osa, OsaChars, Search, SearchBy, ZeroTrieNearest,
-};
-
-/// Returns a number of edits, or 255 for a greater one, which no automaton takes.
-fn capped(edits: u32) -> u8 {
-    u8::try_from(edits).unwrap_or(255)
-}
-
-/// Writes the next pairs of a listing of the nearest, as many as the rooms have places for.
-fn write_nearest<T: Fuzzy>(
-    mut pairs: ZeroTrieNearest<'_, T>,
-    keys: &mut [u8],
-    ends: &mut [usize],
-    values: &mut [usize],
-    distances: &mut [usize],
-    count: &mut usize,
-    next_len: &mut usize,
-) -> u32 {
-    *count = 0;
-    let mut used = 0;
-    let room = ends.len().min(values.len()).min(distances.len());
-    loop {
-        match pairs.advance() {
-            Ok(true) => {}
-            Ok(false) => {
-                *next_len = 0;
-                return DONE;
-            }
-            Err(_) => return OUT_OF_MEMORY,
-        }
-        let key = pairs.key();
-        if *count >= room || key.len() > keys.len() - used {
-            *next_len = key.len();
-            return BUFFER_TOO_SMALL;
-        }
-        put_at(key, keys, used);
-        used += key.len();
-        ends[*count] = used;
-        values[*count] = pairs.value();
-        distances[*count] = pairs.distance();
-        *count += 1;
-    }
-}
-
-/// Writes the pairs of a trie that are nearest by an automaton.
-fn write_by<T: Fuzzy>(
-    alloc: Global,
-    trie: &TrieRef<'_>,
-    automaton: T,
-    keys: &mut [u8],
-    ends: &mut [usize],
-    values: &mut [usize],
-    distances: &mut [usize],
-    count: &mut usize,
-    next_len: &mut usize,
-) -> u32 {
-    match trie.nearest(alloc, automaton) {
-        Ok(pairs) => write_nearest(pairs, keys, ends, values, distances, count, next_len),
-        Err(_) => {
-            *count = 0;
-            OUT_OF_MEMORY
-        }
-    }
-}
-
-/// Writes the pairs of a trie that are nearest by the automaton of a word, with keys as the kind compares
-/// them. The word is over its limit if there is no automaton.
-fn write_near<T: Fuzzy>(
-    alloc: Global,
-    trie: &TrieRef<'_>,
-    automaton: Option<T>,
-    keys: &mut [u8],
-    ends: &mut [usize],
-    values: &mut [usize],
-    distances: &mut [usize],
-    count: &mut usize,
-    next_len: &mut usize,
-) -> u32 {
-    let Some(automaton) = automaton else {
-        return SEARCH_TOO_LONG;
-    };
-    if ignores_case(trie.kind) {
-        let automaton = ByKind(TrieKind::Ignore, automaton);
-        return write_by(
-            alloc, trie, automaton, keys, ends, values, distances, count, next_len,
-        );
-    }
-    write_by(
-        alloc, trie, automaton, keys, ends, values, distances, count, next_len,
-    )
-}
-
-/// Writes the pairs of a trie that are nearest to a word that is as the kind compares it.
-fn write_told(
-    alloc: Global,
-    trie: &TrieRef<'_>,
-    by: u32,
-    word: &[u8],
-    edits: u32,
-    keys: &mut [u8],
-    ends: &mut [usize],
-    values: &mut [usize],
-    distances: &mut [usize],
-    count: &mut usize,
-    next_len: &mut usize,
-) -> u32 {
-    let most = capped(edits);
-    match by {
-        3 => {
-            let near = Levenshtein::new(word, most);
-            write_near(
-                alloc, trie, near, keys, ends, values, distances, count, next_len,
-            )
-        }
-        4 => {
-            let Ok(word) = crate::rstd::str::from_utf8(word) else {
-                return MALFORMED_SEARCH;
-            };
-            let near = LevenshteinChars::new(word, most);
-            write_near(
-                alloc, trie, near, keys, ends, values, distances, count, next_len,
-            )
-        }
-        5 => {
-            let near = Osa::new(word, most);
-            write_near(
-                alloc, trie, near, keys, ends, values, distances, count, next_len,
-            )
-        }
-        6 => {
-            let Ok(word) = crate::rstd::str::from_utf8(word) else {
-                return MALFORMED_SEARCH;
-            };
-            let near = OsaChars::new(word, most);
-            write_near(
-                alloc, trie, near, keys, ends, values, distances, count, next_len,
-            )
-        }
-        _ => UNKNOWN_SEARCH,
-    }
-}
+use crate::rstd::alloc::{AllocError, Global};
+use crate::zerotrie_search::{AnyAutomaton, ByKind, Fuzzy, Search, SearchBy, ZeroTrieNearest};
 
 /// Returns how edits are counted, by the number of the search, or `None` if no search with edits has it.
 fn edits_by(number: u32, edits: u32) -> Option<SearchBy> {
@@ -161,34 +18,39 @@ fn edits_by(number: u32, edits: u32) -> Option<SearchBy> {
     }
 }
 
-/// Writes the pairs of a trie that are nearest to a word, by a copy of the word as the kind compares it.
-fn write_folded(
-    alloc: Global,
-    trie: &TrieRef<'_>,
-    by: u32,
-    word: &[u8],
-    edits: u32,
+/// Writes the next pairs of a listing of the nearest, as many as the rooms have places for. Without a
+/// listing, an allocation failed.
+fn fill_nearest<T: Fuzzy>(
+    listing: Result<ZeroTrieNearest<'_, T>, AllocError>,
+    next_len: usize,
     keys: &mut [u8],
     ends: &mut [usize],
     values: &mut [usize],
     distances: &mut [usize],
-    count: &mut usize,
-    next_len: &mut usize,
-) -> u32 {
-    let Some(how) = edits_by(by, edits) else {
-        return UNKNOWN_SEARCH;
+) -> Page {
+    let Ok(mut pairs) = listing else {
+        return Page::new(OUT_OF_MEMORY, 0, next_len);
     };
-    if let Err(status) = word_of(trie.kind, how, word) {
-        return status;
+    let mut count = 0;
+    let mut used = 0;
+    let room = ends.len().min(values.len()).min(distances.len());
+    loop {
+        match pairs.advance() {
+            Ok(true) => {}
+            Ok(false) => return Page::new(DONE, count, 0),
+            Err(_) => return Page::new(OUT_OF_MEMORY, count, next_len),
+        }
+        let key = pairs.key();
+        if count >= room || key.len() > keys.len() - used {
+            return Page::new(BUFFER_TOO_SMALL, count, key.len());
+        }
+        put_at(key, keys, used);
+        used += key.len();
+        ends[count] = used;
+        values[count] = pairs.value();
+        distances[count] = pairs.distance();
+        count += 1;
     }
-    let Ok(folded) = fold_copy(alloc, trie.kind, how, word) else {
-        *count = 0;
-        return OUT_OF_MEMORY;
-    };
-    let word = folded.as_slice();
-    write_told(
-        alloc, trie, by, word, edits, keys, ends, values, distances, count, next_len,
-    )
 }
 
 /// Writes the pairs whose keys at most `edits` edits make of a word, the nearest first, and those that
@@ -218,14 +80,42 @@ pub fn zerotrie_nearest(
     let Some(trie) = trie_of(kind, bytes) else {
         return UNKNOWN_KIND;
     };
-    if ignores_case(trie.kind) {
-        return write_folded(
-            alloc, &trie, by, word, edits, keys, ends, values, distances, count, next_len,
-        );
+    let Some(by) = edits_by(by, edits) else {
+        return UNKNOWN_SEARCH;
+    };
+    if let Err(status) = word_of(trie.kind, by, word) {
+        return status;
     }
-    write_told(
-        alloc, &trie, by, word, edits, keys, ends, values, distances, count, next_len,
-    )
+    let Ok(folded) = fold_copy(alloc, trie.kind, by, word) else {
+        return Page::new(OUT_OF_MEMORY, 0, *next_len).unpack(count, next_len);
+    };
+    let sought = match word_of(trie.kind, by, folded.as_slice()) {
+        Ok(sought) => sought,
+        Err(status) => return status,
+    };
+    match sought {
+        AnyAutomaton::Fuzzy(near) => {
+            let pairs = trie.nearest(alloc, ByKind(trie.kind, near));
+            fill_nearest(pairs, *next_len, keys, ends, values, distances).unpack(count, next_len)
+        }
+        AnyAutomaton::FuzzyChars(near) => {
+            let pairs = trie.nearest(alloc, ByKind(trie.kind, near));
+            fill_nearest(pairs, *next_len, keys, ends, values, distances).unpack(count, next_len)
+        }
+        AnyAutomaton::Swaps(near) => {
+            let pairs = trie.nearest(alloc, ByKind(trie.kind, near));
+            fill_nearest(pairs, *next_len, keys, ends, values, distances).unpack(count, next_len)
+        }
+        AnyAutomaton::SwapsChars(near) => {
+            let pairs = trie.nearest(alloc, ByKind(trie.kind, near));
+            fill_nearest(pairs, *next_len, keys, ends, values, distances).unpack(count, next_len)
+        }
+        AnyAutomaton::Prefix(_)
+        | AnyAutomaton::Range(_)
+        | AnyAutomaton::Glob(_)
+        | AnyAutomaton::GlobChars(_)
+        | AnyAutomaton::Subsequence(_) => UNKNOWN_SEARCH,
+    }
 }
 
 /// The functions as C calls them: a slice is a pointer and a number of items.

@@ -3,7 +3,35 @@
 
 use crate::zerotrie_c::numbers::{BUFFER_TOO_SMALL, DONE, OUT_OF_MEMORY, UNKNOWN_KIND, trie_of};
 use crate::rstd::alloc::{AllocError, Global};
-use crate::zerotrie_core::{PairStream, Trie, TrieRef, ZeroTrieStream, by_kind};
+use crate::zerotrie_core::{Trie, TrieRef, ZeroTrieStream, by_kind};
+use crate::zerotrie_search::TrieListing;
+
+/// What a call for a part of a listing tells: its status, how many pairs it wrote, and the length of
+/// the next key.
+#[derive(Clone, Copy)]
+pub struct Page {
+    pub status: u32,
+    pub count: usize,
+    pub next_len: usize,
+}
+
+impl Page {
+    /// Returns a page of these numbers.
+    pub fn new(status: u32, count: usize, next_len: usize) -> Self {
+        Page {
+            status,
+            count,
+            next_len,
+        }
+    }
+
+    /// Sets the numbers of the page, and returns its status.
+    pub fn unpack(self, count: &mut usize, next_len: &mut usize) -> u32 {
+        *count = self.count;
+        *next_len = self.next_len;
+        self.status
+    }
+}
 
 /// Copies bytes into the room at a place.
 pub fn put_at(bytes: &[u8], room: &mut [u8], place: usize) {
@@ -12,37 +40,36 @@ pub fn put_at(bytes: &[u8], room: &mut [u8], place: usize) {
     part.copy_from_slice(bytes);
 }
 
-/// Writes the next pairs of a listing, as many as the rooms have places for.
-pub fn write_some<L: PairStream>(
-    mut pairs: L,
+/// Writes the next pairs of a listing, as many as the rooms have places for. Without a listing, an
+/// allocation failed.
+pub fn fill<L: TrieListing>(
+    listing: Result<L, AllocError>,
+    next_len: usize,
     keys: &mut [u8],
     ends: &mut [usize],
     values: &mut [usize],
-    count: &mut usize,
-    next_len: &mut usize,
-) -> u32 {
-    *count = 0;
+) -> Page {
+    let Ok(mut pairs) = listing else {
+        return Page::new(OUT_OF_MEMORY, 0, next_len);
+    };
+    let mut count = 0;
     let mut used = 0;
     let room = ends.len().min(values.len());
     loop {
         match pairs.advance() {
             Ok(true) => {}
-            Ok(false) => {
-                *next_len = 0;
-                return DONE;
-            }
-            Err(_) => return OUT_OF_MEMORY,
+            Ok(false) => return Page::new(DONE, count, 0),
+            Err(_) => return Page::new(OUT_OF_MEMORY, count, next_len),
         }
         let key = pairs.key();
-        if *count >= room || key.len() > keys.len() - used {
-            *next_len = key.len();
-            return BUFFER_TOO_SMALL;
+        if count >= room || key.len() > keys.len() - used {
+            return Page::new(BUFFER_TOO_SMALL, count, key.len());
         }
         put_at(key, keys, used);
         used += key.len();
-        ends[*count] = used;
-        values[*count] = pairs.value();
-        *count += 1;
+        ends[count] = used;
+        values[count] = pairs.value();
+        count += 1;
     }
 }
 
@@ -89,13 +116,8 @@ pub fn zerotrie_list_some(
     let Some(trie) = trie_of(kind, bytes) else {
         return UNKNOWN_KIND;
     };
-    match left_of(alloc, &trie, prefix, goes_on, last) {
-        Ok(pairs) => write_some(pairs, keys, ends, values, count, next_len),
-        Err(_) => {
-            *count = 0;
-            OUT_OF_MEMORY
-        }
-    }
+    let pairs = left_of(alloc, &trie, prefix, goes_on, last);
+    fill(pairs, *next_len, keys, ends, values).unpack(count, next_len)
 }
 
 /// The functions as C calls them: a slice is a pointer and a number of items.

@@ -6,7 +6,7 @@ use crate::zerotrie_c::folding::FoldedTexts;
 use crate::zerotrie_c::numbers::{
     DONE, MALFORMED_SEARCH, OUT_OF_MEMORY, SEARCH_TOO_LONG, UNKNOWN_KIND, UNKNOWN_SEARCH, trie_of,
 };
-use crate::zerotrie_c::parts::{left_of, write_some};
+use crate::zerotrie_c::parts::{Page, fill, left_of};
 use crate::rstd::alloc::Global;
 use crate::rstd::ops::Bound;
 use crate::zerotrie_core::{TrieKind, ZeroTrieStream};
@@ -76,6 +76,20 @@ fn sought_of<'q>(kind: TrieKind, search: &Search<'q>) -> Result<AnyAutomaton<'q>
     Ok(AnyAutomaton::Range(KeyRange { from, to }))
 }
 
+/// Returns the automaton of a search with its texts as a kind compares them. Where case counts it is
+/// that of the search with its texts as they are, which is not made again.
+fn folded_of<'q>(
+    kind: TrieKind,
+    sought: AnyAutomaton<'q>,
+    folded: &Search<'q>,
+) -> Result<AnyAutomaton<'q>, u32> {
+    if folding::ignores_case(kind) {
+        sought_of(kind, folded)
+    } else {
+        Ok(sought)
+    }
+}
+
 /// Returns the status of a search without a trie: `DONE` if it has a meaning, and else its fault,
 /// which is what `zerotrie_search_some` returns for it.
 pub fn zerotrie_search_check(search: &Search<'_>) -> u32 {
@@ -85,131 +99,46 @@ pub fn zerotrie_search_check(search: &Search<'_>) -> u32 {
     }
 }
 
-/// Writes the next pairs of a stream whose keys an automaton accepts, or begin with such a key.
-fn write_accepted<T: Automaton>(
+/// Writes the next pairs of a stream whose keys an automaton accepts as a kind compares them, or begin
+/// with such a key.
+fn fill_accepted<T: Automaton>(
     alloc: Global,
     pairs: ZeroTrieStream<'_>,
+    kind: TrieKind,
     automaton: T,
     beginnings: bool,
+    next_len: usize,
     keys: &mut [u8],
     ends: &mut [usize],
     values: &mut [usize],
-    count: &mut usize,
-    next_len: &mut usize,
-) -> u32 {
+) -> Page {
     if beginnings {
-        let search = ZeroTrieSearch::new(alloc, pairs, BeginsWith(automaton));
-        write_some(search, keys, ends, values, count, next_len)
-    } else {
-        let search = ZeroTrieSearch::new(alloc, pairs, automaton);
-        write_some(search, keys, ends, values, count, next_len)
+        let begun = ZeroTrieSearch::new(alloc, pairs, BeginsWith(ByKind(kind, automaton)));
+        return fill(Ok(begun), next_len, keys, ends, values);
     }
-}
-
-/// Writes the next pairs of a stream that are sought.
-fn write_sought(
-    alloc: Global,
-    pairs: ZeroTrieStream<'_>,
-    sought: AnyAutomaton<'_>,
-    beginnings: bool,
-    keys: &mut [u8],
-    ends: &mut [usize],
-    values: &mut [usize],
-    count: &mut usize,
-    next_len: &mut usize,
-) -> u32 {
-    by_automaton!(sought, automaton => write_accepted(
-        alloc, pairs, automaton, beginnings, keys, ends, values, count, next_len,
-    ))
-}
-
-/// Writes the next pairs of a stream that are sought, with keys as the kind that ignores case compares
-/// them.
-fn write_any_case(
-    alloc: Global,
-    pairs: ZeroTrieStream<'_>,
-    sought: AnyAutomaton<'_>,
-    beginnings: bool,
-    keys: &mut [u8],
-    ends: &mut [usize],
-    values: &mut [usize],
-    count: &mut usize,
-    next_len: &mut usize,
-) -> u32 {
-    by_automaton!(sought, automaton => write_accepted(
-        alloc,
-        pairs,
-        ByKind(TrieKind::Ignore, automaton),
-        beginnings,
-        keys,
-        ends,
-        values,
-        count,
-        next_len,
-    ))
-}
-
-/// Writes the next pairs of a stream that a search finds in the kind that ignores case. It compares
-/// copies of the texts of the search, in lower case.
-fn write_folded(
-    alloc: Global,
-    pairs: ZeroTrieStream<'_>,
-    search: &Search<'_>,
-    keys: &mut [u8],
-    ends: &mut [usize],
-    values: &mut [usize],
-    count: &mut usize,
-    next_len: &mut usize,
-) -> u32 {
-    let Ok(texts) = FoldedTexts::new(alloc, TrieKind::Ignore, search) else {
-        *count = 0;
-        return OUT_OF_MEMORY;
-    };
-    let folded = texts.in_place_of(search);
-    match sought_of(TrieKind::Ignore, &folded) {
-        Ok(sought) => write_any_case(
-            alloc,
-            pairs,
-            sought,
-            search.beginnings,
-            keys,
-            ends,
-            values,
-            count,
-            next_len,
-        ),
-        Err(status) => status,
-    }
-}
-
-/// Writes the next pairs of a stream that a search finds, as a kind compares keys. The automaton is that
-/// of the search with its texts as they are.
-fn write_found(
-    alloc: Global,
-    kind: TrieKind,
-    pairs: ZeroTrieStream<'_>,
-    search: &Search<'_>,
-    sought: AnyAutomaton<'_>,
-    keys: &mut [u8],
-    ends: &mut [usize],
-    values: &mut [usize],
-    count: &mut usize,
-    next_len: &mut usize,
-) -> u32 {
     if folding::ignores_case(kind) {
-        return write_folded(alloc, pairs, search, keys, ends, values, count, next_len);
+        let folded = ZeroTrieSearch::new(alloc, pairs, ByKind(kind, automaton));
+        return fill(Ok(folded), next_len, keys, ends, values);
     }
-    write_sought(
-        alloc,
-        pairs,
-        sought,
-        search.beginnings,
-        keys,
-        ends,
-        values,
-        count,
-        next_len,
-    )
+    let search = ZeroTrieSearch::new(alloc, pairs, automaton);
+    fill(Ok(search), next_len, keys, ends, values)
+}
+
+/// Writes the next pairs of a stream that are sought, with keys as a kind compares them.
+fn fill_sought(
+    alloc: Global,
+    pairs: ZeroTrieStream<'_>,
+    kind: TrieKind,
+    sought: AnyAutomaton<'_>,
+    beginnings: bool,
+    next_len: usize,
+    keys: &mut [u8],
+    ends: &mut [usize],
+    values: &mut [usize],
+) -> Page {
+    by_automaton!(sought, automaton => fill_accepted(
+        alloc, pairs, kind, automaton, beginnings, next_len, keys, ends, values,
+    ))
 }
 
 /// Like `zerotrie_list_some`, of those pairs whose keys a search finds: a range, a pattern, bytes in
@@ -239,14 +168,28 @@ pub fn zerotrie_search_some(
         Ok(sought) => sought,
         Err(status) => return status,
     };
+    let Ok(texts) = FoldedTexts::new(alloc, trie.kind, search) else {
+        let none = Page::new(OUT_OF_MEMORY, 0, *next_len);
+        return none.unpack(count, next_len);
+    };
+    let sought = match folded_of(trie.kind, sought, &texts.in_place_of(search)) {
+        Ok(sought) => sought,
+        Err(status) => return status,
+    };
     match left_of(alloc, &trie, prefix, goes_on, last) {
-        Ok(pairs) => write_found(
-            alloc, trie.kind, pairs, search, sought, keys, ends, values, count, next_len,
-        ),
-        Err(_) => {
-            *count = 0;
-            OUT_OF_MEMORY
-        }
+        Ok(pairs) => fill_sought(
+            alloc,
+            pairs,
+            trie.kind,
+            sought,
+            search.beginnings,
+            *next_len,
+            keys,
+            ends,
+            values,
+        )
+        .unpack(count, next_len),
+        Err(_) => Page::new(OUT_OF_MEMORY, 0, *next_len).unpack(count, next_len),
     }
 }
 

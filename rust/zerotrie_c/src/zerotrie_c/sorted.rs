@@ -1,14 +1,12 @@
 // Made from crates/zerotrie_c/src/sorted.rt by rust/make: edit that.
 //! Listings in the order of bytes, a part at a time.
 
-use crate::zerotrie_c::numbers::{
-    BUFFER_TOO_SMALL, DONE, OUT_OF_MEMORY, UNKNOWN_KIND, UNKNOWN_SEARCH, trie_of,
-};
-use crate::zerotrie_c::parts::put_at;
+use crate::zerotrie_c::numbers::{UNKNOWN_KIND, UNKNOWN_SEARCH, trie_of};
+use crate::zerotrie_c::parts::fill;
 use crate::zerotrie_c::searches::bound_with;
 use crate::rstd::alloc::Global;
 use crate::rstd::ops::Bound;
-use crate::zerotrie_search::{Search, ZeroTrieSorted};
+use crate::zerotrie_search::Search;
 
 /// Returns the lower and the upper bound with these numbers at two keys, or `None` if a number is
 /// that of no bound.
@@ -21,40 +19,6 @@ pub fn bounds_with<'f, 't>(
     let from = bound_with(from_bound, from)?;
     let to = bound_with(to_bound, to)?;
     Some((from, to))
-}
-
-/// Writes the next pairs of a sorted listing, as many as the rooms have places for.
-fn write_sorted(
-    mut pairs: ZeroTrieSorted<'_, '_>,
-    keys: &mut [u8],
-    ends: &mut [usize],
-    values: &mut [usize],
-    count: &mut usize,
-    next_len: &mut usize,
-) -> u32 {
-    *count = 0;
-    let mut used = 0;
-    let room = ends.len().min(values.len());
-    loop {
-        match pairs.advance() {
-            Ok(true) => {}
-            Ok(false) => {
-                *next_len = 0;
-                return DONE;
-            }
-            Err(_) => return OUT_OF_MEMORY,
-        }
-        let key = pairs.key();
-        if *count >= room || key.len() > keys.len() - used {
-            *next_len = key.len();
-            return BUFFER_TOO_SMALL;
-        }
-        put_at(key, keys, used);
-        used += key.len();
-        ends[*count] = used;
-        values[*count] = pairs.value();
-        *count += 1;
-    }
 }
 
 /// Writes the pairs whose keys are between two bounds, in the order of bytes in every kind, as many
@@ -86,13 +50,8 @@ pub fn zerotrie_sorted_some(
     let Some((from, to)) = bounds_with(from_bound, from, to_bound, to) else {
         return UNKNOWN_SEARCH;
     };
-    match trie.stream_sorted(alloc, from, to) {
-        Ok(pairs) => write_sorted(pairs, keys, ends, values, count, next_len),
-        Err(_) => {
-            *count = 0;
-            OUT_OF_MEMORY
-        }
-    }
+    let pairs = trie.stream_sorted(alloc, from, to);
+    fill(pairs, *next_len, keys, ends, values).unpack(count, next_len)
 }
 
 /// The functions as C calls them: a slice is a pointer and a number of items.

@@ -13,5 +13,9 @@ loop-part-preserved g c =
     let there : IsPart held (c.args.place + length part) added.0 = subst (λ n. IsPart held (c.args.place + n) added.0) so_far (λ bytes may. added.1 bytes (i.2 bytes may)) in
     let both = more_part held c.args.place part added.0 i.1 there in
     let count : length added.0 ≤ c.args.len - length part = search rules in
-    let long : length c.add_part.new.part.items ≡ length part + length added.0 = ap length added.3 ∙ length-append part added.0 in
-    (omega (arith, long, count, i.0), subst (IsPart held c.args.place) (sym added.3) both, λ bytes may. c.in_ok-add_part.ensures.same bytes (i.2 bytes may))
+    let long : length c.add_part.new.part.items ≡ length part + length added.0 = ap length added.3 ∙ length-append part added.0 in (
+      omega (arith, long, count, i.0),
+      subst (IsPart held c.args.place) (sym added.3) both,
+      λ bytes may. c.in_ok-add_part.ensures.same bytes (i.2 bytes may),
+      λ place count e may. i.3 place count e (c.in_ok-add_part.ensures.fewer place count e may),
+    )

@@ -13,8 +13,9 @@ returns-in_err-table-clause-first c pairs is =
     let long = length-words is.entries in
     let more = one_more _ _ _ _ is.buckets is.entries is.pool is.are_buckets in
     let same : c.in_ok-count-2.count ≡ c.in_ok-count.count = search rules in
-    absurd (not_shorter (8 * (c.in_ok-count-2.count + 1)) c.in_ok-count.rest.now (flat_map word is.entries) is.pool count.1
-    (let n = count.0 in omega arith) c.in_err-table.ensures.cases)
+    let len : c.in_ok-len.len ≡ 8 * (c.in_ok-count-2.count + 1) = search rules in
+    absurd (not_shorter c.in_ok-len.len c.in_ok-count.rest.now (flat_map word is.entries) is.pool count.1
+    (let n = count.0 in let m = len in omega arith) c.in_err-table.ensures.cases)
 
 pub returns-clause-first : goal.returns-clause-first
 returns-clause-first c pairs is =
@@ -23,5 +24,6 @@ returns-clause-first c pairs is =
     let long = length-words is.entries in
     let more = one_more _ _ _ _ is.buckets is.entries is.pool is.are_buckets in
     let same : c.in_ok-count-2.count ≡ c.in_ok-count.count = search rules in
-    let cut = cut_at (8 * (c.in_ok-count-2.count + 1)) c.in_ok-count.rest.now (flat_map word is.entries) is.pool count.1 (let n = count.0 in omega arith) in
+    let len : c.in_ok-len.len ≡ 8 * (c.in_ok-count-2.count + 1) = search rules in
+    let cut = cut_at c.in_ok-len.len c.in_ok-count.rest.now (flat_map word is.entries) is.pool count.1 (let n = count.0 in let m = len in omega arith) in
     (seed.0, same ∙ count.0, c.in_ok-table.ensures.cases.1 ∙ cut.0, c.in_ok-table.ensures.cases.2 ∙ cut.1)

@@ -1,4 +1,4 @@
-use Rattle.std.proofs.Common.{rules, ◌++◌, subst, sym, length, ◌∙◌}
+use Rattle.std.proofs.Common.{rules, ◌≡◌, ◌++◌, subst, sym, length, ◌∙◌}
 use Rattle.zerotrie_index.specs.Layout.{AreRecords}
 use Rattle.zerotrie_index.proofs.RecordLemmas.{cut_at, not_shorter}
 use Rattle.zerotrie_index.proofs.reader.read_record.Goals as goal
@@ -22,4 +22,5 @@ returns-clause-first c e pairs h =
     let len = c.in_ok-len.ensures.first (length e.0) h.0 h.2 in
     let value = c.in_ok-value.ensures.first e.1 (e.0 ++ h.1) h.3 (len.1 ∙ h.4) in
     let cut = cut_at c.in_ok-len.len c.in_ok-value.rest.now e.0 h.1 value.1 len.0 in
-    (c.in_ok-key.ensures.cases.1 ∙ cut.0, value.0, subst (AreRecords pairs) (sym (c.in_ok-key.ensures.cases.2 ∙ cut.1)) h.5)
+    let fits : c.in_ok-value-2.value ≡ c.in_ok-value.value = search rules in
+    (c.in_ok-key.ensures.cases.1 ∙ cut.0, fits ∙ value.0, subst (AreRecords pairs) (sym (c.in_ok-key.ensures.cases.2 ∙ cut.1)) h.5)

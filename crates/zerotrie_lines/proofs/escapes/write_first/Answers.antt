@@ -1,6 +1,5 @@
 use Rattle.std.proofs.Common.{◌++◌, ◌∙◌, ap, append_assoc}
 use Rattle.zerotrie_lines.specs.Escapes.{escaped}
-use Rattle.zerotrie_lines.proofs.WrittenLemmas.{shown_first}
 use Rattle.zerotrie_lines.proofs.escapes.write_first.Goals as goal
 
 pub returns-clause-text : goal.returns-clause-text
@@ -10,4 +9,4 @@ returns-clause-text c =
     let left = c.split_at.result.1.now in
     ap (λ t. t ++ escaped left) c.in_ok-push_bytes.ensures
     ∙ append_assoc old shown (escaped left)
-    ∙ ap (λ t. old ++ t) (shown_first c.args.rest.now.now shown left c.shown_len-len.result c.shown_len-len.ensures.value c.if-len-eq0.false c.split_at.ensures.front c.split_at.ensures.back)
+    ∙ ap (λ t. old ++ t) (rw (c.split_at.ensures.front, c.split_at.ensures.back) c.shown_run-len.ensures.text)

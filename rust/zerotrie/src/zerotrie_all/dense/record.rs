@@ -43,9 +43,10 @@ impl RecordError {
 #[inline]
 fn number_in(bytes: &[u8], place: usize) -> usize {
     let (_, rest) = bytes.split_at(place);
-    usize::from_le_bytes([
+    let number = u64::from_le_bytes([
         rest[0], rest[1], rest[2], rest[3], rest[4], rest[5], rest[6], rest[7],
-    ])
+    ]);
+    usize::try_from(number).unwrap_or(usize::MAX)
 }
 
 impl<'a> ZeroAsciiDenseSparse2dTrieBorrowed<'a> {
@@ -63,9 +64,9 @@ impl<'a> ZeroAsciiDenseSparse2dTrieBorrowed<'a> {
         let mut record = Vec::new(alloc);
         record.extend_from_slice(&self.suffix_count.to_le_bytes())?;
         record.extend_from_slice(&[self.delimiter])?;
-        record.extend_from_slice(&primary.len().to_le_bytes())?;
-        record.extend_from_slice(&suffixes.len().to_le_bytes())?;
-        record.extend_from_slice(&(self.matrix.len() / 2).to_le_bytes())?;
+        record.extend_from_slice(&(primary.len() as u64).to_le_bytes())?;
+        record.extend_from_slice(&(suffixes.len() as u64).to_le_bytes())?;
+        record.extend_from_slice(&((self.matrix.len() / 2) as u64).to_le_bytes())?;
         record.extend_from_slice(primary)?;
         record.extend_from_slice(suffixes)?;
         record.extend_from_slice(self.matrix)?;

@@ -14,7 +14,7 @@ type OwnedPairs = Vec<(Vec<u8>, usize)>;
 
 /// Returns the whole number in a value.
 pub(in crate::made::zerotrie_any) fn number_of(value: &Value) -> Option<usize> {
-    value.as_u64().map(|number| number as usize)
+    usize::try_from(value.as_u64()?).ok()
 }
 
 /// Returns the byte in a value.

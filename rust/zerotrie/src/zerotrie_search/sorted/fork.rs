@@ -11,10 +11,13 @@ use crate::zerotrie_core::{Branch, ByteSet, ZeroTrieWithOptions};
 pub(in crate::made::zerotrie_search) struct Fork<'a> {
     /// The branch.
     branch: Branch<'a>,
-    /// The edges that were not entered.
+    /// The edges that are left.
     left: ByteSet,
     /// The length of the key before the edges.
     depth: usize,
+    /// How many bytes there are for the edges that are left and their targets. Malformed targets may
+    /// overlap, and then there are too few.
+    room: usize,
 }
 
 /// Returns the edges of a branch that are at least `from`.
@@ -50,6 +53,7 @@ impl<'a> Fork<'a> {
             branch,
             left,
             depth,
+            room: branch.behind.len(),
         }
     }
 
@@ -59,12 +63,14 @@ impl<'a> Fork<'a> {
         self.left.least().is_none()
     }
 
-    /// Takes the least edge that is left, and returns it with its target.
+    /// Takes the least edge that is left, and returns it with its target. Returns `None` if none is
+    /// left, or if the branch has no room for the target.
     #[inline(always)]
     pub(in crate::made::zerotrie_search) fn next<K: ZeroTrieWithOptions>(&mut self) -> Option<(u8, &'a [u8])> {
         let edge = self.left.least()?;
         self.left.remove(edge);
         let target = target_of::<K>(self.branch, edge)?;
+        self.room = self.room.checked_sub(target.len() + 1)?;
         Some((edge, target))
     }
 }
@@ -84,20 +90,12 @@ pub(in crate::made::zerotrie_search) fn push<'a, A: Allocator>(
     Ok(())
 }
 
-/// Enters the target of the least edge that is left of a branch. Returns its bytes, or `None` if no
-/// edge is left.
+/// Drops the innermost branch, the last of the open ones, if no edge of it is left.
 #[inline(always)]
-pub(in crate::made::zerotrie_search) fn enter<'a, K: ZeroTrieWithOptions, A: Allocator>(
-    fork: Fork<'a>,
-    key: &mut Vec<u8, A>,
-    forks: &mut Vec<Fork<'a>, A>,
-) -> Result<Option<&'a [u8]>, AllocError> {
-    let mut fork = fork;
-    let Some((edge, target)) = fork.next::<K>() else {
-        return Ok(None);
-    };
-    push(edge, fork, key, forks)?;
-    Ok(Some(target))
+fn drop_over<'a, A: Allocator>(forks: &mut Vec<Fork<'a>, A>, inner: usize) {
+    if forks[inner].is_over() {
+        forks.truncate(inner);
+    }
 }
 
 /// Goes back to the innermost branch with an edge left, and enters the least. Returns the target's
@@ -107,12 +105,16 @@ pub(in crate::made::zerotrie_search) fn climb<'a, K: ZeroTrieWithOptions, A: All
     key: &mut Vec<u8, A>,
     forks: &mut Vec<Fork<'a>, A>,
 ) -> Result<Option<&'a [u8]>, AllocError> {
-    let Some(fork) = forks.pop() else {
+    let Some(inner) = forks.len().checked_sub(1) else {
         return Ok(None);
     };
-    key.truncate(fork.depth);
-    let found = enter::<K, A>(fork, key, forks)?;
-    Ok(found)
+    key.truncate(forks[inner].depth);
+    let Some((edge, target)) = forks[inner].next::<K>() else {
+        return Ok(None);
+    };
+    drop_over(forks, inner);
+    key.push(edge)?;
+    Ok(Some(target))
 }
 
 /// Drops the branches that are at least this deep.
@@ -122,4 +124,27 @@ pub(in crate::made::zerotrie_search) fn drop_inner<'a, A: Allocator>(forks: &mut
         count -= 1;
     }
     forks.truncate(count);
+}
+
+/// Leaves out the edges outside of a set, of the innermost branch if it is after this many bytes of the
+/// key.
+pub(in crate::made::zerotrie_search) fn narrow_inner<'a, A: Allocator>(
+    forks: &mut Vec<Fork<'a>, A>,
+    depth: usize,
+    wanted: &ByteSet,
+) {
+    let count = forks.len();
+    if count == 0 {
+        return;
+    }
+    let mut fork = forks[count - 1];
+    if fork.depth != depth {
+        return;
+    }
+    fork.left = fork.left.intersect(wanted);
+    if fork.is_over() {
+        forks.truncate(count - 1);
+    } else {
+        forks[count - 1] = fork;
+    }
 }

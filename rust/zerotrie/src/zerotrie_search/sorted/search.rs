@@ -4,8 +4,9 @@
 use crate::rstd::prelude::*;
 use crate::zerotrie_search::automaton::Automaton;
 use crate::zerotrie_search::sorted::ZeroTrieSorted;
-use crate::zerotrie_search::trail::{Verdict, read};
+use crate::zerotrie_search::trail::{Verdict, last_state, read};
 use crate::rstd::alloc::{AllocError, Allocator, Global};
+use crate::zerotrie_core::Reached;
 
 /// Lists the pairs of a sorted listing whose keys an automaton accepts, in the order of bytes, each key
 /// borrowed from one buffer.
@@ -27,9 +28,11 @@ use crate::rstd::alloc::{AllocError, Allocator, Global};
 /// # Ok::<(), Fail>(())
 /// ```
 ///
-/// Once no accepted key begins with the bytes so far, it skips the pairs that begin with them and reads
-/// no node of them. It allocates for the longest key alone: the listing, and one state a byte, which
-/// keys that begin alike share.
+/// It goes from node to node. Once no accepted key begins with the bytes so far, it leaves out the pairs
+/// that begin with them and reads no node of them. Of a branch it enters no target whose edge the
+/// automaton does not want. It allocates for the longest key alone: the listing, and one state a byte,
+/// which keys that begin alike share. If an allocation for a state fails, it reads the next key from an
+/// earlier byte.
 #[derive(Clone)]
 pub struct ZeroTrieSortedSearch<'a, 'p, T: Automaton, A: Allocator = Global> {
     pairs: ZeroTrieSorted<'a, 'p, A>,
@@ -93,13 +96,20 @@ impl<'a, 'p, T: Automaton, A: Allocator + Copy> ZeroTrieSortedSearch<'a, 'p, T, 
     }
 }
 
-/// Returns how many bytes of a trail a key begins with.
-fn shared<S: Copy>(trail: &[(u8, S)], key: &[u8]) -> usize {
-    let mut count = 0;
-    while count < trail.len() && count < key.len() && trail[count].0 == key[count] {
-        count += 1;
+/// Leaves out the targets of the branch that was opened last whose edges the automaton does not want, as
+/// far as memory was there for the states.
+#[inline]
+fn only_wanted<'a, 'p, T: Automaton, A: Allocator>(
+    automaton: &T,
+    pairs: &mut ZeroTrieSorted<'a, 'p, A>,
+    trail: &[(u8, T::State)],
+) {
+    if trail.len() < pairs.key().len() {
+        return;
     }
-    count
+    if let Some(wanted) = automaton.wanted(last_state(automaton, trail)) {
+        pairs.only(&wanted);
+    }
 }
 
 /// Moves a sorted listing to the next pair whose key is accepted.
@@ -110,17 +120,23 @@ fn next_accepted<'a, 'p, T: Automaton, A: Allocator>(
     state: &mut T::State,
 ) -> Result<bool, AllocError> {
     loop {
-        if !pairs.advance()? {
-            return Ok(false);
-        }
-        let key = pairs.key();
-        let kept = shared(trail.as_slice(), key);
-        match read(automaton, key, kept, trail) {
-            Verdict::Dead(depth) => pairs.skip(depth)?,
-            Verdict::Alive(after) => {
-                if automaton.is_match(after) {
-                    *state = after;
-                    return Ok(true);
+        match pairs.advance_node()? {
+            Reached::End => return Ok(false),
+            Reached::Branch => only_wanted(automaton, pairs, trail.as_slice()),
+            Reached::Bytes(kept) => match read(automaton, pairs.key(), kept, trail) {
+                Verdict::Alive(_after) => {}
+                Verdict::Dead(depth) => pairs.leave(depth),
+            },
+            Reached::Pair => {
+                let key = pairs.key();
+                match read(automaton, key, key.len(), trail) {
+                    Verdict::Dead(depth) => pairs.leave(depth),
+                    Verdict::Alive(after) => {
+                        if automaton.is_match(after) {
+                            *state = after;
+                            return Ok(true);
+                        }
+                    }
                 }
             }
         }

@@ -2,7 +2,7 @@
 //! The way down along a lower bound.
 
 use crate::rstd::prelude::*;
-use crate::zerotrie_search::sorted::fork::{Fork, climb, enter, push, target_of};
+use crate::zerotrie_search::sorted::fork::{Fork, climb, push};
 use crate::rstd::alloc::{AllocError, Allocator};
 use crate::rstd::cmp::Ordering;
 use crate::rstd::ops::Bound;
@@ -56,16 +56,17 @@ fn past_branch<'a, 'k, K: ZeroTrieWithOptions, A: Allocator>(
     key: &mut Vec<u8, A>,
     forks: &mut Vec<Fork<'a>, A>,
 ) -> Result<Way<'a, 'k>, AllocError> {
-    let fork = Fork::open(branch, byte as usize + 1, key.len());
-    if let Some(target) = target_of::<K>(branch, byte) {
-        push(byte, fork, key, forks)?;
-        return Ok(Way::Down(target, more));
+    let mut fork = Fork::open(branch, byte as usize, key.len());
+    let Some((edge, target)) = fork.next::<K>() else {
+        let next = climb::<K, A>(key, forks)?;
+        return Ok(Way::Found(next));
+    };
+    push(edge, fork, key, forks)?;
+    if edge == byte {
+        Ok(Way::Down(target, more))
+    } else {
+        Ok(Way::Found(Some(target)))
     }
-    if let Some(target) = enter::<K, A>(fork, key, forks)? {
-        return Ok(Way::Found(Some(target)));
-    }
-    let next = climb::<K, A>(key, forks)?;
-    Ok(Way::Found(next))
 }
 
 /// Goes past one node towards a byte of the bound.

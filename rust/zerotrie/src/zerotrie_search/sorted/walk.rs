@@ -1,56 +1,95 @@
 // Made from crates/zerotrie_search/src/sorted/walk.rt by rust/make: edit that.
-//! The way from one pair to the next in the order of bytes.
+//! The way from node to node in the order of bytes.
 
 use crate::rstd::prelude::*;
-use crate::zerotrie_search::sorted::fork::{Fork, climb, drop_inner, enter};
+use crate::zerotrie_search::sorted::fork::{Fork, climb};
 use crate::rstd::alloc::{AllocError, Allocator};
-use crate::zerotrie_core::{Node, ZeroTrieBuilderOptions, ZeroTrieWithOptions, by_kind, first_node};
+use crate::zerotrie_core::{
+    Node, Reached, ZeroTrieBuilderOptions, ZeroTrieWithOptions, by_kind, first_node,
+};
 
-/// Goes down by least edges to the first value. Returns it and the bytes after it. On malformed
-/// bytes there may be none.
+/// Enters the next target of the open branches. The key gets its edge.
 #[inline(always)]
-fn descend<'a, K: ZeroTrieWithOptions, A: Allocator>(
-    from: &'a [u8],
+fn enter_next<'a, K: ZeroTrieWithOptions, A: Allocator>(
+    rest: &mut &'a [u8],
     key: &mut Vec<u8, A>,
     forks: &mut Vec<Fork<'a>, A>,
-) -> Result<Option<(usize, &'a [u8])>, AllocError> {
-    let mut at = from;
-    while let Some(node) = first_node::<K>(at) {
-        match node {
-            Node::Value(value, after) => return Ok(Some((value, after))),
-            Node::Literal(byte, after) => {
-                key.push(byte)?;
-                at = after;
-            }
-            Node::Span(run, after) => {
-                key.extend_from_slice(run)?;
-                at = after;
-            }
-            Node::Branch(branch) => {
-                let fork = Fork::open(branch, 0, key.len());
-                let Some(target) = enter::<K, A>(fork, key, forks)? else {
-                    return Ok(None);
-                };
-                at = target;
-            }
-        }
-    }
-    Ok(None)
+) -> Result<Reached, AllocError> {
+    let Some(target) = climb::<K, A>(key, forks)? else {
+        return Ok(Reached::End);
+    };
+    *rest = target;
+    Ok(Reached::Bytes(key.len().saturating_sub(1)))
 }
 
-/// Returns the bytes that the next pair is in: the rest, or the next target of the open branches.
-/// Returns `None` if no branch has one.
+/// Moves a literal and those that come next to the end of the key. Returns the bytes after them.
 #[inline(always)]
-fn next_bytes<'a, K: ZeroTrieWithOptions, A: Allocator>(
-    rest: &'a [u8],
+fn push_literals<'a, A: Allocator>(
+    literal: u8,
+    after: &'a [u8],
     key: &mut Vec<u8, A>,
-    forks: &mut Vec<Fork<'a>, A>,
-) -> Result<Option<&'a [u8]>, AllocError> {
-    if !rest.is_empty() {
-        return Ok(Some(rest));
+) -> Result<&'a [u8], AllocError> {
+    key.push(literal)?;
+    let mut at = after;
+    loop {
+        let Some((next, more)) = at.split_first() else {
+            return Ok(at);
+        };
+        if *next >= 128 {
+            return Ok(at);
+        }
+        key.push(*next)?;
+        at = more;
     }
-    let found = climb::<K, A>(key, forks)?;
-    Ok(found)
+}
+
+/// Moves over the next node. The value is written if the node is one. A branch is opened, and none of
+/// its targets is entered. Where no node begins, the bytes are malformed, and nothing more comes.
+#[inline(always)]
+fn next_node<'a, K: ZeroTrieWithOptions, A: Allocator>(
+    rest: &mut &'a [u8],
+    key: &mut Vec<u8, A>,
+    value: &mut usize,
+    forks: &mut Vec<Fork<'a>, A>,
+) -> Result<Reached, AllocError> {
+    if rest.is_empty() {
+        let reached = enter_next::<K, A>(rest, key, forks)?;
+        return Ok(reached);
+    }
+    let kept = key.len();
+    match first_node::<K>(*rest) {
+        None => Ok(Reached::End),
+        Some(Node::Value(number, after)) => {
+            *rest = after;
+            *value = number;
+            Ok(Reached::Pair)
+        }
+        Some(Node::Literal(byte, after)) => {
+            *rest = push_literals(byte, after, key)?;
+            Ok(Reached::Bytes(kept))
+        }
+        Some(Node::Span(run, after)) => {
+            key.extend_from_slice(run)?;
+            *rest = after;
+            Ok(Reached::Bytes(kept))
+        }
+        Some(Node::Branch(branch)) => {
+            forks.push(Fork::open(branch, 0, kept))?;
+            *rest = &[];
+            Ok(Reached::Branch)
+        }
+    }
+}
+
+/// Calls `next_node` for the kind that the options name.
+pub(in crate::made::zerotrie_search) fn next_node_of<'a, A: Allocator>(
+    options: ZeroTrieBuilderOptions,
+    rest: &mut &'a [u8],
+    key: &mut Vec<u8, A>,
+    value: &mut usize,
+    forks: &mut Vec<Fork<'a>, A>,
+) -> Result<Reached, AllocError> {
+    by_kind!(options.kind(), next_node::<_, A>(rest, key, value, forks))
 }
 
 /// Moves to the next pair and returns its value, or `None` if there is none.
@@ -59,14 +98,19 @@ fn next_pair<'a, K: ZeroTrieWithOptions, A: Allocator>(
     key: &mut Vec<u8, A>,
     forks: &mut Vec<Fork<'a>, A>,
 ) -> Result<Option<usize>, AllocError> {
-    let Some(from) = next_bytes::<K, A>(*rest, key, forks)? else {
-        return Ok(None);
-    };
-    let Some((value, after)) = descend::<K, A>(from, key, forks)? else {
-        return Ok(None);
-    };
-    *rest = after;
-    Ok(Some(value))
+    let mut at = *rest;
+    let mut value = 0;
+    loop {
+        match next_node::<K, A>(&mut at, key, &mut value, forks)? {
+            Reached::Pair => {
+                *rest = at;
+                return Ok(Some(value));
+            }
+            Reached::End => return Ok(None),
+            Reached::Bytes(_) => {}
+            Reached::Branch => {}
+        }
+    }
 }
 
 /// Calls `next_pair` for the kind that the options name.
@@ -77,32 +121,4 @@ pub(in crate::made::zerotrie_search) fn next_pair_of<'a, A: Allocator>(
     forks: &mut Vec<Fork<'a>, A>,
 ) -> Result<Option<usize>, AllocError> {
     by_kind!(options.kind(), next_pair::<_, A>(rest, key, forks))
-}
-
-/// Goes to where the keys continue that come next and do not begin with the first `depth` bytes of the
-/// key, and returns whether there are such.
-fn go_past<'a, K: ZeroTrieWithOptions, A: Allocator>(
-    depth: usize,
-    rest: &mut &'a [u8],
-    key: &mut Vec<u8, A>,
-    forks: &mut Vec<Fork<'a>, A>,
-) -> Result<bool, AllocError> {
-    drop_inner(forks, depth);
-    key.truncate(depth);
-    let Some(next) = climb::<K, A>(key, forks)? else {
-        return Ok(false);
-    };
-    *rest = next;
-    Ok(true)
-}
-
-/// Calls `go_past` for the kind that the options name.
-pub(in crate::made::zerotrie_search) fn go_past_of<'a, A: Allocator>(
-    options: ZeroTrieBuilderOptions,
-    depth: usize,
-    rest: &mut &'a [u8],
-    key: &mut Vec<u8, A>,
-    forks: &mut Vec<Fork<'a>, A>,
-) -> Result<bool, AllocError> {
-    by_kind!(options.kind(), go_past::<_, A>(depth, rest, key, forks))
 }

@@ -7,6 +7,7 @@ mod calls;
 mod items;
 mod json;
 mod malformed;
+mod overlaps;
 mod ported;
 mod records;
 mod reverse;

@@ -48,6 +48,7 @@ const META_2: &[(&[u8], usize)] = &[
 ];
 
 #[test]
+#[cfg_attr(not(target_pointer_width = "64"), ignore = "needs 64 bits")]
 fn numbers_in_two_forms() {
     let rt = HostRuntime;
     for (bytes, number) in META_2 {

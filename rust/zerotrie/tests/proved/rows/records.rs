@@ -108,7 +108,7 @@ fn record_of(alloc: Global, suffixes: u16, primary: &[u8], columns: &[u8], cells
     let mut record = Vec::from_slice(alloc, &suffixes.to_le_bytes())?;
     record.push(b'/')?;
     for len in [primary.len(), columns.len(), cells.len()] {
-        record.extend_from_slice(&len.to_le_bytes())?;
+        record.extend_from_slice(&(len as u64).to_le_bytes())?;
     }
     record.extend_from_slice(primary)?;
     record.extend_from_slice(columns)?;
@@ -202,7 +202,7 @@ fn records_with_fewer_cells() -> Result<(), Fail> {
     for cells in 0..6usize {
         let mut short = Vec::from_slice(alloc, record.as_slice())?;
         short.truncate(65 + 2 * cells);
-        short.as_mut_slice()[19..27].copy_from_slice(&cells.to_le_bytes());
+        short.as_mut_slice()[19..27].copy_from_slice(&(cells as u64).to_le_bytes());
         let read = ZeroAsciiDenseSparse2dTrieBorrowed::try_from_record_bytes(short.as_slice())?;
         for (row, prefix) in ["aaa", "ddd", "fff"].iter().enumerate() {
             for (column, suffix) in ["BBB", "CCC", "EEE", "", "F"].iter().enumerate() {

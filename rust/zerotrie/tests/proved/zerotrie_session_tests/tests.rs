@@ -99,6 +99,7 @@ const SESSIONS: &[(&str, &str)] = &[
 ];
 
 #[test]
+#[cfg_attr(not(target_pointer_width = "64"), ignore = "needs 64 bits")]
 fn sessions_of_each_kind() -> Result<(), Fail> {
     let rt = HostRuntime;
     for (input, output) in SESSIONS {

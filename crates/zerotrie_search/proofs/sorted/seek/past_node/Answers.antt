@@ -1,5 +1,7 @@
-use Rattle.std.proofs.Common.{◌∙◌, ap, sym, subst, reverse, take}
+use Rattle.std.proofs.Common.{◌∙◌, ◌+◌, ℕ, ap, arith, length, sym, subst, reverse, take}
 use Rattle.zerotrie_search.specs.Forks.{IsRun}
+use Rattle.zerotrie_search.specs.Walks.{rooms}
+use Rattle.zerotrie_search.proofs.NextLemmas.{found_room}
 use Rattle.zerotrie_search.proofs.StandLemmas.{follows_value, node_no_bound, node_past, ends_climbed, literal_run, span_run, not_nothing}
 use Rattle.zerotrie_search.proofs.sorted.seek.past_node.Goals as goal
 
@@ -9,7 +11,7 @@ returns-in_ok-next-in-None-clause-goes g c pairs bound f =
     let more = c.args.more.now in
     let none = c.in-None.ensures.node in (
       node_no_bound f byte more c.requires none,
-      ends_climbed f c.climb.new.key.items (reverse c.climb.new.forks.items) c.in_ok-next-in-None.next (c.in_ok-next-in-None.ensures pairs c.args.left.now f.way (node_past f byte more c.requires none)),
+      ends_climbed f c.climb.new.key.items (reverse c.climb.new.forks.items) c.in_ok-next-in-None.next (c.in_ok-next-in-None.ensures.arrives pairs c.args.left.now f.way (node_past f byte more c.requires none)),
     )
 
 pub returns-in-Some-Value-clause-goes : goal.returns-in-Some-Value-clause-goes
@@ -30,3 +32,8 @@ returns-in_ok-way-in-Some-Span-clause-goes g c pairs bound f =
     let begins = rw c.in-Some-Span.field-0-is at c.in-Some-Span.ensures.begins in
     c.in_ok-way-in-Some-Span.ensures.goes pairs bound (not_nothing c.args.byte c.args.more.now c.args.left.now c.requires) f
     (span_run g.K.ZeroTrieWithOptions.kind c.args.at.now c.in-Some-Span.run'.now c.in-Some-Span.after.now begins)
+
+pub returns-in_ok-next-in-None-clause-shorter : goal.returns-in_ok-next-in-None-clause-shorter
+returns-in_ok-next-in-None-clause-shorter g c =
+    let old : ℕ = rooms (reverse c.args.forks.now.items) in
+    found_room c.in_ok-next-in-None.next (rooms (reverse c.climb.new.forks.items)) old (length c.args.at.now + old) c.in_ok-next-in-None.ensures.room (omega arith)

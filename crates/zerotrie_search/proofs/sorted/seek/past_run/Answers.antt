@@ -1,8 +1,10 @@
-use Rattle.std.proofs.Common.{◌≡◌, ◌∙◌, List, ℕ, ◌++◌, length, drop, reverse, sym}
+use Rattle.std.proofs.Common.{◌≡◌, ◌∙◌, ◌+◌, arith, List, ℕ, ◌++◌, length, drop, reverse, sym}
 use Rattle.std.proofs.lemmas.Bool.Decides.{Decides-eqb}
 use Rattle.std.proofs.lemmas.Slice.Eq.{starts_is}
 use Rattle.std.specs.Cmp.Lexicographic.{slice_cmp}
 use Rattle.std.specs.Ordering.{nat_cmp}
+use Rattle.zerotrie_search.specs.Walks.{rooms}
+use Rattle.zerotrie_search.proofs.NextLemmas.{found_room}
 use Rattle.zerotrie_search.proofs.StandLemmas.{follows_run, run_no_bound, stands_before, run_past, ends_climbed, parts_of, lt_is, not_lt}
 use Rattle.zerotrie_search.proofs.sorted.seek.past_run.Goals as goal
 
@@ -34,5 +36,10 @@ returns-clause-goes g c pairs bound some f is =
     let parts = parts_of left some in
     let high = not_lt (slice_cmp nat_cmp left run') (sym c.is_below.ensures ∙ c.if-is_below.false) in (
       run_no_bound f run' after is parts.0 parts.1 parts.2 other,
-      ends_climbed f c.climb.new.key.items (reverse c.climb.new.forks.items) c.in_ok-next.next (c.in_ok-next.ensures pairs left f.way (run_past f run' after is parts.0 parts.1 parts.2 other high)),
+      ends_climbed f c.climb.new.key.items (reverse c.climb.new.forks.items) c.in_ok-next.next (c.in_ok-next.ensures.arrives pairs left f.way (run_past f run' after is parts.0 parts.1 parts.2 other high)),
     )
+
+pub returns-clause-shorter : goal.returns-clause-shorter
+returns-clause-shorter g c =
+    let old : ℕ = rooms (reverse c.args.forks.now.items) in
+    found_room c.in_ok-next.next (rooms (reverse c.climb.new.forks.items)) old (length c.args.at.now + old) c.in_ok-next.ensures.room (omega arith)

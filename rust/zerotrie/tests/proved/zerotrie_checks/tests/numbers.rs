@@ -36,6 +36,7 @@ fn latent_sums_of_each_length() -> Result<(), Fail> {
 }
 
 #[test]
+#[cfg_attr(not(target_pointer_width = "64"), ignore = "needs 64 bits")]
 fn latent_sums_of_values() -> Result<(), Fail> {
     let rt = HostRuntime;
     let meta3: [(&[u8], usize); 5] = [

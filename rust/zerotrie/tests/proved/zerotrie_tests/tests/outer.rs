@@ -211,6 +211,7 @@ const READ: &[(&str, &[u8])] = &[
 ];
 
 #[test]
+#[cfg_attr(not(target_pointer_width = "64"), ignore = "needs 64 bits")]
 fn json_is_read() {
     let rt = HostRuntime;
     for row in READ {

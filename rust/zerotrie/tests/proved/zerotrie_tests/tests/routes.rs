@@ -306,6 +306,7 @@ const SIMPLE: &[Row] = &[
 ];
 
 #[test]
+#[cfg_attr(not(target_pointer_width = "64"), ignore = "needs 64 bits")]
 fn simple_texts() {
     let rt = HostRuntime;
     let alloc = rt.alloc();

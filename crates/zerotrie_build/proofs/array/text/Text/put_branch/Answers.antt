@@ -1,4 +1,4 @@
-use Rattle.std.proofs.Common.{◌≡◌, ◌≤◌, ◌+◌, ◌^◌, refl, ◌∙◌, arith, subst, length}
+use Rattle.std.proofs.Common.{◌≤◌, ◌∙◌, arith, subst, length}
 use Rattle.zerotrie_base.specs.Branches.{IsWidth}
 use Rattle.zerotrie_build.specs.array.Texts.{newest_first, bytes_of, lens_of}
 use Rattle.zerotrie_build.proofs.WriteLemmas.Puts.{front_is}
