@@ -20,8 +20,7 @@ const NOT_UTF8: &str = "the arguments are not UTF-8; give keys of other bytes as
 const OUTPUT_IS_TERMINAL: &str =
     "standard output is a terminal: name a file by -o, or redirect the output";
 
-const INPUT_IS_TERMINAL: &str =
-    "standard input is a terminal: name a file, or redirect the input";
+const INPUT_IS_TERMINAL: &str = "standard input is a terminal: name a file, or redirect the input";
 
 /// Prints the help or the version that the words asked for.
 fn show_help(rt: &HostRuntime, text: &str) -> Status {
@@ -176,7 +175,9 @@ fn device_in<'a>(rt: &HostRuntime, command: &Command<'a>) -> Option<&'a str> {
 
 /// Says that a device is no trie, and no input.
 fn refuse_device(rt: &HostRuntime, path: &str) -> Status {
-    let _ = eprintln!(rt; "zerotrie: {path}: it is a device, and no sealed file; - with < reads it");
+    let _ = eprintln!(rt;
+        "zerotrie: {path}: it is a device, and no sealed file; - with < reads it"
+    );
     Status::BadInput
 }
 
