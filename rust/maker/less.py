@@ -14,6 +14,8 @@ ONCE = {
 INLINED = r"#\[inline(?:\(always\))?\]\n( *(?:pub(?:\([^)]*\))? )?fn {}\b)"
 IN_ORDER = "    let sorted = ByteSliceWithIndices::from_byte_slice(items.as_slice());\n    if {}!is_ordered::<K, _>(sorted) {{"
 LESS = {
+    # it names the types of kinds, which programs do not see
+    "zerotrie_base/kind.rs": {"#[macro_export]": '#[cfg_attr(not(feature = "__internal"), doc(hidden))]\n#[macro_export]'},
     # users match a type that may get more cases, which the macro of the same version has
     "zerotrie_search/any.rs": {
         "            $crate::search::AnyAutomaton::SwapsChars($automaton) => $result,\n": """\

@@ -35,6 +35,7 @@ pub enum TrieKind {
 /// assert_eq!(by_kind!(TrieKind::Ignore, folded::<_>(b'A')), b'a');
 /// # Ok::<(), Fail>(())
 /// ```
+#[cfg_attr(not(feature = "__internal"), doc(hidden))]
 #[macro_export]
 macro_rules! by_kind {
     ($kind:expr, $($f:ident)::+::<_ $(, $more:ty)*>($($arg:expr),* $(,)?)) => {
