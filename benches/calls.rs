@@ -75,10 +75,6 @@ unsafe extern "C" {
     fn step_hash(bytes: *const u8, len: usize, key: *const u8, key_len: usize) -> usize;
     fn step_ext(bytes: *const u8, len: usize, key: *const u8, key_len: usize) -> usize;
     fn well_formed(kind: u8, bytes: *const u8, len: usize) -> bool;
-    fn list_into(kind: u8, bytes: *const u8, len: usize, out: *mut u8, out_len: usize) -> usize;
-    fn walk_into(
-        kind: u8, bytes: *const u8, len: usize, calls: *const u8, calls_len: usize, out: *mut u8, out_len: usize,
-    ) -> usize;
     #[link_name = "ask_many"]
     fn ask_many_(kind: u8, bytes: *const u8, len: usize, keys: *const u8, keys_len: usize, times: usize) -> usize;
     #[link_name = "keep_many"]
@@ -163,37 +159,6 @@ pub fn lend_many(kind: Kind, bytes: &[u8], times: usize) -> usize {
 pub fn map_many(kind: Kind, bytes: &[u8], times: usize) -> usize {
     // SAFETY: the function reads the slice.
     unsafe { map_many_(kind as u8, bytes.as_ptr(), bytes.len(), times) }
-}
-
-/// The number at a place of eight bytes.
-fn number_at(bytes: &[u8], place: usize) -> usize {
-    usize::from_le_bytes(bytes[place..place + 8].try_into().unwrap())
-}
-
-/// The pairs of a listing.
-pub fn pairs(kind: Kind, bytes: &[u8]) -> Vec<(Vec<u8>, usize)> {
-    let mut out = vec![0; (bytes.len() + 1) * (bytes.len() + 16)];
-    // SAFETY: the function reads the first slice and writes the second.
-    let len = unsafe { list_into(kind as u8, bytes.as_ptr(), bytes.len(), out.as_mut_ptr(), out.len()) };
-    let mut pairs = Vec::new();
-    let mut place = 0;
-    while place < len {
-        let key = number_at(&out, place);
-        let end = place + 8 + key;
-        pairs.push((out[place + 8..end].to_vec(), number_at(&out, end)));
-        place = end + 8;
-    }
-    pairs
-}
-
-/// The answers of a cursor to calls of two bytes each.
-pub fn answers(kind: Kind, bytes: &[u8], calls: &[u8]) -> Vec<(usize, usize)> {
-    let mut out = vec![0; 8 * calls.len()];
-    // SAFETY: the function reads the first two slices and writes the third.
-    let len = unsafe {
-        walk_into(kind as u8, bytes.as_ptr(), bytes.len(), calls.as_ptr(), calls.len(), out.as_mut_ptr(), out.len())
-    };
-    out[..len].chunks_exact(16).map(|answer| (number_at(answer, 0), number_at(answer, 8))).collect()
 }
 
 pub fn build_many(kind: Kind, route: u8, flat: &Flat, times: usize, out: &mut [u8]) -> usize {
