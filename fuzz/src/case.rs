@@ -2,7 +2,8 @@
 
 use crate::brute::Pair;
 use std::fmt::Debug;
-use zerotrie::{TrieKind, ZeroAsciiIgnoreCaseTrie, ZeroTrieExtendedCapacity, ZeroTriePerfectHash, ZeroTrieSimpleAscii};
+use zerotrie::{TrieKind, ZeroTrie};
+use zerotrie::{ZeroAsciiIgnoreCaseTrie, ZeroTrieExtendedCapacity, ZeroTriePerfectHash, ZeroTrieSimpleAscii};
 
 pub const KINDS: [TrieKind; 4] = [TrieKind::Simple, TrieKind::Ignore, TrieKind::Hash, TrieKind::Ext];
 
@@ -94,6 +95,18 @@ impl Case {
         pairs.iter().filter(|(key, _)| self.begins(key, prefix)).cloned().collect()
     }
 
+    /// Returns the bytes that follow a text in keys, in the order of the trie, each with their number.
+    pub fn edges(&self, text: &[u8]) -> Vec<(u8, usize)> {
+        let mut edges: Vec<u8> = self
+            .pairs
+            .iter()
+            .filter(|(key, _)| self.begins(key, text))
+            .filter_map(|(key, _)| key.get(text.len()).copied())
+            .collect();
+        edges.dedup();
+        edges.iter().map(|edge| (*edge, edges.len())).collect()
+    }
+
     /// Returns the value of a key, by the pairs.
     pub fn value(&self, key: &[u8]) -> Option<usize> {
         self.pairs.iter().find(|(held, _)| self.is_same(held, key)).map(|(_, value)| *value)
@@ -106,6 +119,8 @@ fn built(kind: TrieKind, pairs: &[Pair]) -> Option<Vec<u8>> {
             let bytes = $trie::try_from_sorted_slice(pairs).ok()?.into_store();
             let shuffled = pairs.iter().rev().map(|(key, value)| (key, *value));
             assert!($trie::try_from_iter(shuffled).is_ok_and(|it| it.into_store() == bytes), "two builds of {pairs:?} differ");
+            let chosen = ZeroTrie::try_from_sorted_slice(pairs).ok()?;
+            assert!(chosen.kind() != kind || chosen.as_bytes() == bytes, "a build that chooses this kind differs: {pairs:?}");
             Some(bytes)
         }};
     }

@@ -7,9 +7,12 @@ use crate::case::Case;
 use std::collections::HashMap;
 use std::iter::from_fn;
 use std::ops::Bound;
+use zerotrie::rstd::alloc::Global;
 use zerotrie::search::{AnyAutomaton, Automaton, BeginsWith, Both, ByKind, Either, Fuzzy, KeysOf, Not};
 use zerotrie::sets::{Keep, MergeAll, Operation, PairStream, Rule, Selection};
-use zerotrie::{Pairs, first_key_by_places};
+use zerotrie::zerotrie_core::{TrieRef, ZeroTrieWithOptions};
+use zerotrie::zerotrie_sets::SortedTrie;
+use zerotrie::{Pairs, by_kind, first_key_by_places};
 
 /// How many bytes of a key are passed over.
 const DEPTHS: [usize; 6] = [0, 1, 2, 3, 5, 99];
@@ -42,7 +45,17 @@ pub fn look_ups(case: &Case, texts: &[Vec<u8>]) {
         let found = ask!(case, trie => (trie.get(text), look_ups.get(text), trie.longest_prefix(text)));
         let prefixes = case.listed("the prefixes of a text", 1, ask!(case, trie => trie.common_prefixes(text)));
         let below = case.listed("a listing by a prefix", 1, ask!(case, trie => trie.stream_prefix(text)));
+        let walked = ask!(case, trie => {
+            let mut cursor = trie.cursor();
+            for byte in text {
+                _ = cursor.step(*byte);
+            }
+            let value = cursor.take_value();
+            let edge = |at| cursor.clone().probe(at).map(|it| (it.byte, usize::from(it.total_siblings)));
+            (value, (0..256).map_while(edge).collect::<Vec<_>>())
+        });
         if case.is_trie {
+            case.same(&format!("a cursor after {text:?}"), &walked, &(case.value(text), case.edges(text)));
             let wanted: Vec<_> = (0..=text.len()).filter_map(|len| Some((len, case.value(&text[..len])?))).collect();
             let value = case.value(text);
             case.same(&format!("look-ups of {text:?}"), &found, &(value, value, wanted.last().copied()));
@@ -50,11 +63,16 @@ pub fn look_ups(case: &Case, texts: &[Vec<u8>]) {
             case.same(&format!("a listing by the prefix {text:?}"), &below, &case.below(&case.pairs, text));
         }
     }
+    case.same("whether the keys can be those of a search", &by_kind!(case.kind, keys_of::<_>(&case.bytes)), &case.is_trie);
     if case.is_trie {
         case.same("the number of pairs", &count, &values.len());
         let found = case.pairs.iter().filter_map(|(key, _)| ask!(case, trie => trie.get(key))).collect();
         case.same("the look-ups of all keys", &found, &values);
     }
+}
+
+fn keys_of<K: ZeroTrieWithOptions>(bytes: &[u8]) -> bool {
+    zerotrie::zerotrie_search::KeysOf::validated::<K>(bytes).is_some()
 }
 
 /// Listings and neighbours in the order of bytes.
@@ -224,6 +242,9 @@ pub fn reverse(case: &Case, values: &[usize]) {
 
 /// Merges, combinations and changes: of any bytes in their own orders, and of tries in that of bytes.
 pub fn sets(case: &Case, other: &Case) {
+    let trie = TrieRef { kind: case.kind, bytes: &case.bytes };
+    let taken = SortedTrie::of(Global, &trie).expect("memory").is_some();
+    case.same("whether a merge takes the trie", &taken, &case.is_trie);
     let rows = brute::rows(&[&case.pairs, &other.pairs]);
     let (one, two) = (ask!(case, trie => trie.stream()), ask!(other, trie => trie.stream()));
     merged(case, one.clone(), two.clone(), &rows);

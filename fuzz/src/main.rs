@@ -56,7 +56,7 @@ fn compare_chosen(name: &str, kind: TrieKind, keys: &[Vec<u8>], random: &mut Ran
 /// A text, or bytes that were one before a change, or none at all.
 fn bytes_for(random: &mut Random, kind: TrieKind, pairs: &[Pair]) -> Vec<u8> {
     match random.below(16) {
-        0 => nested(random.below(39), random.pick(&INNERMOST)),
+        0 => nested(random.below(61), random.pick(&INNERMOST)),
         1..4 => (0..random.below(30)).map(|_| random.byte()).collect(),
         _ => {
             let mut bytes = Case::built("a build".to_string(), kind, pairs).map_or(Vec::new(), |it| it.bytes);

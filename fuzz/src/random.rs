@@ -110,7 +110,7 @@ impl Random {
             _ => SearchBy::SwapsChars(edits),
         };
         let word = if matches!(by, SearchBy::Glob | SearchBy::GlobChars) { self.pattern(&text) } else { text };
-        Question { by, word, as_kind: self.pick(&[kind, TrieKind::Hash]) }
+        Question { by, word, as_kind: self.pick(&[kind, TrieKind::Hash, TrieKind::Ignore]) }
     }
 
     pub fn asked(&mut self, kind: TrieKind, texts: &[Vec<u8>]) -> Asked {
