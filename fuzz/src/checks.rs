@@ -248,8 +248,12 @@ pub fn sets(case: &Case, other: &Case) {
     let rows = brute::rows(&[&case.pairs, &other.pairs]);
     let (one, two) = (ask!(case, trie => trie.stream()), ask!(other, trie => trie.stream()));
     merged(case, one.clone(), two.clone(), &rows);
-    let three = brute::rows(&[&case.pairs, &other.pairs, &case.pairs]);
-    let mut rows = MergeAll::new([one.clone(), two, one]);
+    // the first, the rest of it after half, and the second
+    let half = case.pairs.len() / 2;
+    let mut rest = one.clone();
+    (0..half).for_each(|_| drop(rest.next()));
+    let three = brute::rows(&[&case.pairs, &case.pairs[half..], &other.pairs]);
+    let mut rows = MergeAll::new([one, rest, two]);
     for (key, values) in &three {
         assert!(rows.advance(), "{}: a merge of three ends before {key:?}", case.name);
         let found: Vec<_> = (0..3).map(|it| rows.value(it)).collect();
