@@ -1,7 +1,7 @@
 //! Bytes of a trie, or bytes that may be none, and what they list.
 
 use crate::brute::Pair;
-use std::fmt::Debug;
+use std::fmt::{Debug, Display};
 use zerotrie::{TrieKind, ZeroTrie};
 use zerotrie::{ZeroAsciiIgnoreCaseTrie, ZeroTrieExtendedCapacity, ZeroTriePerfectHash, ZeroTrieSimpleAscii};
 
@@ -73,7 +73,7 @@ impl Case {
     }
 
     /// Ends the program if the library has found something else than is wanted.
-    pub fn same<T: PartialEq + Debug + ?Sized>(&self, what: &str, found: &T, wanted: &T) {
+    pub fn same<T: PartialEq + Debug + ?Sized>(&self, what: impl Display, found: &T, wanted: &T) {
         if found != wanted {
             let shown = |it: &T| format!("{it:?}").chars().take(600).collect::<String>();
             let bytes = if self.bytes.len() < 200 { format!("\non {:02x?}", self.bytes) } else { String::new() };

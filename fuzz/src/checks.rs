@@ -37,7 +37,7 @@ pub fn look_ups(case: &Case, texts: &[Vec<u8>]) {
         let mut listing = ask!(case, trie => trie.stream());
         let found = case.listed("a listing that skips", 1, from_fn(|| listing.next().inspect(|_| listing.skip_below(depth))));
         if case.is_trie {
-            case.same(&format!("a listing that skips below {depth}"), &found, &brute::skipped(&case.pairs, depth));
+            case.same(format_args!("a listing that skips below {depth}"), &found, &brute::skipped(&case.pairs, depth));
         }
     }
     let mut look_ups = ask!(case, trie => trie.look_ups());
@@ -55,12 +55,12 @@ pub fn look_ups(case: &Case, texts: &[Vec<u8>]) {
             (value, (0..256).map_while(edge).collect::<Vec<_>>())
         });
         if case.is_trie {
-            case.same(&format!("a cursor after {text:?}"), &walked, &(case.value(text), case.edges(text)));
+            case.same(format_args!("a cursor after {text:?}"), &walked, &(case.value(text), case.edges(text)));
             let wanted: Vec<_> = (0..=text.len()).filter_map(|len| Some((len, case.value(&text[..len])?))).collect();
             let value = case.value(text);
-            case.same(&format!("look-ups of {text:?}"), &found, &(value, value, wanted.last().copied()));
-            case.same(&format!("the prefixes of {text:?}"), &prefixes, &wanted);
-            case.same(&format!("a listing by the prefix {text:?}"), &below, &case.below(&case.pairs, text));
+            case.same(format_args!("look-ups of {text:?}"), &found, &(value, value, wanted.last().copied()));
+            case.same(format_args!("the prefixes of {text:?}"), &prefixes, &wanted);
+            case.same(format_args!("a listing by the prefix {text:?}"), &below, &case.below(&case.pairs, text));
         }
     }
     case.same("whether the keys can be those of a search", &by_kind!(case.kind, keys_of::<_>(&case.bytes)), &case.is_trie);
@@ -77,26 +77,33 @@ fn keys_of<K: ZeroTrieWithOptions>(bytes: &[u8]) -> bool {
 
 /// Listings and neighbours in the order of bytes.
 pub fn order(case: &Case, texts: &[Vec<u8>], bounds: Bounds) {
-    let what = |call: &str| format!("{call} within {bounds:?}");
     let found = case.listed("a range", 1, ask!(case, trie => trie.search_range(bounds)));
-    case.same(&what("a range"), &found, &brute::within(&case.pairs, bounds));
+    case.same(format_args!("a range within {bounds:?}"), &found, &brute::within(&case.pairs, bounds));
     let (wanted, most) = (brute::within(&case.sorted, bounds), case.bytes.len() + 1);
     let found = case.listed("a sorted listing", 1, ask!(case, trie => trie.stream_sorted(bounds)));
     let reversed: Vec<Pair> = ask!(case, trie => trie.reversed(bounds)).take(most).collect();
     let ends = from_both_ends(ask!(case, trie => trie.range(bounds)), most);
     let last = ask!(case, trie => trie.last_within(bounds));
     if case.is_trie {
-        case.same(&what("a sorted listing"), &found, &wanted);
-        case.same(&what("a reversed listing"), &reversed, &wanted.iter().rev().cloned().collect());
-        case.same(&what("the last pair"), &last.as_ref(), &wanted.last());
-        case.same(&what("a listing from both ends"), &ends, &from_both_ends(wanted.iter().cloned(), most));
+        case.same(format_args!("a sorted listing within {bounds:?}"), &found, &wanted);
+        case.same(format_args!("a reversed listing within {bounds:?}"), &reversed, &wanted.iter().rev().cloned().collect());
+        case.same(format_args!("the last pair within {bounds:?}"), &last.as_ref(), &wanted.last());
+        case.same(
+            format_args!("a listing from both ends within {bounds:?}"),
+            &ends,
+            &from_both_ends(wanted.iter().cloned(), most),
+        );
     }
     for depth in DEPTHS {
         let mut listing = ask!(case, trie => trie.stream_sorted(bounds));
         let passed = from_fn(|| listing.next().inspect(|_| listing.skip_below(depth)));
         let passed = case.listed("a sorted listing that skips", 1, passed);
         if case.is_trie {
-            case.same(&what(&format!("a sorted listing that skips below {depth}")), &passed, &brute::skipped(&wanted, depth));
+            case.same(
+                format_args!("a sorted listing that skips below {depth} within {bounds:?}"),
+                &passed,
+                &brute::skipped(&wanted, depth),
+            );
         }
     }
     for key in texts {
@@ -108,7 +115,7 @@ pub fn order(case: &Case, texts: &[Vec<u8>], bounds: Bounds) {
             let greatest = case.sorted.partition_point(|pair| pair.0 <= *key);
             let at = |place: Option<usize>| case.sorted.get(place?).cloned();
             let wanted = [at(Some(least)), at(Some(greatest)), at(least.checked_sub(1)), at(greatest.checked_sub(1))];
-            case.same(&format!("the first pair from {key:?} and after it, the last before it and up to it"), &found, &wanted);
+            case.same(format_args!("the first pair from {key:?} and after it, the last before it and up to it"), &found, &wanted);
         }
     }
 }
@@ -166,24 +173,24 @@ pub fn search(case: &Case, other: &Case, asked: &Asked, bounds: Bounds, prefix: 
 }
 
 impl Search<'_> {
-    fn what(&self, call: &str) -> String {
-        format!("{call} by {:?}", self.asked)
-    }
-
     fn check<T: Automaton>(&self, automaton: impl Fn() -> Option<T>) {
         let Search { case, bounds, prefix, .. } = *self;
-        case.same(&self.what("whether there is an automaton"), &automaton().is_some(), &self.accepts.is_some());
+        case.same(
+            format_args!("whether there is an automaton by {:?}", self.asked),
+            &automaton().is_some(),
+            &self.accepts.is_some(),
+        );
         let (Some(_), Some(accepts)) = (automaton(), &self.accepts) else { return };
         let automaton = || automaton().expect("there was one");
         let wanted: Vec<Pair> = case.pairs.iter().filter(|(key, _)| accepts(key)).cloned().collect();
         let found = case.listed("a search", 1, ask!(case, trie => trie.search(automaton())));
-        case.same(&self.what("a search"), &found, &wanted);
+        case.same(format_args!("a search by {:?}", self.asked), &found, &wanted);
         for bounds in [(Bound::Unbounded, Bound::Unbounded), bounds] {
             let found = case.listed("a sorted search", 1, ask!(case, trie => trie.search_sorted(bounds, automaton())));
             if case.is_trie {
                 let mut in_order = brute::within(&wanted, bounds);
                 in_order.sort();
-                case.same(&self.what(&format!("a sorted search within {bounds:?}")), &found, &in_order);
+                case.same(format_args!("a sorted search within {bounds:?} by {:?}", self.asked), &found, &in_order);
             }
         }
         let below = case.listed("a search below a prefix", 1, ask!(case, trie => trie.search_prefix(prefix, automaton())));
@@ -193,10 +200,10 @@ impl Search<'_> {
         let found: Vec<Pair> = ask!(case, trie => trie.search(automaton())).take(front.len()).collect();
         let after = case.listed("a search after a key", 1, ask!(case, trie => trie.search_after("", last, automaton())));
         if case.is_trie {
-            case.same(&self.what(&format!("a search below {prefix:?}")), &below, &case.below(&wanted, prefix));
-            case.same(&self.what("the first pairs of a search"), &found[..], front);
+            case.same(format_args!("a search below {prefix:?} by {:?}", self.asked), &below, &case.below(&wanted, prefix));
+            case.same(format_args!("the first pairs of a search by {:?}", self.asked), &found[..], front);
             if !front.is_empty() {
-                case.same(&self.what(&format!("a search after {last:?}")), &after[..], rest);
+                case.same(format_args!("a search after {last:?} by {:?}", self.asked), &after[..], rest);
             }
         }
     }
@@ -210,12 +217,12 @@ impl Search<'_> {
             let near = case.sorted.iter().filter_map(|pair| Some((one.distance(&pair.0)?, pair.clone())));
             let mut wanted: Vec<_> = near.collect();
             wanted.sort_by_key(|(far, _)| *far);
-            case.same(&self.what("the nearest"), &found, &wanted);
+            case.same(format_args!("the nearest by {:?}", self.asked), &found, &wanted);
         }
         let mut matches = ask!(case, trie => trie.search(automaton));
         while let Some((key, _)) = matches.next() {
             let found = matches.automaton().distance(matches.state());
-            case.same(&self.what(&format!("the distance of {key:?}")), &found, &one.distance(&key));
+            case.same(format_args!("the distance of {key:?} by {:?}", self.asked), &found, &one.distance(&key));
         }
     }
 }
@@ -231,11 +238,15 @@ pub fn reverse(case: &Case, values: &[usize]) {
         let found = [table.first_key_of(*value), by_places];
         if case.is_trie {
             case.same("the number of places", &table.len(), &case.pairs.len());
-            case.same(&format!("the first key of {value}"), &found, &[wanted.clone(), wanted.clone()]);
+            case.same(format_args!("the first key of {value}"), &found, &[wanted.clone(), wanted.clone()]);
         }
         // a scan, of some in a large trie
         if case.pairs.len() < 100 || number % 32 == 0 {
-            case.same(&format!("the first key of {value} by a scan"), &ask!(case, trie => trie.first_key_of(*value)), &wanted);
+            case.same(
+                format_args!("the first key of {value} by a scan"),
+                &ask!(case, trie => trie.first_key_of(*value)),
+                &wanted,
+            );
         }
     }
 }
@@ -262,7 +273,7 @@ pub fn sets(case: &Case, other: &Case) {
         case.same("the first and the last value of three", &(rows.first(), rows.last()), &ends);
         for (selection, rule) in SELECTIONS.into_iter().flat_map(|it| RULES.map(|rule| (it, rule))) {
             let wanted = brute::selected(values, selection, rule);
-            case.same(&format!("{selection:?} by {rule:?} of {values:?}"), &rows.selected(selection, rule), &wanted);
+            case.same(format_args!("{selection:?} by {rule:?} of {values:?}"), &rows.selected(selection, rule), &wanted);
         }
     }
     assert!(!rows.advance(), "{}: a merge of three goes on", case.name);
@@ -284,7 +295,7 @@ fn sets_in_order(case: &Case, other: &Case) {
         one.intersection(two, Keep::Last), one.difference(two), one.symmetric_difference(two),
     ]));
     for (found, operation) in combined.into_iter().zip(OPERATIONS) {
-        case.same(&format!("{operation:?} of two tries"), &found.collect(), &brute::combined(&rows, operation));
+        case.same(format_args!("{operation:?} of two tries"), &found.collect(), &brute::combined(&rows, operation));
     }
     let changes = ask!(case, one => ask!(other, two => one.diff(two)));
     case.same("the changes of two tries", &changes.collect(), &brute::changes(&rows));
@@ -296,7 +307,7 @@ fn merged<S: PairStream + Clone, T: PairStream + Clone>(case: &Case, one: Pairs<
     case.same("the rows of a merge", &found.take(rows.len() + 1).collect(), &rows.to_vec());
     for operation in OPERATIONS {
         let found = one.clone().combine(two.clone(), operation).take(rows.len() + 1).collect();
-        case.same(&format!("{operation:?}"), &found, &brute::combined(rows, operation));
+        case.same(format_args!("{operation:?}"), &found, &brute::combined(rows, operation));
     }
     case.same("the changes", &one.diff(two).take(rows.len() + 1).collect(), &brute::changes(rows));
 }

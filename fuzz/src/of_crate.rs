@@ -53,7 +53,7 @@ pub fn compare(random: &mut Random, case: &Case, texts: &[Vec<u8>]) {
     let ours = answers!(zerotrie, case, texts, moves);
     if case.is_trie {
         case.same(
-            &format!("look-ups of {texts:?}, the listing, and a cursor that moves by {moves:?}"),
+            format_args!("look-ups of {texts:?}, the listing, and a cursor that moves by {moves:?}"),
             &ours,
             &answers!(original, case, texts, moves),
         );
