@@ -97,7 +97,7 @@ fn main() {
     let number = |at: usize, or: u64| arguments.get(at).map_or(or, |it| it.parse().expect("a number"));
     let (rounds, seed) = (number(0, 1_000_000), number(1, 1));
     let mut random = Random::new(seed);
-    for (name, keys) in seeds::all((rounds as usize / 100).clamp(500, 10_000), arguments.get(2).map(String::as_str)) {
+    for (name, keys) in seeds::all((rounds as usize / 100).clamp(300, 10_000), arguments.get(2).map(String::as_str)) {
         for kind in KINDS.into_iter().filter(|it| seeds::keys_for(*it, &keys).len() > 9) {
             compare_chosen(&name, kind, &keys, &mut random);
         }
