@@ -10,7 +10,7 @@ use Rattle.zerotrie_lines.specs.declared.reading.Format.TheVariants.{Tsv}
 use Rattle.zerotrie_lines.specs.declared.reading.Header.TheVariants.{Absent}
 use Rattle.zerotrie_lines.specs.Tables.{lowered}
 use Rattle.zerotrie_core.specs.Kinds.{kind_of}
-use Rattle.zerotrie_queries.specs.Printed.{pair_lines}
+use Rattle.zerotrie_queries.specs.Printed.{lines_of, pair_line}
 use Rattle.zerotrie_queries.specs.declared.print.Style.TheVariants as style
 use Rattle.zerotrie_core.specs.declared.TrieKind.{TrieKind}
 use Rattle.zerotrie_core.specs.Routes.{IsBuild}
@@ -47,14 +47,14 @@ all_begin kind [] = refl
 all_begin kind (e ∷ pairs) = ap (λ ps. e ∷ ps) (all_begin kind pairs)
 
 -- as lines that are read back
-same_lines : (pairs : Pairs) → pair_lines style.Tsv pairs ≡ tsv_lines pairs
+same_lines : (pairs : Pairs) → lines_of (pair_line style.Tsv) pairs ≡ tsv_lines pairs
 same_lines [] = refl
 same_lines (e ∷ pairs) = ap (λ t. tsv_line e ++ t) (same_lines pairs)
 
 pub made_again : LinesReadBack → OneReading → ListedIsMadeAgain
 made_again back one kind bytes file m plan means end tsv trie named cased all made =
-    let lines : pair_lines style.Tsv (beginning (kind_of kind) [] means.pairs) ≡ tsv_lines means.pairs = ap (pair_lines style.Tsv) (all_begin (kind_of kind) means.pairs) ∙ same_lines means.pairs in
-    let read : IsPairs (Text Tsv end Absent) (tsv_lines means.pairs) made.1 = subst (λ t. IsPairs (Text Tsv end Absent) t made.1) lines (subst (λ s. IsPairs s (pair_lines style.Tsv (beginning (kind_of kind) [] means.pairs)) made.1) tsv made.2) in
+    let lines : lines_of (pair_line style.Tsv) (beginning (kind_of kind) [] means.pairs) ≡ tsv_lines means.pairs = ap (lines_of (pair_line style.Tsv)) (all_begin (kind_of kind) means.pairs) ∙ same_lines means.pairs in
+    let read : IsPairs (Text Tsv end Absent) (tsv_lines means.pairs) made.1 = subst (λ t. IsPairs (Text Tsv end Absent) t made.1) lines (subst (λ s. IsPairs s (lines_of (pair_line style.Tsv) (beginning (kind_of kind) [] means.pairs)) made.1) tsv made.2) in
     let same = one Tsv end Absent (tsv_lines means.pairs) means.pairs made.1 (back end means.pairs (values_below means.lists)) read in
     let plain : kept plan.read.duplicates (lowered plan.read.lower_case made.1) ≡ made.1 = rw (cased, all) refl in
     of_listed kind bytes file m plan means trie named (subst (λ pairs. IsFileOf plan.file pairs file) (plain ∙ same) made.3)

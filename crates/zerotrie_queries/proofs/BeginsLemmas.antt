@@ -11,7 +11,7 @@ front_alike p q same [] = same []
 front_alike p q same (b ∷ key) =
     ap (λ x. x || some_front (λ rest. p (b ∷ rest)) key) (same []) ∙ ap (λ x. q [] || x) (front_alike (λ rest. p (b ∷ rest)) (λ rest. q (b ∷ rest)) (λ rest. same (b ∷ rest)) key)
 
-no_front : (accepts : List ℕ → Bool) → ((key : List ℕ) → accepts key ≡ false) → (key : List ℕ) → some_front accepts key ≡ false
+pub no_front : (accepts : List ℕ → Bool) → ((key : List ℕ) → accepts key ≡ false) → (key : List ℕ) → some_front accepts key ≡ false
 no_front accepts none [] = none []
 no_front accepts none (b ∷ key) = ap (λ x. x || some_front (λ rest. accepts (b ∷ rest)) key) (none []) ∙ no_front (λ rest. accepts (b ∷ rest)) (λ rest. none (b ∷ rest)) key
 

@@ -31,6 +31,7 @@ use Rattle.zerotrie_queries.specs.declared.question.Sought.{Sought}
 use Rattle.zerotrie_search.specs.Nearest.{nearest}
 use Rattle.zerotrie_search.specs.declared.any.SearchBy.{SearchBy}
 use Rattle.zerotrie_search.specs.declared.any.SearchBy.TheVariants as by
+use Rattle.zerotrie_queries.proofs.BeginsLemmas.{no_front}
 use Rattle.zerotrie_queries.proofs.NearLemmas.{nearest_alike}
 use Rattle.zerotrie_queries.proofs.ChoiceLemmas.{accepted_alike, accepted_within, by_all}
 
@@ -177,6 +178,7 @@ are_at kind e c words h = record {
   from = h.from;
   to = h.to;
   word = h.word ∙ sym (words_at kind e c.sought);
+  above = h.above;
 }
 
 has_by : (e : ℕ) (o p : Option Sought) → option_map (λ s. s.by) p ≡ option_map (λ s. s.by) o
@@ -210,7 +212,7 @@ has_at e c words d h = record {
   begins = has_begins e c.sought d.sought h.begins;
 }
 
-edits_alike : (o p : Option Sought) → option_map (λ s. s.by) p ≡ option_map (λ s. s.by) o → unwrap_or (option_map (λ s. most_by s.by) p) 0 ≡ unwrap_or (option_map (λ s. most_by s.by) o) 0
+pub edits_alike : (o p : Option Sought) → option_map (λ s. s.by) p ≡ option_map (λ s. s.by) o → unwrap_or (option_map (λ s. most_by s.by) p) 0 ≡ unwrap_or (option_map (λ s. most_by s.by) o) 0
 edits_alike None None h = refl
 edits_alike None (Some t) h = absurd (cc)
 edits_alike (Some s) None h = absurd (cc)
@@ -274,28 +276,21 @@ found_folded kind c s accepts h is word finds key =
     ∙ ap (λ b. b && found_from s.begins (finds_by (kind_of kind) s.by s.word.now) key) told
     ∙ ap (λ o. is_matched kind o key) (sym is)
 
+-- no key is between the first key and itself
+none_between : (key : List ℕ) → bounds_contain by_bytes (Excluded []) (Excluded []) key ≡ false
+none_between [] = refl
+none_between (b ∷ key) = refl
+
+none_from : (begins : Bool) (key : List ℕ) → found_from begins (bounds_contain by_bytes (Excluded []) (Excluded [])) key ≡ false
+none_from false key = none_between key
+none_from true key = no_front (bounds_contain by_bytes (Excluded []) (Excluded [])) none_between key
+
 -- a word that is none of its sort finds none
-pub none_found : (kind : TrieKind) (c : Choice) (s : Sought) → IsFolded kind c → c.sought ≡ Some s → is_word s.by s.word.now ≡ false → (key : List ℕ) → false ≡ is_matched kind c.sought key
-none_found kind c s h is word key =
-    rw (is, same_word kind c s h is, word) refl
-
--- all keys are between no bounds
-accepted_all : (accepts : List ℕ → Bool) (m : Map) → accepted accepts (within Unbounded Unbounded m) ≡ accepted accepts (entries m)
-accepted_all accepts m = accepted_within accepts (bounds_contain by_bytes Unbounded Unbounded) (entries m) (λ key is. refl)
-
--- whether a stream of all that an automaton accepts has a pair
-pub if_found : (r : Result Bool AllocError) (kind : Kind) (bytes : List ℕ) (accepts : List ℕ → Bool) (left : Left) → ((m : Map) → Means kind bytes m → left ≡ to_come (accepted accepts (within Unbounded Unbounded m)))
-    → IfOk r (λ found. (length left.pairs == 0) ≡ not found) → IfOk r (λ found. (m : Map) → Means kind bytes m → (length (accepted accepts (entries m)) == 0) ≡ not found)
-if_found (Ok found) kind bytes accepts left lists h = λ m means. subst (λ l. (length l == 0) ≡ not found) (ap (λ l. l.pairs) (lists m means) ∙ accepted_all accepts m) h
-if_found (Err e) kind bytes accepts left lists h = tt
-
--- whether one is chosen
-pub by_all_found : (kind : TrieKind) (c : Choice) (keeps accepts : List ℕ → Bool) (bytes : List ℕ) → ((key : List ℕ) → keeps key ≡ is_kept kind c key) → ((key : List ℕ) → accepts key ≡ is_matched kind c.sought key) → (r : Result Bool AllocError)
-    → IfOk r (λ found. (m : Map) → Means (kind_of kind) bytes m → (length (accepted (λ key. keeps key && accepts key) (entries m)) == 0) ≡ not found)
-    → IfOk r (λ found. (m : Map) → Means (kind_of kind) bytes m → (length (chosen kind c (entries m)) == 0) ≡ not found)
-by_all_found kind c keeps accepts bytes kept is (Ok found) all = λ m means.
-    subst (λ l. (length l == 0) ≡ not found) (accepted_alike (λ key. keeps key && accepts key) (is_chosen kind c) (by_all kind c keeps accepts kept is) (entries m)) (all m means)
-by_all_found kind c keeps accepts bytes kept is (Err e) all = tt
+pub none_found : (kind : TrieKind) (c : Choice) (s : Sought) (begins : Bool) → IsFolded kind c → c.sought ≡ Some s → is_word s.by s.word.now ≡ false
+    → (key : List ℕ) → found_from begins (bounds_contain by_bytes (Excluded []) (Excluded [])) (folded_key (kind_of kind) key) ≡ is_matched kind c.sought key
+none_found kind c s begins h is word key =
+    let none : false ≡ is_matched kind c.sought key = rw (is, same_word kind c s h is, word) refl in
+    none_from begins (folded_key (kind_of kind) key) ∙ none
 
 -- the fewest edits are these, if they choose a pair
 pub closest_here : (kind : TrieKind) (c : Choice) (pairs : Pairs) (e n : ℕ) → e < n → (length (chosen kind (at_edits e c) pairs) == 0) ≡ false → closest kind c pairs e (n - e) ≡ chosen kind (at_edits e c) pairs

@@ -19,5 +19,6 @@ mod FoldLemmas
 mod EditsLemmas
 mod BeginsLemmas
 mod KeptLemmas
-mod MeasuredLemmas
 mod WordLemmas
+mod MeasuredLemmas
+mod GivenLemmas

@@ -11,7 +11,6 @@ use Rattle.std.specs.Range.Bound.{bound_map, bounds_contain, is_up_to_end}
 use Rattle.std.specs.declared.ops.Bound.{Bound}
 use Rattle.std.specs.declared.ops.Bound.TheVariants.{Included, Excluded, Unbounded}
 use Rattle.std.proofs.lemmas.Bool.{cases_eq, ne_eqb, eq-eqb}
-use Rattle.zerotrie_base.proofs.CanonicalLemmas.Bounds.{entries_count}
 use Rattle.zerotrie_core.specs.Kind.{Kind, same_byte}
 use Rattle.zerotrie_core.specs.Kinds.{kind_of}
 use Rattle.zerotrie_core.specs.Maps.{Pairs, Map, map_of, after_run, begins_with}
@@ -23,40 +22,16 @@ use Rattle.zerotrie_core.specs.declared.TrieKind.TheVariants.{Simple, Ignore, Ha
 use Rattle.zerotrie_search.specs.Searches.{accepted}
 use Rattle.zerotrie_search.specs.Sets.{by_bytes}
 use Rattle.zerotrie_search.specs.Sorted.{within}
-use Rattle.zerotrie_search.proofs.PathLemmas.{lists_few}
-use Rattle.zerotrie_queries.specs.Chosen.{chosen, is_chosen, is_in, is_matched, is_spared, IsFolded}
-use Rattle.zerotrie_queries.specs.Sorted.{picked, below_some, AreWithin}
+use Rattle.zerotrie_queries.specs.Chosen.{AreBelow, chosen, is_chosen, is_in, is_matched, is_spared, IsFolded}
+use Rattle.zerotrie_queries.specs.Sorted.{picked, AreWithin}
 use Rattle.zerotrie_queries.specs.declared.question.Order.TheVariants.{ByBytes}
 use Rattle.zerotrie_queries.specs.declared.question.Choice.{Choice}
-use Rattle.zerotrie_queries.proofs.ChoiceLemmas.{accepted_alike, accepted_within, few_accepted}
-use Rattle.zerotrie_search.specs.Nearest.{nearest}
-use Rattle.zerotrie_queries.proofs.NearLemmas.{few_near}
+use Rattle.zerotrie_queries.proofs.ChoiceLemmas.{accepted_alike, accepted_within}
 use Rattle.zerotrie_queries.proofs.FoldLemmas.{exact_key, in_range}
 
 -- the pairs that are chosen between bounds are all that are chosen, if each key that is chosen is between them
 pub chosen_within : (kind : TrieKind) (c : Choice) (from to : Bound (List ℕ)) (m : Map) → AreWithin kind c from to → accepted (is_chosen kind c) (within from to m) ≡ chosen kind c (entries m)
 chosen_within kind c from to m h = accepted_within (is_chosen kind c) (bounds_contain by_bytes from to) (entries m) h
-
--- they are fewer than bytes can be
-pub few_within : (kind : Kind) (bytes : List ℕ) (accepts : List ℕ → Bool) (from to : Bound (List ℕ)) (m : Map) → Means kind bytes m → length (accepted accepts (within from to m)) < 2 ^ 64
-few_within kind bytes accepts from to m means =
-    let chosen = few_accepted accepts (within from to m) in
-    let between = few_accepted (bounds_contain by_bytes from to) (entries m) in
-    let is = ap (λ n. length (entries n)) means.is in
-    let each = entries_count means.pairs in
-    let few = lists_few means.lists in
-    let short = means.short in
-    omega (arith, chosen, between, is, each, few, short)
-
--- and so are the nearest of them
-pub few_nearest : (kind : Kind) (bytes : List ℕ) (accepts : List ℕ → Bool) (measure : List ℕ → Option ℕ) (n : ℕ) (m : Map) → Means kind bytes m → length (accepted accepts (nearest measure (entries m) 0 n)) < 2 ^ 64
-few_nearest kind bytes accepts measure n m means =
-    let near = few_near accepts measure (entries m) 0 n in
-    let is = ap (λ n. length (entries n)) means.is in
-    let each = entries_count means.pairs in
-    let few = lists_few means.lists in
-    let short = means.short in
-    omega (arith, near, is, each, few, short)
 
 tied : (x : ℕ) → nat_cmp x x ≡ Equal
 tied x = sym (nat_cmp_is x x Equal refl)
@@ -92,13 +67,13 @@ run_below (x ∷ front) b rest (c ∷ key) h =
     rw (is.0, tied x) (run_below front b rest key is.1)
 
 -- so all keys that begin with some bytes are below these bytes up to a place, with the next byte there
-pub prefix_below : (prefix : List ℕ) (place : ℕ) (bound : List ℕ) → place < length prefix → bound ≡ take place prefix ++ (slice_index prefix place + 1) ∷ []
-    → (key : List ℕ) → is_some (after_run prefix key) ≡ true → slice_cmp nat_cmp key bound ≡ Less
+pub prefix_below : (prefix : List ℕ) (place : ℕ) (bound : List ℕ) → place < length prefix → bound ≡ take place prefix ++ (slice_index prefix place + 1) ∷ [] → AreBelow prefix (Excluded bound)
 prefix_below prefix place bound inside is key begins =
     let one : suc (slice_index prefix place) ≡ slice_index prefix place + 1 = omega arith in
-    subst (λ l. slice_cmp nat_cmp key l ≡ Less) (ap (λ n. take place prefix ++ n ∷ []) one ∙ sym is)
+    let less : slice_cmp nat_cmp key bound ≡ Less = subst (λ l. slice_cmp nat_cmp key l ≡ Less) (ap (λ n. take place prefix ++ n ∷ []) one ∙ sym is)
     (run_below (take place prefix) (slice_index prefix place) (drop (suc place) prefix) key
-    (subst (λ p. is_some (after_run p key) ≡ true) (split_at prefix place 0 inside) begins))
+    (subst (λ p. is_some (after_run p key) ≡ true) (split_at prefix place 0 inside) begins)) in
+    rw less refl
 
 -- where case counts, bytes are the same if they are equal
 same_is : (kind : TrieKind) → kind ≢ Ignore → (a b : ℕ) → same_byte (kind_of kind) a b ≡ (a == b)
@@ -117,14 +92,6 @@ as_run kind exact (c ∷ front) (b ∷ key) h =
       | inr other ↦ absurd (let no = subst (λ t. (t && begins_with (kind_of kind) front key) ≡ true) (same_is kind exact b c ∙ ne_eqb b c other) h in cc)
     ]
 
-is_below : (key bytes : List ℕ) → slice_cmp nat_cmp key bytes ≡ Less → is_up_to_end by_bytes (Excluded bytes) key ≡ true
-is_below key bytes is = rw is refl
-
-ends : (prefix key : List ℕ) (above : Option (List ℕ)) → IfSome above (λ bound. (key : List ℕ) → is_some (after_run prefix key) ≡ true → slice_cmp nat_cmp key bound ≡ Less)
-    → is_some (after_run prefix key) ≡ true → is_up_to_end by_bytes (below_some above) key ≡ true
-ends prefix key None h begins = refl
-ends prefix key (Some bytes) h begins = is_below key bytes (h key begins)
-
 both : (a b : Bool) → a ≡ true → b ≡ true → (a && b) ≡ true
 both true true p q = refl
 both true false p q = q
@@ -136,14 +103,12 @@ both_parts true true c d h = (refl, refl)
 both_parts true false c d h = absurd (cc)
 both_parts false b c d h = absurd (cc)
 
--- the keys that are chosen are between a prefix and the bytes above all keys that begin with it
-pub prefix_within : (kind : TrieKind) (c : Choice) (above : Option (List ℕ)) → kind ≢ Ignore
-    → IfSome above (λ bound. (key : List ℕ) → is_some (after_run c.prefix.now key) ≡ true → slice_cmp nat_cmp key bound ≡ Less)
-    → AreWithin kind c (Included c.prefix.now) (below_some above)
+-- the keys that are chosen are between a prefix and a bound above all keys that begin with it
+pub prefix_within : (kind : TrieKind) (c : Choice) (above : Bound (List ℕ)) → kind ≢ Ignore → AreBelow c.prefix.now above → AreWithin kind c (Included c.prefix.now) above
 prefix_within kind c above exact h key is =
     let begins = (both_parts (begins_with (kind_of kind) c.prefix.now key) (is_in kind c.range key) (is_spared kind c.without key) (is_matched kind c.sought key) is).0 in
     let run = as_run kind exact c.prefix.now key begins in
-    both (is_le (slice_cmp nat_cmp c.prefix.now key)) (is_up_to_end by_bytes (below_some above) key) (run_from c.prefix.now key run) (ends c.prefix.now key above h run)
+    both (is_le (slice_cmp nat_cmp c.prefix.now key)) (is_up_to_end by_bytes above key) (run_from c.prefix.now key run) (h key run)
 
 -- they are in the range
 pub range_within : (kind : TrieKind) (c : Choice) → kind ≢ Ignore → IsFolded kind c → AreWithin kind c (bound_map (λ b. b.now) c.range.from) (bound_map (λ b. b.now) c.range.to)
@@ -155,20 +120,10 @@ range_within kind c exact h key is =
 pub all_within : (kind : TrieKind) (c : Choice) → AreWithin kind c Unbounded Unbounded
 all_within kind c key is = refl
 
--- what a sorted listing lists is what is picked of the pairs that the bytes list
-pub picked_sorted : (kind : TrieKind) (c : Choice) (accepts : List ℕ → Bool) → ((key : List ℕ) → accepts key ≡ is_chosen kind c key) → (from to : Bound (List ℕ)) (bytes : List ℕ) (left : Left) → length bytes < 2 ^ 64 → AreWithin kind c from to
-    → ((m : Map) → Means (kind_of kind) bytes m → left ≡ to_come (accepted accepts (within from to m)))
-    → (pairs : Pairs) → Lists (kind_of kind) bytes pairs → left.pairs ≡ picked ByBytes kind c pairs
-picked_sorted kind c accepts same from to bytes left short inside listed pairs lists =
-    ap (λ l. l.pairs) (listed (map_of pairs) (record { short = short; pairs = pairs; lists = lists; is = refl }))
-    ∙ accepted_alike accepts (is_chosen kind c) same (within from to (map_of pairs))
-    ∙ chosen_within kind c from to (map_of pairs) inside
-
--- malformed bytes list no pairs
-pub lists_none : {P : Type 0} (kind : TrieKind) (bytes : List ℕ) (valid : Bool) → length bytes < 2 ^ 64 → valid ≡ false → IsTrue valid ↔ IsWellFormed (kind_of kind) bytes → (pairs : Pairs) → Lists (kind_of kind) bytes pairs → P
-lists_none kind bytes valid short fails is pairs lists = absurd (let yes = is.1 (map_of pairs, record { short = short; pairs = pairs; lists = lists; is = refl }) in cc)
-
--- what holds of the bytes of a vector, if there is one, holds of the bytes
-pub if_some_items : {A : Type 0} (P : List ℕ → Type 0) (o : Option (Vec ℕ A)) → IfSome o (λ v. P v.items) → IfSome (option_map (λ v. v.items) o) P
-if_some_items P None h = h
-if_some_items P (Some v) h = h
+-- a sorted search gives the accepted pairs between two bounds of those that the bytes list
+pub gives_between : (kind : TrieKind) (accepts matched : List ℕ → Bool) → ((key : List ℕ) → accepts key ≡ matched key) → (from to : Bound (List ℕ)) (bytes : List ℕ) (k : Kind) (b : List ℕ) (left : Left)
+    → length bytes < 2 ^ 64 → k ≡ kind_of kind → b ≡ bytes → ((m : Map) → Means (kind_of kind) bytes m → left ≡ to_come (accepted accepts (within from to m)))
+    → (pairs : Pairs) → Lists (kind_of kind) bytes pairs → IsWellFormed k b × (left ≡ to_come (accepted matched (within from to (map_of pairs))))
+gives_between kind accepts matched same from to bytes k b left short is_kind is_bytes listed pairs lists =
+    let means : Means (kind_of kind) bytes (map_of pairs) = record { short = short; pairs = pairs; lists = lists; is = refl } in
+    (rw (is_kind, is_bytes) (map_of pairs, means), listed (map_of pairs) means ∙ ap to_come (accepted_alike accepts matched same (within from to (map_of pairs))))

@@ -1,20 +1,22 @@
 -- The pairs that are chosen of a trie.
-use Rattle.std.specs.Prelude.{◌≡◌, ℕ, List, Bool, true, false, ◌&&◌, ◌==◌, Option, Some, None, [], length, nat_le, not, unwrap_or, if◌then◌else◌}
+use Rattle.std.specs.Prelude.{◌≡◌, ℕ, List, Bool, true, false, ◌&&◌, ◌==◌, Option, Some, None, [], is_some, length, nat_le, not, unwrap_or, if◌then◌else◌}
 use Rattle.std.proofs.Common.{zero, suc}
-use Rattle.std.specs.Range.Bound.{bound_map, bounds_contain}
+use Rattle.std.specs.Range.Bound.{bound_map, bounds_contain, is_up_to_end}
 use Rattle.std.specs.Option.{option_map}
 use Rattle.std.specs.Str.{chars, is_utf8}
 use Rattle.std.specs.declared.ops.Bound.{Bound}
-use Rattle.zerotrie_core.specs.Maps.{Pairs, begins_with}
+use Rattle.std.specs.declared.ops.Bound.TheVariants.{Excluded, Unbounded}
+use Rattle.zerotrie_core.specs.Maps.{Pairs, after_run, begins_with}
 use Rattle.zerotrie_core.specs.Kinds.{kind_of}
-use Rattle.zerotrie_core.specs.Listings.{Left}
 use Rattle.zerotrie_core.specs.declared.TrieKind.{TrieKind}
 use Rattle.zerotrie_index.specs.Tries.{folded_key}
-use Rattle.zerotrie_search.specs.Automata.{edits_to, finds_by, free_if, ignores_case, most_by, word_by}
+use Rattle.zerotrie_search.specs.Automata.{any_edits_to, any_most, edits_to, finds_by, free_if, ignores_case, most_by, word_by}
+use Rattle.zerotrie_search.specs.Nearest.{measured_up_to}
 use Rattle.zerotrie_search.specs.Searches.{accepted}
 use Rattle.zerotrie_search.specs.Sets.{by_bytes, some_front}
 use Rattle.zerotrie_search.specs.Globs as globs
 use Rattle.zerotrie_search.specs.declared.TheConstants.{WORD_LIMIT}
+use Rattle.zerotrie_search.specs.declared.any.AnyAutomaton.{AnyAutomaton}
 use Rattle.zerotrie_search.specs.declared.any.SearchBy.{SearchBy}
 use Rattle.zerotrie_search.specs.declared.any.SearchBy.TheVariants as by
 use Rattle.zerotrie_search.specs.declared.range.KeyRange.{KeyRange}
@@ -52,6 +54,10 @@ is_in kind r key = bounds_contain by_bytes (folded_bound kind (bound_map (λ b. 
 abbrev pub found_from : (begins : Bool) → (finds : List ℕ → Bool) → List ℕ → Bool
 found_from begins finds key = if begins then some_front finds key else finds key
 
+-- whether keys need only begin with one that the word finds
+abbrev pub begins_of : Option Sought → Bool
+begins_of sought = unwrap_or (option_map (λ s. s.begins) sought) false
+
 -- whether a word finds it, if there is one
 abbrev pub is_matched : TrieKind → Option Sought → List ℕ → Bool
 is_matched kind None key = true
@@ -85,12 +91,22 @@ pub record IsFolded (kind : TrieKind) (c : Choice) : Type 0 where
   pub to : folded_bound kind (bound_map (λ b. b.now) c.range.to) ≡ bound_map (λ b. b.now) c.range.to
   pub word : option_map (λ s. word_by (kind_of kind) s.by s.word.now) c.sought ≡ option_map (λ s. s.word.now) c.sought
 
--- The words of a choice, as the kind compares them.
+-- the upper bound of keys below some bytes, if there are such
+abbrev pub below_some : Option (List ℕ) → Bound (List ℕ)
+below_some None = Unbounded
+below_some (Some bytes) = Excluded bytes
+
+-- the keys that begin with a prefix are below a bound
+abbrev pub AreBelow : (prefix : List ℕ) → Bound (List ℕ) → Type 0
+AreBelow prefix above = (key : List ℕ) → is_some (after_run prefix key) ≡ true → is_up_to_end by_bytes above key ≡ true
+
+-- The words of a choice, as the kind compares them, and bytes above all keys that begin with the prefix.
 pub record AreWordsOf (kind : TrieKind) (c : Choice) (words : FoldedWords) : Type 0 where
   pub prefix : words.prefix.items ≡ folded_key (kind_of kind) c.prefix.now
   pub from : bound_map (λ v. v.items) words.from ≡ folded_bound kind (bound_map (λ b. b.now) c.range.from)
   pub to : bound_map (λ v. v.items) words.to ≡ folded_bound kind (bound_map (λ b. b.now) c.range.to)
   pub word : words.word.items ≡ word_of kind c.sought
+  pub above : AreBelow words.prefix.items (below_some (option_map (λ v. v.items) words.above))
 
 -- A choice has them in place of those of another one.
 pub record HasWords (words : FoldedWords) (c with_words : Choice) : Type 0 where
@@ -149,16 +165,7 @@ abbrev pub begins_left : TrieKind → Option (List ℕ) → List ℕ → Bool
 begins_left kind None key = false
 begins_left kind (Some left) key = begins_with (kind_of kind) left key
 
--- The state of a listing: the key and the value in hand, and the pairs to come.
-pub record Coming : Type 0 where
-  pub key : List ℕ
-  pub value : ℕ
-  pub pairs : Pairs
-
--- the state of a stream with this current pair, of which this is left
-abbrev pub coming : Left → List ℕ × ℕ → Coming
-coming left current = record { key = current.0; value = current.1; pairs = left.pairs }
-
--- how many edits make a key of a word, if a condition holds of the key
-abbrev pub measured_if : (holds : List ℕ → Bool) → (measure : List ℕ → Option ℕ) → List ℕ → Option ℕ
-measured_if holds measure key = if holds key then measure key else None
+-- how many edits an automaton says that make a key of its word, and 0 without one, or if it does not accept as many
+abbrev pub told_by : Option AnyAutomaton → List ℕ → ℕ
+told_by None key = 0
+told_by (Some a) key = unwrap_or (measured_up_to (any_most a) (any_edits_to a key)) 0

@@ -1,5 +1,5 @@
 -- The conditions of a choice but that of its word, as an automaton.
-use Rattle.std.specs.Prelude.{ℕ, List, Bool, false, Option, Some, None, ◌&&◌, ◌||◌, not}
+use Rattle.std.specs.Prelude.{ℕ, List, Bool, true, false, Option, Some, None, ◌&&◌, ◌||◌, not}
 use Rattle.std.specs.Range.Bound.{bound_map, bounds_contain}
 use Rattle.zerotrie_core.specs.Kinds.{kind_of}
 use Rattle.zerotrie_core.specs.Maps.{begins_with}
@@ -22,7 +22,12 @@ abbrev pub some_accepts : {A : Type 0} → (A → List ℕ → Bool) → Option 
 some_accepts accepts None key = false
 some_accepts accepts (Some a) key = accepts a key
 
--- the same from a state
+-- what it accepts, or all without one
+abbrev pub may_keep : {A : Type 0} → (A → List ℕ → Bool) → Option A → List ℕ → Bool
+may_keep accepts None key = true
+may_keep accepts (Some a) key = accepts a key
+
+-- what an automaton accepts from a state, if there is one
 abbrev pub some_accepts_from : {A S : Type 0} → (A → S → List ℕ → Bool) → Option A → Option S → List ℕ → Bool
 some_accepts_from from None state key = false
 some_accepts_from from (Some a) None key = false

@@ -5,6 +5,7 @@ pub mod Printed
 pub mod Chosen
 pub mod Found
 pub mod Kept
+pub mod Pairs
 pub mod Sorted
 pub mod Readings
 pub mod Listed

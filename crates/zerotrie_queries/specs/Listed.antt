@@ -1,6 +1,7 @@
 -- The pairs that a listing has.
 use Rattle.std.specs.Prelude.{◌≡◌, ◌⊎◌, ℕ, ◌-◌, ◌==◌, List, take, Bool, true, false, Option, Some, None, Result, Ok, Err}
 use Rattle.std.specs.Io.KnownBytes.{Appends}
+use Rattle.zerotrie_core.specs.Listings.{Left, over, to_come}
 use Rattle.zerotrie_core.specs.Maps.{Pairs}
 use Rattle.zerotrie_core.specs.Texts.{Lists}
 use Rattle.zerotrie_core.specs.Kinds.{kind_of}
@@ -8,7 +9,7 @@ use Rattle.zerotrie_core.specs.declared.TrieKind.{TrieKind}
 use Rattle.zerotrie_any.specs.Json.{are_text}
 use Rattle.zerotrie_files.specs.Parts.{AppendsPart}
 use Rattle.zerotrie_files.specs.Faults.{IsOutOfMemory}
-use Rattle.zerotrie_queries.specs.Chosen.{Coming, measured}
+use Rattle.zerotrie_queries.specs.Chosen.{measured}
 use Rattle.zerotrie_queries.specs.Json.{IsFirstNoText}
 use Rattle.zerotrie_queries.specs.Printed.{listed, measured_lines}
 use Rattle.zerotrie_queries.specs.Sorted.{picked}
@@ -16,6 +17,7 @@ use Rattle.zerotrie_queries.specs.declared.print.Form.{Form}
 use Rattle.zerotrie_queries.specs.declared.print.Form.TheVariants.{Lines, Json, Count}
 use Rattle.zerotrie_queries.specs.declared.question.Choice.{Choice}
 use Rattle.zerotrie_queries.specs.declared.question.Order.TheVariants.{Nearest}
+use Rattle.zerotrie_queries.specs.declared.question.Selection.{Selection}
 use Rattle.zerotrie_queries.specs.declared.listing.ListError.{ListError}
 use Rattle.zerotrie_queries.specs.declared.listing.ListError.TheVariants.{NotText, Failed}
 
@@ -34,9 +36,18 @@ abbrev pub one_less : Option ℕ → Option ℕ
 one_less None = None
 one_less (Some most) = Some (most - 1)
 
--- the state of a listing, of whose pairs at most this many are to come
-abbrev pub within : Option ℕ → Coming → Coming
-within limit s = record { key = s.key; value = s.value; pairs = limited limit s.pairs }
+-- what is left of a listing, of whose pairs at most this many are to come, or of one that has ended
+abbrev pub first_left : (ended : Bool) → Option ℕ → Left → Left
+first_left true limit left = over
+first_left false limit left = record { pairs = limited limit left.pairs; ended = left.ended }
+
+-- a listing gives what is picked of the pairs that the bytes list
+abbrev pub Gives : {P : Type 0} → (IsValid : P → Type 0) → (left : P → Left) → (pick : Pairs → Pairs) → TrieKind → (bytes : List ℕ) → P → Type 0
+Gives IsValid left pick kind bytes p = (pairs : Pairs) → Lists (kind_of kind) bytes pairs → IsValid p × (left p ≡ to_come (pick pairs))
+
+-- the pairs of a selection
+abbrev pub first_picked : Selection → TrieKind → Pairs → Pairs
+first_picked s kind pairs = limited s.limit (picked s.order kind s.choice pairs)
 
 -- pairs can be printed so: as one JSON value only if each key is UTF-8
 abbrev pub IsPrintable : Form → Pairs → Type 0

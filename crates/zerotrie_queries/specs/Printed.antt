@@ -79,9 +79,10 @@ pair_line JsonLines e = pair_json e ++ 10 ∷ []
 pair_line Keys e = e.0 ++ 10 ∷ []
 pair_line Values e = number_line e.1
 
-abbrev pub pair_lines : Style → Pairs → List ℕ
-pair_lines style [] = []
-pair_lines style (e ∷ pairs) = pair_line style e ++ pair_lines style pairs
+-- the lines of pairs
+abbrev pub lines_of : (line : List ℕ × ℕ → List ℕ) → Pairs → List ℕ
+lines_of line [] = []
+lines_of line (e ∷ pairs) = line e ++ lines_of line pairs
 
 -- the line of a pair and of how many edits make its key of a word
 abbrev pub edits_line : List ℕ × ℕ → (edits : ℕ) → List ℕ
@@ -89,11 +90,10 @@ edits_line e edits = escaped e.0 ++ (9 ∷ (decimal e.1 ++ (9 ∷ number_line ed
 
 -- the lines of pairs, each with the edits that make its key of a word, or 0 if no number does
 abbrev pub measured_lines : (measure : List ℕ → Option ℕ) → Pairs → List ℕ
-measured_lines measure [] = []
-measured_lines measure (e ∷ pairs) = edits_line e (unwrap_or (measure e.0) 0) ++ measured_lines measure pairs
+measured_lines measure = lines_of (λ e. edits_line e (unwrap_or (measure e.0) 0))
 
 -- pairs as they are printed
 abbrev pub listed : Form → Pairs → List ℕ
-listed (Lines style) pairs = pair_lines style pairs
+listed (Lines style) pairs = lines_of (pair_line style) pairs
 listed Json pairs = object_line pairs
 listed Count pairs = number_line (length pairs)

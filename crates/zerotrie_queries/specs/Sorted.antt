@@ -4,7 +4,6 @@ use Rattle.std.proofs.Common.{suc}
 use Rattle.std.specs.FinMap.{entries}
 use Rattle.std.specs.Range.Bound.{bounds_contain}
 use Rattle.std.specs.declared.ops.Bound.{Bound}
-use Rattle.std.specs.declared.ops.Bound.TheVariants.{Excluded, Unbounded}
 use Rattle.zerotrie_core.specs.Maps.{Pairs, map_of}
 use Rattle.zerotrie_core.specs.declared.TrieKind.{TrieKind}
 use Rattle.zerotrie_search.specs.Nearest.{nearest}
@@ -25,8 +24,3 @@ picked Nearest kind c pairs = nearest (measured kind c) (entries (map_of pairs))
 -- each key that is chosen is between two bounds
 abbrev pub AreWithin : TrieKind → Choice → (from to : Bound (List ℕ)) → Type 0
 AreWithin kind choice from to = (key : List ℕ) → is_chosen kind choice key ≡ true → bounds_contain by_bytes from to key ≡ true
-
--- the upper bound of keys below some bytes, if there are such
-abbrev pub below_some : Option (List ℕ) → Bound (List ℕ)
-below_some None = Unbounded
-below_some (Some bytes) = Excluded bytes

@@ -1,31 +1,21 @@
-//! The first pairs of a source.
+//! The first pairs of a listing.
 
-ghost use Rattle.std.specs.Prelude.{◌≡◌, ◌∷◌, [], true, false, IfOk};
-ghost use Rattle.zerotrie_queries.specs.Chosen.{coming};
-ghost use Rattle.zerotrie_queries.specs.Listed.{within, limited, is_spent, one_less};
+ghost use Rattle.std.specs.Prelude.{◌≡◌};
+ghost use Rattle.zerotrie_queries.specs.Listed.{first_left, is_spent, one_less};
 
 use std::alloc::AllocError;
-use std::marker::Model;
-use zerotrie_core::PairStream;
+use zerotrie_search::TrieListing;
 
-/// The pairs of a source, at most as many as are asked for.
+/// The pairs of a listing, at most as many as a limit says.
 #[derive(Drop)]
-pub struct FirstPairs<P: PairStream> {
-    source: P,
-    limit: Option<usize>,
-}
-
-impl<P: PairStream> Model for FirstPairs<P> {
-    ghost use Rattle.zerotrie_queries.specs.Chosen.{Coming, coming};
-    ghost use Rattle.zerotrie_queries.specs.Listed.{within};
-
-    ghost Value = { Coming };
-
-    ghost view = { λ s. within s.limit (coming (P.left s.source) (P.current s.source)) };
+pub(crate) struct FirstPairs<P: TrieListing> {
+    pub(crate) source: P,
+    pub(crate) limit: Option<usize>,
+    pub(crate) ended: bool,
 }
 
 /// Returns whether no pair may come any more.
-pub(crate) fn is_spent(limit: Option<usize>) -> bool
+fn is_spent(limit: Option<usize>) -> bool
     ensures { result ≡ is_spent limit }
 {
     match limit {
@@ -35,7 +25,7 @@ pub(crate) fn is_spent(limit: Option<usize>) -> bool
 }
 
 /// Returns what is left of a limit after one pair.
-pub(crate) fn one_less(limit: Option<usize>) -> Option<usize>
+fn one_less(limit: Option<usize>) -> Option<usize>
     ensures { result ≡ one_less limit }
 {
     match limit {
@@ -44,55 +34,34 @@ pub(crate) fn one_less(limit: Option<usize>) -> Option<usize>
     }
 }
 
-/// Moves a source to the next pair if one more may come, and returns whether there is one.
-fn advance_within<P: PairStream>(
-    source: &mut P,
-    limit: &mut Option<usize>,
-) -> Result<bool, AllocError>
-    ensures some { IfOk result (λ more. more ≡ true
-        → limited limit.old (P.left source.old).pairs
-        ≡ P.current source.new ∷ limited limit.new (P.left source.new).pairs) }
-    ensures none { IfOk result (λ more. more ≡ false
-        → (limited limit.old (P.left source.old).pairs ≡ [])
-        × (limited limit.new (P.left source.new).pairs ≡ [])) }
-{
-    if is_spent(*limit) {
-        return Ok(false);
-    }
-    let more = source.advance()?;
-    *limit = one_less(*limit);
-    Ok(more)
-}
+impl<P: TrieListing> TrieListing for FirstPairs<P> {
+    ghost IsValid = { λ s. P.IsValid s.source };
 
-impl<P: PairStream> FirstPairs<P> {
-    /// Iterates over the pairs of a source. Without a limit, all of them come.
-    pub fn new(source: P, limit: Option<usize>) -> Self
-        ensures { result ≡ within limit (coming (P.left source) (P.current source)) }
-    {
-        FirstPairs { source, limit }
+    ghost left = { λ s. first_left s.ended s.limit (P.left s.source) };
+
+    ghost current = { λ s. P.current s.source };
+
+    ghost most = { λ s. P.most s.source };
+
+    #[tactic(auto, using(crate::proofs::LimitLemmas::first_ok, crate::proofs::LimitLemmas::first_err, crate::proofs::LimitLemmas::first_spent))]
+    fn advance(&mut self) -> Result<bool, AllocError> {
+        if self.ended {
+            return Ok(false);
+        }
+        if is_spent(self.limit) {
+            self.ended = true;
+            return Ok(false);
+        }
+        let more = self.source.advance()?;
+        self.limit = one_less(self.limit);
+        Ok(more)
     }
 
-    /// Moves to the next pair, and returns whether there is one.
-    pub fn advance(&mut self) -> Result<bool, AllocError>
-        ensures some { IfOk result (λ more. more ≡ true
-            → self.old.pairs ≡ (self.new.key, self.new.value) ∷ self.new.pairs) }
-        ensures none { IfOk result (λ more. more ≡ false
-            → (self.old.pairs ≡ []) × (self.new.pairs ≡ [])) }
-    {
-        advance_within(&mut self.source, &mut self.limit)
-    }
-
-    /// Returns the key of the current pair.
-    pub fn key(&self) -> &[u8]
-        ensures { result.now ≡ self.now.key }
-    {
+    fn key(&self) -> &[u8] {
         self.source.key()
     }
 
-    /// Returns the value of the current pair.
-    pub fn value(&self) -> usize
-        ensures { result ≡ self.now.value }
-    {
+    fn value(&self) -> usize {
         self.source.value()
     }
 }

@@ -4,9 +4,11 @@ ghost use Rattle.std.specs.Prelude.{◌≡◌, IfOk};
 ghost use Rattle.std.specs.Range.Bound.{bound_map};
 ghost use Rattle.zerotrie_core.specs.Kinds.{kind_of};
 ghost use Rattle.zerotrie_index.specs.Tries.{folded_key};
-ghost use Rattle.zerotrie_queries.specs.Chosen.{folded_bound, word_of, AreWordsOf, HasWords};
+ghost use Rattle.std.specs.Option.{option_map};
+ghost use Rattle.zerotrie_queries.specs.Chosen.{below_some, folded_bound, word_of, AreWordsOf, HasWords};
 
 use crate::question::{Choice, Sought};
+use crate::sorted::above_prefix;
 use std::alloc::{AllocError, Global};
 use std::ops::Bound;
 use zerotrie_core::TrieKind;
@@ -68,6 +70,7 @@ pub struct FoldedWords {
     from: Bound<Vec<u8>>,
     to: Bound<Vec<u8>>,
     word: Vec<u8>,
+    above: Option<Vec<u8>>,
 }
 
 impl FoldedWords {
@@ -75,12 +78,25 @@ impl FoldedWords {
     pub fn new(alloc: Global, kind: TrieKind, choice: Choice<'_>) -> Result<Self, AllocError>
         ensures { IfOk result (AreWordsOf kind choice.entry) }
     {
+        let prefix = fold(alloc, kind, choice.prefix)?;
+        let above = above_prefix(alloc, prefix.as_slice())?;
         Ok(FoldedWords {
-            prefix: fold(alloc, kind, choice.prefix)?,
+            prefix,
             from: fold_bound(alloc, kind, choice.range.from)?,
             to: fold_bound(alloc, kind, choice.range.to)?,
             word: word_of(alloc, kind, choice.sought)?,
+            above,
         })
+    }
+
+    /// Returns a bound above all keys that begin with the prefix.
+    pub fn above(&self) -> Bound<&[u8]>
+        ensures { bound_map (λ b. b.now) result ≡ below_some (option_map (λ v. v.items) self.now.above) }
+    {
+        match &self.above {
+            Some(bytes) => Bound::Excluded(bytes.as_slice()),
+            None => Bound::Unbounded,
+        }
     }
 
     /// Returns a choice with these words in place of its own.

@@ -195,3 +195,14 @@ pub enum Order {
     /// If keys are not sought by edits, that of bytes.
     Nearest,
 }
+
+/// Which pairs are listed, and in which order.
+#[derive(Clone, Copy, Debug)]
+pub struct Selection<'a> {
+    /// Their keys.
+    pub choice: Choice<'a>,
+    /// Their order.
+    pub order: Order,
+    /// At most how many of them, the first ones. If `None`, all.
+    pub limit: Option<usize>,
+}

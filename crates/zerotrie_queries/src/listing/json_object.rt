@@ -1,20 +1,19 @@
 //! The pairs of a trie as one JSON object, printed as they come.
 
-ghost use Rattle.std.specs.Prelude.{◌≡◌, ◌++◌, ◌∷◌, [], false, true, OnOk, OnErr, IfOk, IfSome, IfNone, None};
+ghost use Rattle.std.specs.Prelude.{◌≡◌, ◌++◌, ◌∷◌, [], false, true, OnOk, OnErr, IfOk, IfSome, IfNone};
 ghost use Rattle.std.specs.Io.KnownBytes.{Appends};
 ghost use Rattle.zerotrie_any.specs.Json.{are_text};
 ghost use Rattle.zerotrie_queries.specs.Json.{object_line, member_texts, IsFirstNoText};
 ghost use Rattle.zerotrie_files.specs.Faults.{IsNoted};
 ghost use Rattle.zerotrie_files.specs.Parts.{AppendsPart};
 
-use crate::first_pairs::FirstPairs;
 use crate::json_text::{add_comma, add_member};
 use crate::text::is_text;
 use std::alloc::{AllocError, Global};
 use std::io;
 use std::io::Write;
-use zerotrie_core::PairStream;
 use zerotrie_files::Noted;
+use zerotrie_search::TrieListing;
 
 fn copied(alloc: Global, bytes: &[u8]) -> Result<Vec<u8>, AllocError>
     ensures { IfOk result (λ copy. copy.items ≡ bytes.now) }
@@ -25,13 +24,14 @@ fn copied(alloc: Global, bytes: &[u8]) -> Result<Vec<u8>, AllocError>
 }
 
 /// Returns the first of the keys to come that is not UTF-8, if there is one.
-fn first_no_text<P: PairStream>(
+pub(crate) fn first_no_text<P: TrieListing + Drop>(
     alloc: Global,
-    pairs: &mut FirstPairs<P>,
+    mut pairs: P,
 ) -> Result<Option<Vec<u8>>, AllocError>
-    ensures some { IfOk result (λ key.
-        IfSome key (λ k. IsFirstNoText pairs.old.pairs k.items)) }
-    ensures none { IfOk result (λ key. key ≡ None → are_text pairs.old.pairs ≡ true) }
+    ensures some { IfOk result (λ key. IfSome key (λ k. P.IsValid pairs
+        → IsFirstNoText (P.left pairs).pairs k.items)) }
+    ensures none { IfOk result (λ key. IfNone key (P.IsValid pairs
+        → are_text (P.left pairs).pairs ≡ true)) }
 {
     loop {
         if !pairs.advance()? {
@@ -44,15 +44,15 @@ fn first_no_text<P: PairStream>(
 }
 
 /// Writes the pairs to come as members, with commas between.
-fn write_members<P: PairStream, W: Write>(
+fn write_members<P: TrieListing + Drop, W: Write>(
     alloc: Global,
-    pairs: &mut FirstPairs<P>,
+    mut pairs: P,
     output: &mut Noted<W>,
 ) -> io::Result<()>
-    ensures all { OnOk result (Appends (W.contents output.old.inner) (W.contents output.new.inner)
-        (member_texts false pairs.old.pairs)) }
-    ensures part { OnErr result (AppendsPart (W.contents output.old.inner)
-        (W.contents output.new.inner) (member_texts false pairs.old.pairs)) }
+    ensures all { OnOk result (P.IsValid pairs → Appends (W.contents output.old.inner)
+        (W.contents output.new.inner) (member_texts false (P.left pairs).pairs)) }
+    ensures part { OnErr result (P.IsValid pairs → AppendsPart (W.contents output.old.inner)
+        (W.contents output.new.inner) (member_texts false (P.left pairs).pairs)) }
     ensures noted { IsNoted result output.old.failed output.new.failed }
 {
     let mut text = Vec::new(alloc);
@@ -69,46 +69,20 @@ fn write_members<P: PairStream, W: Write>(
     }
 }
 
-/// Writes the pairs to come as an object, and a line feed.
-fn write_object<P: PairStream, W: Write>(
+/// Writes the pairs to come as an object, and a line feed. The keys are UTF-8. It allocates nothing for
+/// a pair alone. If it fails, a beginning of the object was written.
+pub(crate) fn write_object<P: TrieListing + Drop, W: Write>(
     alloc: Global,
-    pairs: &mut FirstPairs<P>,
+    pairs: P,
     output: &mut Noted<W>,
 ) -> io::Result<()>
-    ensures all { OnOk result (Appends (W.contents output.old.inner) (W.contents output.new.inner)
-        (object_line pairs.old.pairs)) }
-    ensures part { OnErr result (AppendsPart (W.contents output.old.inner)
-        (W.contents output.new.inner) (object_line pairs.old.pairs)) }
+    ensures all { OnOk result (P.IsValid pairs → Appends (W.contents output.old.inner)
+        (W.contents output.new.inner) (object_line (P.left pairs).pairs)) }
+    ensures part { OnErr result (P.IsValid pairs → AppendsPart (W.contents output.old.inner)
+        (W.contents output.new.inner) (object_line (P.left pairs).pairs)) }
     ensures noted { IsNoted result output.old.failed output.new.failed }
 {
     output.write_bytes(b"{")?;
     write_members(alloc, pairs, output)?;
     output.write_bytes(b"}\n")
-}
-
-/// Writes pairs as one JSON object, and a line feed. If a key that is seen before is not UTF-8, it
-/// writes nothing, and returns the first such key.
-///
-/// `seen` has the same pairs as `pairs`, for a first look at the keys. It allocates nothing for a
-/// pair alone. If it fails, a beginning of the object was written.
-pub(crate) fn write_json<P: PairStream, W: Write>(
-    alloc: Global,
-    seen: &mut FirstPairs<P>,
-    pairs: &mut FirstPairs<P>,
-    output: &mut Noted<W>,
-) -> io::Result<Option<Vec<u8>>>
-    ensures all { IfOk result (λ key. IfNone key ((are_text seen.old.pairs ≡ true)
-        × Appends (W.contents output.old.inner) (W.contents output.new.inner)
-        (object_line pairs.old.pairs))) }
-    ensures none { IfOk result (λ key. IfSome key (λ k. IsFirstNoText seen.old.pairs k.items
-        × (output.new ≡ output.old))) }
-    ensures part { OnErr result (AppendsPart (W.contents output.old.inner)
-        (W.contents output.new.inner) (object_line pairs.old.pairs)) }
-    ensures noted { IsNoted result output.old.failed output.new.failed }
-{
-    if let Some(key) = first_no_text(alloc, seen)? {
-        return Ok(Some(key));
-    }
-    write_object(alloc, pairs, output)?;
-    Ok(None)
 }

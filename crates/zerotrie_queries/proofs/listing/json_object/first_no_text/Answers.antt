@@ -1,24 +1,34 @@
-use Rattle.std.proofs.Common.{rules, ◌≡◌, ◌∷◌, ◌∙◌, true, false}
+use Rattle.std.proofs.Common.{rules, ◌≡◌, ◌∷◌, ◌∙◌, true, false, subst, sym}
 use Rattle.std.specs.Str.{is_utf8}
+use Rattle.zerotrie_queries.specs.Json.{IsFirstNoText}
 use Rattle.zerotrie_queries.proofs.JsonLemmas.{text_more, no_text_more, no_text_here}
+use Rattle.zerotrie_queries.proofs.LimitLemmas.{next_pair}
 use Rattle.zerotrie_queries.proofs.listing.json_object.first_no_text.Goals as goal
 
 pub loop-pairs-preserved : goal.loop-pairs-preserved
 loop-pairs-preserved g c =
-    let before = c.loop-pairs.pairs in
-    let after = c.advance.new.self in
-    let first : before.pairs ≡ (after.key, after.value) ∷ after.pairs = search rules in
-    let is : is_utf8 after.key ≡ true = search rules in
+    let before = g.P.TrieListing.left c.loop-pairs.pairs in
+    let after = g.P.TrieListing.left c.advance.new.self in
+    let now = g.P.TrieListing.current c.advance.new.self in
+    let more : c.in_ok-advance.field-0 ≡ true = search rules in
+    let is : is_utf8 now.0 ≡ true = search rules in
+    let first : g.P.TrieListing.IsValid c.args.pairs → before.pairs ≡ now ∷ after.pairs
+    = λ valid. next_pair before after now c.in_ok-advance.field-0 more (c.in_ok-advance.ensures.lists (c.loop-pairs.invariant.valid valid)) in
     record {
-      some = λ key h. c.loop-pairs.invariant.some key (no_text_more before.pairs after.pairs after.key after.value key first is h);
-      none = text_more before.pairs after.pairs after.key after.value first is ∙ c.loop-pairs.invariant.none;
+      valid = λ valid. c.advance.ensures.valid (c.loop-pairs.invariant.valid valid);
+      some = λ valid key h. c.loop-pairs.invariant.some valid key (no_text_more before.pairs after.pairs now.0 now.1 key (first valid) is h);
+      none = λ valid. text_more before.pairs after.pairs now.0 now.1 (first valid) is ∙ c.loop-pairs.invariant.none valid;
     }
 
 pub returns-then-not-is_text-clause-some : goal.returns-then-not-is_text-clause-some
 returns-then-not-is_text-clause-some g c =
-    let before = c.loop-pairs.pairs in
-    let after = c.advance.new.self in
-    let first : before.pairs ≡ (after.key, after.value) ∷ after.pairs = search rules in
-    let no : is_utf8 after.key ≡ false = search rules in
-    let found = c.loop-pairs.invariant.some after.key (no_text_here before.pairs after.pairs after.key after.value first no) in
-    search (rules, found)
+    let before = g.P.TrieListing.left c.loop-pairs.pairs in
+    let after = g.P.TrieListing.left c.advance.new.self in
+    let now = g.P.TrieListing.current c.advance.new.self in
+    let more : c.in_ok-advance.field-0 ≡ true = search rules in
+    let no : is_utf8 now.0 ≡ false = search rules in
+    let same : c.in_ok-copied.field-0.items ≡ now.0 = search rules in
+    λ valid.
+    let first = next_pair before after now c.in_ok-advance.field-0 more (c.in_ok-advance.ensures.lists (c.loop-pairs.invariant.valid valid)) in
+    subst (IsFirstNoText (g.P.TrieListing.left c.args.pairs).pairs) (sym same)
+    (c.loop-pairs.invariant.some valid now.0 (no_text_here before.pairs after.pairs now.0 now.1 first no))
