@@ -1,5 +1,5 @@
 -- A question that was answered, and the flush after it.
-use Rattle.std.proofs.Common.{◌≡◌, ◌⊎◌, ℕ, List, Option, Bool, true, false, IsTrue, refl, sym, subst, inl, inr}
+use Rattle.std.proofs.Common.{◌≡◌, ◌⊎◌, ◌∙◌, ℕ, List, Option, Some, Bool, true, false, IsTrue, refl, sym, subst, inl, inr}
 use Rattle.std.specs.Io.KnownBytes.{Keeps}
 use Rattle.std.proofs.KnownBytes.{Appends-kept, Keeps-trans}
 use Rattle.zerotrie_core.specs.Kinds.{kind_of}
@@ -23,7 +23,7 @@ use Rattle.zerotrie_files.specs.Faults.{Watched}
 use Rattle.zerotrie_queries.specs.declared.file.OpenError.TheVariants.{BadTag, Damaged, NotWellFormed, OutOfMemory}
 use Rattle.zerotrie_queries.specs.Finders.{Dictionary, KindFinds, TrieFinds, IndexFinds}
 use Rattle.zerotrie_run.specs.Runs.Content.{of_trie, of_index, in_blocks}
-use Rattle.zerotrie_run.specs.Runs.{Answers, AnswersInPart, Content, ContentAnswers, ContentAnswersInPart, IndexAnswers, IndexAnswersInPart, AreKeys, KeysAnswered, KeysAnsweredInPart, IsNoAnswer, IsRead, IsUnanswered, AreLines, HasNoKeys, HasNoLines, Opens, EndsAsk, ask_refusal, are_lines, of_lines, IsUnasked}
+use Rattle.zerotrie_run.specs.Runs.{Answers, AnswersInPart, Content, ContentAnswers, ContentAnswersInPart, IndexAnswers, IndexAnswersInPart, AreKeys, KeysAnswered, KeysAnsweredInPart, IsNoAnswer, IsRead, IsUnanswered, AreLines, HasNoKeys, HasNoLines, Opens, EndsAsk, ask_refusal, are_lines, of_lines, IsUnasked, LeavesKeys, LeavesInputOf}
 use Rattle.zerotrie_run.specs.Told.{HasReason}
 use Rattle.zerotrie_run.specs.declared.ask.AskError.{AskError}
 use Rattle.zerotrie_run.specs.declared.ask.AskError.TheVariants.{TwoInputs, Unread, NoTrie, NotText, Unanswered}
@@ -33,6 +33,7 @@ use Rattle.zerotrie_run.specs.declared.stdin_lines.AnswerError.TheVariants.{Inpu
 use Rattle.zerotrie_run.specs.declared.command.TrieFile.{TrieFile}
 use Rattle.zerotrie_run.specs.declared.command.Place.{Place}
 use Rattle.zerotrie_run.specs.declared.command.Place.TheVariants.{Stream}
+use Rattle.zerotrie_run.specs.declared.status.Status.TheVariants.{BadUsage}
 use Rattle.zerotrie_run.specs.declared.command.Keys.{Keys}
 use Rattle.zerotrie_run.specs.declared.command.Keys.TheVariants.{Words, Lines}
 use Rattle.zerotrie_run.specs.declared.command.Question.{Question}
@@ -114,13 +115,13 @@ keys_in_part : (of : Query) (keys : Keys) (input : Option (List ℕ)) (Has : Dic
 keys_in_part of keys input Has a b all h = (h.0, h.1.0, begun_all of Has h.0 a b all h.2)
 
 -- what is answered of more dictionaries is answered of these
-pub keys_of_more : (of : Query) (keys : Keys) (input : Option (List ℕ)) (Has Some : Dictionary → Type 0) (a b : Option (List ℕ)) (all : Bool) → ((d : Dictionary) → Some d → Has d)
-    → KeysAnswered of keys input Has a b all → KeysAnswered of keys input Some a b all
-keys_of_more of keys input Has Some a b all is h = (h.0, h.1, λ d some. h.2 d (is d some))
+pub keys_of_more : (of : Query) (keys : Keys) (input : Option (List ℕ)) (Has More : Dictionary → Type 0) (a b : Option (List ℕ)) (all : Bool) → ((d : Dictionary) → More d → Has d)
+    → KeysAnswered of keys input Has a b all → KeysAnswered of keys input More a b all
+keys_of_more of keys input Has More a b all is h = (h.0, h.1, λ d some. h.2 d (is d some))
 
-pub part_of_more : (of : Query) (keys : Keys) (input : Option (List ℕ)) (Has Some : Dictionary → Type 0) (a b : Option (List ℕ)) → ((d : Dictionary) → Some d → Has d)
-    → KeysAnsweredInPart of keys input Has a b → KeysAnsweredInPart of keys input Some a b
-part_of_more of keys input Has Some a b is h = (h.0, h.1, λ d some. h.2 d (is d some))
+pub part_of_more : (of : Query) (keys : Keys) (input : Option (List ℕ)) (Has More : Dictionary → Type 0) (a b : Option (List ℕ)) → ((d : Dictionary) → More d → Has d)
+    → KeysAnsweredInPart of keys input Has a b → KeysAnsweredInPart of keys input More a b
+part_of_more of keys input Has More a b is h = (h.0, h.1, λ d some. h.2 d (is d some))
 
 -- a table of a trie finds what the trie does
 pub by_table : (kind : TrieKind) (bytes : List ℕ) (asked : Asked) (t : Reversed) → t.kind ≡ kind_of kind → t.bytes ≡ bytes → asked ≡ KeyOf → (d : Dictionary) → TrieFinds kind bytes d → (asked ≡ KeyOf) × KindFinds t.kind t.bytes d
@@ -248,3 +249,23 @@ unanswered_of file q input held old new kind bytes (Unread e) opens h = h
 unanswered_of file q input held old new kind bytes (NoTrie why t) opens h = absurd h
 unanswered_of file q input held old new kind bytes (NotText key) opens h = (kind, bytes, opens, h.0, h.1)
 unanswered_of file q input held old new kind bytes (Unanswered e) opens h = (of_trie kind bytes, opens, h.0, h.1)
+
+-- a question that is asked is not refused for its words
+pub not_misused : (file : TrieFile) (q : Question) (input : Option (List ℕ)) (held : List ℕ) (a b : Option (List ℕ)) (e : AskError) → IsUnanswered file q input held a b e → ask_refusal e ≡ Some BadUsage → ⊥
+not_misused file q input held a b TwoInputs h is = h
+not_misused file q input held a b (Unread e) h is = h
+not_misused file q input held a b (NoTrie (BadTag why) hint) h is = cc is
+not_misused file q input held a b (NoTrie (Damaged why) hint) h is = cc is
+not_misused file q input held a b (NoTrie (NotWellFormed kind fault) hint) h is = cc is
+not_misused file q input held a b (NoTrie OutOfMemory hint) h is = cc is
+not_misused file q input held a b (NotText key) h is = cc is
+not_misused file q input held a b (Unanswered (Input e)) h is = cc is
+not_misused file q input held a b (Unanswered (NoLines other)) h is = cc is
+not_misused file q input held a b (Unanswered (Output e)) h is = cc is
+
+-- standard input is left alone if neither the read of the file nor the answer reads it
+pub left_alone : {A : Type 0} (file : TrieFile) (q : Question) (first read last : A) (e : AskError) → (ask_refusal e ≡ Some BadUsage → ⊥) → (file.place ≡ Stream) ⊎ (read ≡ first)
+    → (LeavesKeys q (ask_refusal e) → last ≡ read) → LeavesInputOf file q (ask_refusal e) → last ≡ first
+left_alone file q first read last e fine untouched unread (inl misused) = absurd (fine misused)
+left_alone file q first read last e fine (inl stream) unread (inr leaves) = absurd (leaves.0 stream)
+left_alone file q first read last e fine (inr same) unread (inr leaves) = unread leaves.1 ∙ same

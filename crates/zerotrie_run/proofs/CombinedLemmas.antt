@@ -1,5 +1,5 @@
 -- A file that is made of others: what was read of them, how the command ends, and why.
-use Rattle.std.proofs.Common.{◌≡◌, ◌<◌, ◌+◌, ◌++◌, ◌∙◌, ◌∷◌, [], ℕ, zero, suc, List, Option, Some, None, Bool, Vec, Global, All, map, length, take, get_or, refl, sym, ap, subst, arith, inl, inr}
+use Rattle.std.proofs.Common.{◌≡◌, ◌<◌, ◌+◌, ◌++◌, ◌∙◌, ◌∷◌, [], ℕ, zero, suc, List, Option, Some, None, Bool, false, Vec, Global, All, map, length, take, get_or, refl, sym, ap, subst, arith, inl, inr}
 use Rattle.std.specs.Prelude.{Any, option_map}
 use Rattle.std.specs.List.{AllZip, slice_get}
 use Rattle.std.proofs.Math.Seq.{take-suc}
@@ -16,14 +16,16 @@ use Rattle.zerotrie_making.specs.declared.error.CombinationError.TheVariants as 
 use Rattle.zerotrie_making.specs.declared.error.MakeError.{MakeError}
 use Rattle.zerotrie_making.specs.declared.error.MakeError.TheVariants as made
 use Rattle.zerotrie_making.specs.declared.plan.Made.{Made}
-use Rattle.zerotrie_run.specs.Runs.{world, HasNoTrie, IsRead, OpensBy}
-use Rattle.zerotrie_run.specs.Combined.{AreRead, AreUnopened, EndsCombine, HasCombineCause, HasMap, HasNoTrieAt, IsMadeSo, IsNumbered, IsUncombined, IsUnopenedAt, OfHeld, are_several, combine_refusal, file_of}
+use Rattle.zerotrie_run.specs.Runs.{world, HasNoTrie, IsRead, IsRefusedUnread, OpensBy}
+use Rattle.zerotrie_run.specs.declared.front.Hint.{Hint}
+use Rattle.zerotrie_run.specs.Combined.{AreRead, AreUnopened, EndsCombine, HasCombineCause, HasMap, HasNoTrieAt, IsMadeSo, IsNumbered, IsRefusedIn, IsUncombined, IsUnopenedAt, OfHeld, are_several, combine_refusal, file_of}
 use Rattle.zerotrie_run.specs.declared.build.BuildError.TheVariants as build
 use Rattle.zerotrie_run.specs.declared.combine.CombineError.{CombineError}
 use Rattle.zerotrie_run.specs.declared.combine.CombineError.TheVariants.{Unopened, NoTrie, NoValue, NotBuilt}
 use Rattle.zerotrie_run.specs.declared.command.Check.TheVariants.{Full}
 use Rattle.zerotrie_run.specs.declared.command.Combine.{Combine}
 use Rattle.zerotrie_run.specs.declared.command.Place.{Place}
+use Rattle.zerotrie_run.proofs.FrontLemmas.{unknown_by}
 
 -- ---- two lists of which a relation holds place by place
 
@@ -188,11 +190,35 @@ made_ends c i files left printed held _ read same h (index_refused why) = (combi
 made_ends c i files left printed held _ read same h memory = inl (refl, same)
 
 -- one of the files has no trie
-one_has_none : (c : Combine) (i : Option (List ℕ)) (files : Option Story) (held : List (List ℕ)) (number : ℕ) (why : OpenError) (t : Bool) → AreRead c.from.now i files held → HasNoTrieAt held number why t
+one_has_none : (c : Combine) (i : Option (List ℕ)) (files : Option Story) (held : List (List ℕ)) (number : ℕ) (why : OpenError) (t : Hint) → AreRead c.from.now i files held → HasNoTrieAt held number why t
     → Any (λ place. HasNoTrie (file_of place) i files) c.from.now
 one_has_none c i files held number why t read h =
     let at = zip_at (λ place b. IsRead place i files b) c.from.now held number h.0 read h.1 in
     any_of (λ place. HasNoTrie (file_of place) i files) c.from.now number at.0 at.1 (h.0, at.2, why, h.2)
+
+-- one of the files is refused by its front
+number_is : (places : List Place) (i : ℕ) (d : Place) → i < length places → IsNumbered places i (get_or places i d)
+number_is [] i d inside = absurd (omega (arith, inside))
+number_is (p ∷ places) zero d inside = refl
+number_is (p ∷ places) (suc i) d inside = number_is places i d (omega (arith, inside))
+
+pub refused_at : (places : List Place) (number : ℕ) (d : Place) (files : Option Story) (why : OpenError) (hint : Hint) → number < length places
+    → IsRefusedUnread (file_of (get_or places number d)) false files why hint → IsRefusedIn places files number why hint
+refused_at places number d files why hint inside h = (get_or places number d, number_is places number d inside, h)
+
+-- a file is refused by its front, and so the command ends, for this reason
+pub refused_ends : (c : Combine) (i : Option (List ℕ)) (files : Option Story) (printed : Option (List ℕ)) (number : ℕ) (why : OpenError) (hint : Hint) → IsRefusedIn c.from.now files number why hint
+    → EndsCombine c i (world files printed) (world files printed) (combine_refusal (NoTrie number why hint))
+refused_ends c i files printed number (unopened.BadTag why) t h =
+    let r = h.2 i in (any_of (λ place. HasNoTrie (file_of place) i files) c.from.now number h.0 h.1 (r.0, r.1, unopened.BadTag why, r.2.0), (refl, refl))
+refused_ends c i files printed number (unopened.Damaged why) t h =
+    let r = h.2 i in (any_of (λ place. HasNoTrie (file_of place) i files) c.from.now number h.0 h.1 (r.0, r.1, unopened.Damaged why, r.2.0), (refl, refl))
+refused_ends c i files printed number (unopened.NotWellFormed k f) t h = absurd (h.2 i).2.0
+refused_ends c i files printed number unopened.OutOfMemory t h = inl (refl, refl)
+
+pub refused_cause : (c : Combine) (i : Option (List ℕ)) (files : Option Story) (number : ℕ) (why : OpenError) (hint : Hint) → IsRefusedIn c.from.now files number why hint
+    → HasCombineCause c i files (NoTrie number why hint)
+refused_cause c i files number why t h = let r = h.2 i in (h.0, h.1, r.0, r.1, unknown_by (file_of h.0).check None r.0 why r.2.0, r.3)
 
 -- nothing is made of what was read, and so the command ends
 pub uncombined_ends : (c : Combine) (i : Option (List ℕ)) (files left : Option Story) (printed : Option (List ℕ)) (held : List (List ℕ)) (e : CombineError) → AreRead c.from.now i files held → left ≡ files

@@ -15,7 +15,8 @@ use Rattle.zerotrie_making.specs.declared.plan.Made.{Made}
 use Rattle.zerotrie_sets.specs.declared.selection.RuleError.{RuleError}
 use Rattle.zerotrie_run.specs.Commands.{may_tell}
 use Rattle.zerotrie_run.specs.Statuses.{failure}
-use Rattle.zerotrie_run.specs.Messages.{IsLineOn, Says, TellsBuild, TellsCombine, TellsNoTrie, TellsUnmade, source_name, target_name, told_key, value_words}
+use Rattle.zerotrie_run.specs.Messages.{IsLineOn, Says, TellsBuild, TellsCombine, TellsUnmade, source_name, target_name, told_key, value_words}
+use Rattle.zerotrie_run.specs.declared.front.Hint.{Hint}
 use Rattle.zerotrie_run.specs.Combined.{HasCombineCause, IsNumbered, OfFiles, combine_refusal, file_of, unmade_refusal}
 use Rattle.zerotrie_run.specs.Told.{TellsMore, TellsUnopened, IsPlaceOf, IsTold, ended, has_kind, is_told, last_text, told_kind, told_made}
 use Rattle.zerotrie_run.specs.declared.status.Status.{Status}
@@ -54,11 +55,11 @@ file_place : (o : Combine) (number : ℕ) (place : Place) → IsNumbered o.from.
 file_place o number place is = inl (file_there (λ other. source_name place ≡ source_name other) o.from.now number place is refl)
 
 -- a line tells that one of the files has no trie
-unopened_told : (o : Combine) (input : Option (List ℕ)) (files : Option Story) (a b c : Option (List ℕ)) (text : List ℕ) (number : ℕ) (why : OpenError) (t : Bool) → HasCombineCause o input files (NoTrie number why t)
+unopened_told : (o : Combine) (input : Option (List ℕ)) (files : Option Story) (a b c : Option (List ℕ)) (text : List ℕ) (number : ℕ) (why : OpenError) (t : Hint) → HasCombineCause o input files (NoTrie number why t)
     → TellsCombine o (NoTrie number why t) text → TellsMore a b → Appends b c text → Any (λ place. TellsUnopened (IsUnopened (file_of place)) (file_of place) input files a c) o.from.now
 unopened_told o input files a b c text number why t cause tells more h =
     file_there (λ place. TellsUnopened (IsUnopened (file_of place)) (file_of place) input files a c) o.from.now number cause.0 cause.1
-    (cause.2, cause.3, why, cause.4, text, tells.0 cause.0 cause.1, subst (λ t. TellsNoTrie why t text) cause.5 tells.1, told_last a b c text more h)
+    (cause.2, cause.3, why, cause.4, t, cause.5, text, tells.0 cause.0 cause.1, tells.1, told_last a b c text more h)
 
 text_told : (o : Combine) (input : Option (List ℕ)) (files : Option Story) (a b c : Option (List ℕ)) (text : List ℕ) (read write closed : Bool) (e : CombineError) → HasCombineCause o input files e → TellsCombine o e text
     → TellsMore a b → Appends b c text → IsTold (commands.Combine o) input files a c (unwrap_or (combine_refusal e) (failure read write closed))

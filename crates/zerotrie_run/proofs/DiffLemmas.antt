@@ -13,11 +13,12 @@ use Rattle.zerotrie_queries.specs.declared.file.OpenError.TheVariants.{BadTag, D
 use Rattle.zerotrie_queries.specs.declared.file.OpenError.TheVariants as unopened
 use Rattle.zerotrie_queries.specs.declared.reports.ReportForm.TheVariants.{Lines}
 use Rattle.zerotrie_queries.proofs.PartLemmas.{part_all}
-use Rattle.zerotrie_run.specs.Runs.{HasNumberToo, IsDoubtful, IsRead, ask_refusal, IsUnasked, IsUnopened}
+use Rattle.zerotrie_run.specs.Runs.{HasNumberToo, IsDoubtful, IsRead, IsRefusedUnread, ask_refusal, IsUnasked, IsUnopened}
 use Rattle.zerotrie_run.specs.Statuses.{failure}
 use Rattle.zerotrie_run.specs.Messages.{source_name}
 use Rattle.zerotrie_run.specs.Told.{HasReason, HasDiffReason, IsPlaceOf, IsTold, TellsMore, ended}
 use Rattle.zerotrie_run.specs.Diffs.{old_file, new_file, IsFileOf, IsDiffed, IsDiffedInPart, FailsDiff, RunsDiff, EndsDiff, HasNoTrieIn, IsEitherDoubtful, IsUnanswered, NotesNumbers, TellsIfDoubtful, AreHeldCompared, AreHeldComparedInPart, AreUncompared}
+use Rattle.zerotrie_run.specs.declared.front.Hint.{Hint}
 use Rattle.zerotrie_run.specs.declared.ask.AskError.{AskError}
 use Rattle.zerotrie_run.specs.declared.ask.AskError.TheVariants as ask
 use Rattle.zerotrie_run.specs.declared.stdin_lines.AnswerError.TheVariants as answer
@@ -31,6 +32,7 @@ use Rattle.zerotrie_run.specs.declared.command.Question.TheVariants.{Report, Ver
 use Rattle.zerotrie_run.specs.declared.command.TrieFile.{TrieFile}
 use Rattle.zerotrie_run.specs.declared.status.Status.{Status}
 use Rattle.zerotrie_run.specs.declared.status.Status.TheVariants.{Done, Absent, Refused, Taken, BadUsage, BadInput, BadKeys, Unread, Unwritten, OutOfMemory, Closed}
+use Rattle.zerotrie_run.proofs.FrontLemmas.{unknown_by}
 
 -- a flush leaves what was told of two files
 pub kept_compared : (diff : Diff) (held other : List ℕ) (a b c : Option (List ℕ)) (same : Bool) → AreHeldCompared diff held other a b same → Keeps b c → AreHeldCompared diff held other a c same
@@ -103,6 +105,18 @@ ends_unopened diff file input files held a b (ask.NoTrie (NotWellFormed k f) t) 
 ends_unopened diff file input files held a b (ask.NoTrie unopened.OutOfMemory t) of r h same = inl same
 ends_unopened diff file input files held a b (ask.NotText key) of r h same = absurd h
 ends_unopened diff file input files held a b (ask.Unanswered e) of r h same = absurd h
+
+-- a file is refused by its front, and so the comparison ends, for this reason
+pub ends_refused : (diff : Diff) (file : TrieFile) (input : Option (List ℕ)) (files : Option Story) (a : Option (List ℕ)) (why : OpenError) (hint : Hint) → IsFileOf diff file
+    → IsRefusedUnread file false files why hint → EndsDiff diff input files a a (ask_refusal (ask.NoTrie why hint))
+ends_refused diff file input files a (BadTag why) t of h = let r = h input in ((file, of, (r.0, r.1, BadTag why, unknown_by file.check file.bare r.0 (BadTag why) r.2.0)), refl)
+ends_refused diff file input files a (Damaged why) t of h = let r = h input in ((file, of, (r.0, r.1, Damaged why, unknown_by file.check file.bare r.0 (Damaged why) r.2.0)), refl)
+ends_refused diff file input files a (NotWellFormed k f) t of h = absurd (h input).2.0
+ends_refused diff file input files a unopened.OutOfMemory t of h = inl refl
+
+pub reason_refused : (file : TrieFile) (input : Option (List ℕ)) (files : Option Story) (why : OpenError) (hint : Hint) → IsRefusedUnread file false files why hint
+    → HasReason (IsUnopened file) file Verify input files (ask.NoTrie why hint)
+reason_refused file input files why hint h = let r = h input in (r.0, r.1, unknown_by file.check file.bare r.0 why r.2.0, r.3)
 
 -- a beginning was printed, and so it ends
 ends_begun : (diff : Diff) (input : Option (List ℕ)) (files : Option Story) (a b : Option (List ℕ)) (e : AskError) → IsUnanswered e → IsDiffedInPart diff input files a b → EndsDiff diff input files a b (ask_refusal e)
@@ -209,7 +223,7 @@ told_of diff file i files a b Absent of h = h
 told_of diff file i files a b Refused of h = absurd h.1.shows
 told_of diff file i files a b Taken of h = h
 told_of diff file i files a b BadUsage of h = h
-told_of diff file i files a b BadInput of h = (file, of, (h.0, h.1, h.2, no_index_asked file h.0 h.2 h.3, h.4, h.5, h.6, h.7))
+told_of diff file i files a b BadInput of h = (file, of, (h.0, h.1, h.2, no_index_asked file h.0 h.2 h.3, h.4, h.5, h.6, h.7, h.8, h.9))
 told_of diff file i files a b BadKeys of h = absurd h.1
 told_of diff file i files a b Unread of h = (h.0, place_in diff file h.0 of h.1, h.2)
 told_of diff file i files a b Unwritten of h = (h.0, place_in diff file h.0 of h.1, h.2)

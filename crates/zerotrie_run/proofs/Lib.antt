@@ -1,4 +1,6 @@
 mod AskLemmas
+mod FrontLemmas
+mod FoundLemmas
 mod AtPlacesLemmas
 mod LineLemmas
 mod MadeLemmas

@@ -1,5 +1,5 @@
 -- What is told last of a run.
-use Rattle.std.proofs.Common.{◌≡◌, ◌⊎◌, ℕ, List, Option, Some, None, Bool, true, false, Result, Ok, Err, IfOk, Vec, Global, codes, refl, subst, inl, inr}
+use Rattle.std.proofs.Common.{◌≡◌, ◌⊎◌, ℕ, List, Option, Some, None, Bool, true, false, Result, Ok, Err, IfOk, Vec, Global, codes, refl, inl, inr}
 use Rattle.std.specs.Prelude.{◌||◌}
 use Rattle.std.specs.Prelude.{unwrap_or}
 use Rattle.std.specs.Io.KnownBytes.{Appends}
@@ -9,7 +9,7 @@ use Rattle.zerotrie_files.specs.Disks.{Story}
 use Rattle.zerotrie_queries.specs.declared.file.OpenError.TheVariants as unopened
 use Rattle.zerotrie_making.specs.declared.error.MakeError.TheVariants as made
 use Rattle.zerotrie_run.specs.Statuses.{failure}
-use Rattle.zerotrie_run.specs.Messages.{IsLineOn, TellsAsk, TellsBuild, TellsNoTrie, source_name, target_name, unit_of}
+use Rattle.zerotrie_run.specs.Messages.{IsLineOn, TellsAsk, TellsBuild, source_name, target_name, unit_of}
 use Rattle.zerotrie_run.specs.Runs.{RunsAsk, EndsAsk, FailsAsk, LeavesInputOf, ask_refusal, build_refusal, IsUnasked}
 use Rattle.zerotrie_run.specs.Told.{TellsMore, ToldLast, LineTold, IsPlaceOf, HasReason, HasCause, IsTold, ended, last_text}
 use Rattle.zerotrie_run.specs.declared.status.Status.{Status}
@@ -79,9 +79,9 @@ ask_text_told : (file : TrieFile) (q : Question) (input : Option (List ℕ)) (fi
 ask_text_told file q input files a b c text read write closed ask.TwoInputs cause tells more h = (text, tells, told_last a b c text more h)
 ask_text_told file q input files a b c text read write closed (ask.Unread e) cause tells more h = failure_told (commands.Ask file q) input files a b c text (source_name file.place) read write closed (inl refl) tells more h
 ask_text_told file q input files a b c text read write closed (ask.NoTrie (unopened.BadTag why) t) cause tells more h =
-    (cause.0, cause.1, unopened.BadTag why, cause.2, text, tells.0, subst (λ t. TellsNoTrie (unopened.BadTag why) t text) cause.3 tells.1, told_last a b c text more h)
-ask_text_told file q input files a b c text read write closed (ask.NoTrie (unopened.Damaged why) t) cause tells more h = (cause.0, cause.1, unopened.Damaged why, cause.2, text, tells.0, tells.1, told_last a b c text more h)
-ask_text_told file q input files a b c text read write closed (ask.NoTrie (unopened.NotWellFormed k f) t) cause tells more h = (cause.0, cause.1, unopened.NotWellFormed k f, cause.2, text, tells.0, tells.1, told_last a b c text more h)
+    (cause.0, cause.1, unopened.BadTag why, cause.2, t, cause.3, text, tells.0, tells.1, told_last a b c text more h)
+ask_text_told file q input files a b c text read write closed (ask.NoTrie (unopened.Damaged why) t) cause tells more h = (cause.0, cause.1, unopened.Damaged why, cause.2, t, cause.3, text, tells.0, tells.1, told_last a b c text more h)
+ask_text_told file q input files a b c text read write closed (ask.NoTrie (unopened.NotWellFormed k f) t) cause tells more h = (cause.0, cause.1, unopened.NotWellFormed k f, cause.2, t, cause.3, text, tells.0, tells.1, told_last a b c text more h)
 ask_text_told file q input files a b c text read write closed (ask.NoTrie unopened.OutOfMemory t) cause tells more h = failure_told (commands.Ask file q) input files a b c text (source_name file.place) read write closed (inl refl) tells.0 more h
 ask_text_told file q input files a b c text read write closed (ask.Unanswered (answer.Input e)) cause tells more h =
     failure_told (commands.Ask file q) input files a b c text (codes "standard input") read write closed (inr (inl refl)) tells more h

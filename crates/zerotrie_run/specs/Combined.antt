@@ -6,7 +6,8 @@ use Rattle.zerotrie_core.specs.Texts.{Means}
 use Rattle.zerotrie_core.specs.declared.TrieKind.{TrieKind}
 use Rattle.zerotrie_files.specs.Disks.{Story}
 use Rattle.zerotrie_queries.specs.Files.{Holds}
-use Rattle.zerotrie_queries.specs.Texts.{looks_like_text}
+use Rattle.zerotrie_run.specs.Fronts.{IsHint}
+use Rattle.zerotrie_run.specs.declared.front.Hint.{Hint}
 use Rattle.zerotrie_queries.specs.declared.file.OpenError.{OpenError}
 use Rattle.zerotrie_queries.specs.declared.file.OpenError.TheVariants as unopened
 use Rattle.zerotrie_making.specs.Combinations.{Meant, IsMadeOfMaps, ExplainsMaps, kind_kept}
@@ -14,7 +15,7 @@ use Rattle.zerotrie_making.specs.declared.error.CombinationError.{CombinationErr
 use Rattle.zerotrie_making.specs.declared.error.CombinationError.TheVariants as combination
 use Rattle.zerotrie_making.specs.declared.error.MakeError.TheVariants as made
 use Rattle.zerotrie_making.specs.declared.plan.Made.{Made}
-use Rattle.zerotrie_run.specs.Runs.{World, HaveTwoStreams, IsFreshAt, IsKept, IsRead, IsSparedAt, IsThere, IsUnopened, IsUnopenedBy, IsWritten, HasNoTrie, Untouched, build_refusal}
+use Rattle.zerotrie_run.specs.Runs.{World, HaveTwoStreams, IsFreshAt, IsKept, IsRead, IsRefusedUnread, IsSparedAt, IsThere, IsUnopened, IsUnopenedBy, IsWritten, HasNoTrie, Untouched, build_refusal}
 use Rattle.zerotrie_run.specs.Statuses.{made_refusal}
 use Rattle.zerotrie_run.specs.declared.build.BuildError.{BuildError}
 use Rattle.zerotrie_run.specs.declared.build.BuildError.TheVariants as build
@@ -112,7 +113,7 @@ unopened_refusal unopened.OutOfMemory = None
 -- how a run ends if it is refused; none if something failed
 abbrev pub combine_refusal : CombineError → Option Status
 combine_refusal (Unopened number e) = None
-combine_refusal (NoTrie number why is_text) = unopened_refusal why
+combine_refusal (NoTrie number why hint) = unopened_refusal why
 combine_refusal (NoValue why key) = Some Refused
 combine_refusal (NotBuilt e) = build_refusal e
 
@@ -132,32 +133,36 @@ IsNoMemory e = e ≡ build.NotMade made.OutOfMemory
 -- why files are not read: one of them can't be
 abbrev pub IsUnread : List Place → CombineError → Type 0
 IsUnread places (Unopened number e) = (place : Place) × IsNumbered places number place
-IsUnread places (NoTrie number why is_text) = ⊥
+IsUnread places (NoTrie number why hint) = ⊥
 IsUnread places (NoValue why key) = ⊥
 IsUnread places (NotBuilt e) = IsNoMemory e
+
+-- the file with this number is refused by its front: all of it has no trie
+abbrev pub IsRefusedIn : List Place → Option Story → ℕ → OpenError → Hint → Type 0
+IsRefusedIn places files number why hint = (place : Place) × IsNumbered places number place × IsRefusedUnread (file_of place) false files why hint
 
 -- the file with this number holds these bytes, which are no trie
 abbrev pub IsUnopenedAt : ℕ → List ℕ → CombineError → Type 0
 IsUnopenedAt number held (Unopened other e) = ⊥
-IsUnopenedAt number held (NoTrie other why is_text) = (other ≡ number) × IsUnopenedBy Full None held why × (is_text ≡ looks_like_text held)
+IsUnopenedAt number held (NoTrie other why hint) = (other ≡ number) × IsUnopenedBy Full None held why × IsHint held hint
 IsUnopenedAt number held (NoValue why key) = ⊥
 IsUnopenedAt number held (NotBuilt e) = ⊥
 
 -- the file with this number has no trie, for this reason
-abbrev pub HasNoTrieAt : List (List ℕ) → ℕ → OpenError → Bool → Type 0
-HasNoTrieAt held number why is_text = (bytes : List ℕ) × (slice_get held number ≡ Some bytes) × IsUnopenedBy Full None bytes why × (is_text ≡ looks_like_text bytes)
+abbrev pub HasNoTrieAt : List (List ℕ) → ℕ → OpenError → Hint → Type 0
+HasNoTrieAt held number why hint = (bytes : List ℕ) × (slice_get held number ≡ Some bytes) × IsUnopenedBy Full None bytes why × IsHint bytes hint
 
 -- why what the files hold is not opened: one of them has no trie
 abbrev pub AreUnopened : List (List ℕ) → CombineError → Type 0
 AreUnopened held (Unopened number e) = ⊥
-AreUnopened held (NoTrie number why is_text) = HasNoTrieAt held number why is_text
+AreUnopened held (NoTrie number why hint) = HasNoTrieAt held number why hint
 AreUnopened held (NoValue why key) = ⊥
 AreUnopened held (NotBuilt e) = IsNoMemory e
 
 -- why nothing is made of what the files hold: one of them has no trie, or no file is made of their maps
 abbrev pub IsUncombined : Combine → List (List ℕ) → CombineError → Type 0
 IsUncombined c held (Unopened number e) = ⊥
-IsUncombined c held (NoTrie number why is_text) = HasNoTrieAt held number why is_text
+IsUncombined c held (NoTrie number why hint) = HasNoTrieAt held number why hint
 IsUncombined c held (NoValue why key) = OfHeld held (λ maps. ExplainsMaps c.combination maps (combination.NoValue why key))
 IsUncombined c held (NotBuilt (build.Unread e)) = ⊥
 IsUncombined c held (NotBuilt (build.NotMade e)) = (e ≡ made.OutOfMemory) ⊎ OfHeld held (λ maps. ExplainsMaps c.combination maps (combination.NotMade e))
@@ -168,8 +173,8 @@ IsUncombined c held (NotBuilt (build.Unfound e)) = ⊥
 -- why no file was made or written is so of the files and of the new one
 abbrev pub HasCombineCause : Combine → Option (List ℕ) → Option Story → CombineError → Type 0
 HasCombineCause c input files (Unopened number e) = (place : Place) × IsNumbered c.from.now number place
-HasCombineCause c input files (NoTrie number why is_text) = (place : Place) × IsNumbered c.from.now number place
-    × (held : List ℕ) × IsRead place input files held × IsUnopened (file_of place) held why × (is_text ≡ looks_like_text held)
+HasCombineCause c input files (NoTrie number why hint) = (place : Place) × IsNumbered c.from.now number place
+    × (held : List ℕ) × IsRead place input files held × IsUnopened (file_of place) held why × IsHint held hint
 HasCombineCause c input files (NoValue why key) = OfFiles c input files (λ maps. ExplainsMaps c.combination maps (combination.NoValue why key))
 HasCombineCause c input files (NotBuilt (build.Unread e)) = Unit {0}
 HasCombineCause c input files (NotBuilt (build.NotMade e)) = (e ≡ made.OutOfMemory) ⊎ OfFiles c input files (λ maps. ExplainsMaps c.combination maps (combination.NotMade e))
@@ -180,6 +185,6 @@ HasCombineCause c input files (NotBuilt (build.Unfound e)) = Unit {0}
 -- the number that an error has for a file is that of one
 abbrev pub NamesFile : Combine → CombineError → Type 0
 NamesFile c (Unopened number e) = number < length c.from.now
-NamesFile c (NoTrie number why is_text) = number < length c.from.now
+NamesFile c (NoTrie number why hint) = number < length c.from.now
 NamesFile c (NoValue why key) = Unit {0}
 NamesFile c (NotBuilt e) = Unit {0}

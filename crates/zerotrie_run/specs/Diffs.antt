@@ -4,7 +4,7 @@ use Rattle.std.specs.Io.KnownBytes.{Appends}
 use Rattle.zerotrie_core.specs.declared.TrieKind.{TrieKind}
 use Rattle.zerotrie_files.specs.Disks.{Story}
 use Rattle.zerotrie_queries.specs.Diffs.{AreCompared, AreComparedInPart}
-use Rattle.zerotrie_queries.specs.Texts.{looks_like_text}
+use Rattle.zerotrie_run.specs.Fronts.{IsHint}
 use Rattle.zerotrie_run.specs.Messages.{IsLineOn, source_name}
 use Rattle.zerotrie_run.specs.Runs.{AreOneStream, IsRead, Opens, IsUnopened, HasNoTrie, HasNumberToo, IsDoubtful, ask_refusal}
 use Rattle.zerotrie_run.specs.declared.ask.AskError.{AskError}
@@ -111,7 +111,7 @@ pub record NotesNumbers (diff : Diff) (input : Option (List ℕ)) (files : Optio
 abbrev pub IsUnread : AskError → Type 0
 IsUnread ask.TwoInputs = ⊥
 IsUnread (ask.Unread e) = Unit {0}
-IsUnread (ask.NoTrie why is_text) = ⊥
+IsUnread (ask.NoTrie why hint) = ⊥
 IsUnread (ask.NotText key) = ⊥
 IsUnread (ask.Unanswered e) = ⊥
 
@@ -119,7 +119,7 @@ IsUnread (ask.Unanswered e) = ⊥
 abbrev pub HasNoTrieIn : TrieFile → List ℕ → AskError → Type 0
 HasNoTrieIn file held ask.TwoInputs = ⊥
 HasNoTrieIn file held (ask.Unread e) = ⊥
-HasNoTrieIn file held (ask.NoTrie why is_text) = IsUnopened file held why × (is_text ≡ looks_like_text held)
+HasNoTrieIn file held (ask.NoTrie why hint) = IsUnopened file held why × IsHint held hint
 HasNoTrieIn file held (ask.NotText key) = ⊥
 HasNoTrieIn file held (ask.Unanswered e) = ⊥
 
@@ -151,7 +151,7 @@ IsOneUnopened diff held other e = ((e.file ≡ old_file diff) × HasNoTrieIn (ol
 abbrev pub IsUnanswered : AskError → Type 0
 IsUnanswered ask.TwoInputs = ⊥
 IsUnanswered (ask.Unread e) = ⊥
-IsUnanswered (ask.NoTrie why is_text) = ⊥
+IsUnanswered (ask.NoTrie why hint) = ⊥
 IsUnanswered (ask.NotText key) = ⊥
 IsUnanswered (ask.Unanswered (Input e)) = Unit {0}
 IsUnanswered (ask.Unanswered (NoLines other)) = ⊥

@@ -37,7 +37,7 @@ AnswerFailed read write (Output e) = IsFailureOf write e
 abbrev pub AskFailed : (read write : Type 0) → AskError → Type 0
 AskFailed read write ask.TwoInputs = Unit {0}
 AskFailed read write (ask.Unread e) = IsFailureOf read e
-AskFailed read write (ask.NoTrie why is_text) = Unit {0}
+AskFailed read write (ask.NoTrie why hint) = Unit {0}
 AskFailed read write (ask.NotText key) = Unit {0}
 AskFailed read write (ask.Unanswered e) = AnswerFailed read write e
 
@@ -52,6 +52,6 @@ BuildFailed read write (build.Unfound e) = IsFailureOf read e
 -- of one that none is made of others
 abbrev pub CombineFailed : (read write : Type 0) → CombineError → Type 0
 CombineFailed read write (combine.Unopened number e) = IsFailureOf read e
-CombineFailed read write (combine.NoTrie number why is_text) = Unit {0}
+CombineFailed read write (combine.NoTrie number why hint) = Unit {0}
 CombineFailed read write (combine.NoValue why key) = Unit {0}
 CombineFailed read write (combine.NotBuilt e) = BuildFailed read write e

@@ -1,4 +1,5 @@
 pub mod Statuses
+pub mod Fronts
 pub mod Runs
 pub mod Diffs
 pub mod Combined

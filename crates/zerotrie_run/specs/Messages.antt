@@ -1,5 +1,5 @@
 -- What messages on standard error say.
-use Rattle.std.specs.Prelude.{◌≡◌, ◌≢◌, ◌⊎◌, ◌<◌, ◌/◌, ◌%◌, ◌==◌, ℕ, List, [], ◌∷◌, ◌++◌, Bool, true, false, take, codes, decimal, nat_lt, if◌then◌else◌}
+use Rattle.std.specs.Prelude.{◌≡◌, ◌≢◌, ◌⊎◌, ◌<◌, ◌/◌, ◌%◌, ◌==◌, ℕ, List, [], ◌∷◌, ◌++◌, take, codes, decimal, nat_lt, if◌then◌else◌}
 use Rattle.zerotrie_core.specs.declared.ZeroTrieBuildError.TheVariants as cause
 use Rattle.zerotrie_core.specs.Faults.{rule_text}
 use Rattle.zerotrie_any.specs.declared.bytes.TagError.{TagError}
@@ -11,7 +11,7 @@ use Rattle.zerotrie_lines.specs.declared.fault.BadLine.TheVariants as bad
 use Rattle.zerotrie_queries.specs.declared.file.OpenError.{OpenError}
 use Rattle.zerotrie_queries.specs.declared.file.OpenError.TheVariants as unopened
 use Rattle.zerotrie_making.specs.declared.plan.Source.{Source}
-use Rattle.zerotrie_making.specs.declared.plan.Source.TheVariants.{Text, Json, JsonLines}
+use Rattle.zerotrie_making.specs.declared.plan.Source.TheVariants as source
 use Rattle.zerotrie_making.specs.declared.others.OtherFile.{OtherFile}
 use Rattle.zerotrie_making.specs.declared.others.OtherFile.TheVariants.{Utf16, Gzip, Sealed}
 use Rattle.zerotrie_making.specs.declared.error.NoPair.{NoPair}
@@ -26,6 +26,8 @@ use Rattle.zerotrie_core.specs.declared.TrieKind.{TrieKind}
 use Rattle.zerotrie_making.specs.declared.error.CombinationError.{CombinationError}
 use Rattle.zerotrie_making.specs.declared.error.CombinationError.TheVariants as combination
 use Rattle.zerotrie_run.specs.Combined.{IsNumbered}
+use Rattle.zerotrie_run.specs.declared.front.Hint.{Hint}
+use Rattle.zerotrie_run.specs.declared.front.Hint.TheVariants.{Text, Other, Nothing}
 use Rattle.zerotrie_run.specs.declared.command.Combine.{Combine}
 use Rattle.zerotrie_run.specs.declared.command.Place.{Place}
 use Rattle.zerotrie_run.specs.declared.command.Place.TheVariants.{File, Stream}
@@ -86,12 +88,12 @@ IsLineOn place text = (words : List ℕ) × (text ≡ line_front place ++ (words
 
 -- what holds one pair of a source
 abbrev pub unit_of : Source → PairUnit
-unit_of (Text Lines ended header) = unit.Line
-unit_of (Text Tsv ended header) = unit.Line
-unit_of (Text TsvRaw ended header) = unit.Line
-unit_of (Text Csv ended header) = unit.Record
-unit_of Json = unit.Pair
-unit_of JsonLines = unit.Line
+unit_of (source.Text Lines ended header) = unit.Line
+unit_of (source.Text Tsv ended header) = unit.Line
+unit_of (source.Text TsvRaw ended header) = unit.Line
+unit_of (source.Text Csv ended header) = unit.Record
+unit_of source.Json = unit.Pair
+unit_of source.JsonLines = unit.Line
 
 -- the word before its number
 abbrev pub unit_word : PairUnit → List ℕ
@@ -147,25 +149,27 @@ TellsMade unit (made.Refused e) text = Unit {0}
 TellsMade unit (made.IndexRefused e) text = Unit {0}
 TellsMade unit made.OutOfMemory text = Unit {0}
 
--- what is said of a file that does not begin as a trie: that it looks like text if it does, or is empty, or begins with another number
-abbrev pub tag_words : Bool → TagError → List ℕ
-tag_words true why = codes "it looks like text: build it first"
-tag_words false Empty = codes "the file is empty"
-tag_words false InvalidTag =
+-- what is said of a file that does not begin as a trie: which other file it is, that it looks like text if it does, or is empty, or begins
+-- with another number
+abbrev pub tag_words : Hint → TagError → List ℕ
+tag_words Text why = codes "it looks like text: build it first"
+tag_words (Other other) why = other_words other
+tag_words Nothing Empty = codes "the file is empty"
+tag_words Nothing InvalidTag =
     codes "not a file of zerotrie build: its first byte is the number of no kind; if it is bare bytes, name their kind by --bare"
 
 -- a message tells why a file has no trie: what it is, or the rule and the place of the first fault
-abbrev pub TellsNoTrie : OpenError → Bool → List ℕ → Type 0
-TellsNoTrie (unopened.BadTag why) is_text text = Says text (tag_words is_text why)
-TellsNoTrie (unopened.Damaged why) is_text text = Unit {0}
-TellsNoTrie (unopened.NotWellFormed kind first) is_text text = Says text (rule_text first.cause) × Names (codes "byte") text first.place
-TellsNoTrie unopened.OutOfMemory is_text text = Unit {0}
+abbrev pub TellsNoTrie : OpenError → Hint → List ℕ → Type 0
+TellsNoTrie (unopened.BadTag why) hint text = Says text (tag_words hint why)
+TellsNoTrie (unopened.Damaged why) hint text = Unit {0}
+TellsNoTrie (unopened.NotWellFormed kind first) hint text = Says text (rule_text first.cause) × Names (codes "byte") text first.place
+TellsNoTrie unopened.OutOfMemory hint text = Unit {0}
 
 -- a line tells why a question to a file has no answer, and which place it is about
 abbrev pub TellsAsk : Place → AskError → List ℕ → Type 0
 TellsAsk file ask.TwoInputs text = IsLine text
 TellsAsk file (ask.Unread e) text = IsLineOn (source_name file) text
-TellsAsk file (ask.NoTrie why is_text) text = IsLineOn (source_name file) text × TellsNoTrie why is_text text
+TellsAsk file (ask.NoTrie why hint) text = IsLineOn (source_name file) text × TellsNoTrie why hint text
 TellsAsk file (ask.Unanswered (Input e)) text = IsLineOn (codes "standard input") text
 TellsAsk file (ask.Unanswered (NoLines other)) text = IsLineOn (codes "standard input") text × Says text (other_words other)
 TellsAsk file (ask.Unanswered (Output e)) text = IsLineOn (codes "standard output") text
@@ -194,8 +198,8 @@ TellsUnmade (combination.NotMade e) text = TellsMade unit.Pair e text
 -- a line tells why no file was made of others, or written, and which place it is about; pairs are refused at the one that is written
 abbrev pub TellsCombine : Combine → CombineError → List ℕ → Type 0
 TellsCombine c (combine.Unopened number e) text = (place : Place) → IsNumbered c.from.now number place → IsLineOn (source_name place) text
-TellsCombine c (combine.NoTrie number why is_text) text = ((place : Place) → IsNumbered c.from.now number place → IsLineOn (source_name place) text)
-    × TellsNoTrie why is_text text
+TellsCombine c (combine.NoTrie number why hint) text = ((place : Place) → IsNumbered c.from.now number place → IsLineOn (source_name place) text)
+    × TellsNoTrie why hint text
 TellsCombine c (combine.NoValue why key) text = IsLineOn (target_name c.to) text × TellsUnmade (combination.NoValue why key) text
 TellsCombine c (combine.NotBuilt e) text = TellsBuild (target_name c.to) (target_name c.to) unit.Pair e text
 

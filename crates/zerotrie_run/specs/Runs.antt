@@ -4,6 +4,7 @@ use Rattle.std.specs.Io.KnownBytes.{Appends, Keeps}
 use Rattle.std.specs.Io.Buffered.{writer_buffer}
 use Rattle.std.specs.declared.io.buffered.BufWriter.{BufWriter}
 use Rattle.zerotrie_core.specs.Maps.{Pairs}
+use Rattle.zerotrie_core.specs.Texts.{Lists}
 use Rattle.zerotrie_core.specs.WellFormed.{IsWellFormed}
 use Rattle.zerotrie_lines.specs.Lines.{text_lines}
 use Rattle.zerotrie_lines.specs.declared.reading.Header.TheVariants as header
@@ -12,7 +13,8 @@ use Rattle.zerotrie_any.specs.Tagged.{tagged}
 use Rattle.zerotrie_core.specs.Kinds.{kind_of}
 use Rattle.zerotrie_core.specs.Faults.{IsFirstFault}
 use Rattle.zerotrie_queries.specs.Files.{Holds, IsOpened, HasMagic, HasNoKind, IsDamaged, IsUnknown, Explains}
-use Rattle.zerotrie_queries.specs.Texts.{looks_like_text}
+use Rattle.zerotrie_run.specs.Fronts.{HasNothing, IsHint}
+use Rattle.zerotrie_run.specs.declared.front.Hint.{Hint}
 use Rattle.zerotrie_core.specs.declared.TrieKind.{TrieKind}
 use Rattle.zerotrie_queries.specs.declared.file.OpenError.{OpenError}
 use Rattle.zerotrie_queries.specs.declared.file.OpenError.TheVariants as unopened
@@ -24,7 +26,8 @@ use Rattle.zerotrie_index.specs.Layout.{IsIndex}
 use Rattle.zerotrie_sealed.specs.Faults.{IsIndexFault, kind_in}
 use Rattle.zerotrie_sealed.specs.Sealed.{HasFront, IsIndexNumber, IsSealed, IsSealedIndex}
 use Rattle.zerotrie_queries.specs.Sorted.{picked}
-use Rattle.zerotrie_queries.specs.Listed.{AreListed, AreListedInPart, AreMeasured, AreMeasuredInPart, AreNoText}
+use Rattle.zerotrie_queries.specs.Listed.{AreListed, AreListedInPart, AreMeasured, AreMeasuredInPart, AreNoText, limited}
+use Rattle.zerotrie_queries.specs.declared.question.Order.TheVariants.{Nearest}
 use Rattle.zerotrie_queries.specs.declared.question.Query.{Query}
 use Rattle.zerotrie_queries.specs.code.Code.{whole_code}
 use Rattle.zerotrie_queries.specs.views.Views.{shown}
@@ -251,11 +254,25 @@ IsUnopenedFor file question all why = IsUnasked file question all why × ((bytes
 abbrev pub KeysAnswered : Query → Keys → (input : Option (List ℕ)) → (Dictionary → Type 0) → (old new : Option (List ℕ)) → Bool → Type 0
 KeysAnswered query keys input MayHave old new all = (ks : List (List ℕ)) × (AreKeys keys input ks × AreLines keys input) × AreAnswered query MayHave ks old new all
 
--- what was printed, and whether all was found, belong to the question and to bytes of this kind
+-- whether there is a pair
+abbrev pub has_pair : Pairs → Bool
+has_pair [] = false
+has_pair (pair ∷ pairs) = true
+
+-- whether there is one of the first pairs that are picked, if the bytes list pairs
+abbrev pub AreFound : (pick : Pairs → Pairs) → (limit : Option ℕ) → TrieKind → (bytes : List ℕ) → Bool → Type 0
+AreFound pick limit kind bytes found = (pairs : Pairs) → Lists (kind_of kind) bytes pairs → found ≡ has_pair (limited limit (pick pairs))
+
+-- the limit of a listing that has a pair or none
+abbrev pub limit_shown : Bool → Option ℕ → Option ℕ
+limit_shown true limit = limit
+limit_shown false limit = Some 0
+
+-- what was printed, and whether all was found, belong to the question and to bytes of this kind: of pairs, whether there is one
 abbrev pub Answers : Question → (input : Option (List ℕ)) → TrieKind → List ℕ → (old new : Option (List ℕ)) → Bool → Type 0
 Answers (LookUp query keys) input kind bytes old new all = KeysAnswered query keys input (TrieFinds kind bytes) old new all
-Answers (Listing form choice order limit) input kind bytes old new all = (all ≡ true) × AreListed form (picked order kind choice) limit kind bytes old new
-Answers (Distances choice limit) input kind bytes old new all = (all ≡ true) × AreMeasured choice limit kind bytes old new
+Answers (Listing form choice order limit) input kind bytes old new all = AreFound (picked order kind choice) limit kind bytes all × AreListed form (picked order kind choice) limit kind bytes old new
+Answers (Distances choice limit) input kind bytes old new all = AreFound (picked Nearest kind choice) limit kind bytes all × AreMeasured choice limit kind bytes old new
 Answers (Code language name) input kind bytes old new all = (all ≡ true) × Appends old new (whole_code language kind name.now bytes)
 Answers Verify input kind bytes old new all = (all ≡ true) × Keeps old new
 Answers (Report form) input kind bytes old new all = (all ≡ true) × Appends old new (reported form (report_of kind bytes))
@@ -353,7 +370,7 @@ HasNoKeys (View view) input old new e = answer_refusal e ≡ None
 abbrev pub IsNoAnswer : Question → (input : Option (List ℕ)) → TrieKind → List ℕ → (old new : Option (List ℕ)) → AskError → Type 0
 IsNoAnswer question input kind bytes old new ask.TwoInputs = ⊥
 IsNoAnswer question input kind bytes old new (ask.Unread e) = ⊥
-IsNoAnswer question input kind bytes old new (ask.NoTrie why is_text) = ⊥
+IsNoAnswer question input kind bytes old new (ask.NoTrie why hint) = ⊥
 IsNoAnswer question input kind bytes old new (ask.Unanswered e) = AnswersInPart question input kind bytes old new × HasNoKeys question input old new e
 IsNoAnswer question input kind bytes old new (ask.NotText key) = IsUnprintable question kind bytes key.items × (new ≡ old)
 
@@ -403,7 +420,7 @@ pub record IsUnkeyed (file : TrieFile) (question : Question) (input : Option (Li
 abbrev pub IsUnanswered : TrieFile → Question → (input : Option (List ℕ)) → List ℕ → (old new : Option (List ℕ)) → AskError → Type 0
 IsUnanswered file question input held old new ask.TwoInputs = ⊥
 IsUnanswered file question input held old new (ask.Unread e) = ⊥
-IsUnanswered file question input held old new (ask.NoTrie why is_text) = IsUnopenedFor file question held why × (is_text ≡ looks_like_text held) × (new ≡ old)
+IsUnanswered file question input held old new (ask.NoTrie why hint) = IsUnopenedFor file question held why × IsHint held hint × (new ≡ old)
 IsUnanswered file question input held old new (ask.NotText key) = (kind : TrieKind) × (bytes : List ℕ) × Opens file held kind bytes × IsUnprintable question kind bytes key.items × (new ≡ old)
 IsUnanswered file question input held old new (ask.Unanswered e) = (content : Content) × OpensFor file question held content × ContentAnswersInPart content question input old new × HasNoKeys question input old new e
 
@@ -423,6 +440,11 @@ AreLookedUp query keys held text all = IfSome held (λ file. (start : ℕ) × Ha
 abbrev pub IsAnswerText : TrieFile → Question → Option Story → List ℕ → Bool → Type 0
 IsAnswerText file question files text all = (input old new : Option (List ℕ)) → (Appends old new text → IsAsked file question input files old new all)
     × (AppendsPart old new text → IsAskedInPart file question input files old new)
+
+-- whoever reads all of the file finds that it has no trie, nor an index if one is taken, for this reason, and that it looks so
+abbrev pub IsRefusedUnread : TrieFile → (takes_index : Bool) → Option Story → OpenError → Hint → Type 0
+IsRefusedUnread file takes_index files why hint = (input : Option (List ℕ)) → (held : List ℕ) × IsRead file.place input files held
+    × HasNothing file.bare takes_index held why × IsHint held hint
 
 -- a question to a file failed: nothing was printed, or a beginning of the answer was
 abbrev pub FailsAsk : TrieFile → Question → Option (List ℕ) → Option Story → (old new : Option (List ℕ)) → Type 0
@@ -452,10 +474,10 @@ EndsAsk file question input files old new (Some status) = RunsAsk file question 
 abbrev pub ask_refusal : AskError → Option Status
 ask_refusal ask.TwoInputs = Some BadUsage
 ask_refusal (ask.Unread e) = None
-ask_refusal (ask.NoTrie (unopened.BadTag why) is_text) = Some BadInput
-ask_refusal (ask.NoTrie (unopened.Damaged why) is_text) = Some BadInput
-ask_refusal (ask.NoTrie (unopened.NotWellFormed kind fault) is_text) = Some BadInput
-ask_refusal (ask.NoTrie unopened.OutOfMemory is_text) = None
+ask_refusal (ask.NoTrie (unopened.BadTag why) hint) = Some BadInput
+ask_refusal (ask.NoTrie (unopened.Damaged why) hint) = Some BadInput
+ask_refusal (ask.NoTrie (unopened.NotWellFormed kind fault) hint) = Some BadInput
+ask_refusal (ask.NoTrie unopened.OutOfMemory hint) = None
 ask_refusal (ask.NotText key) = Some Refused
 ask_refusal (ask.Unanswered e) = answer_refusal e
 

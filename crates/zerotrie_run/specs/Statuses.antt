@@ -6,7 +6,7 @@ use Rattle.zerotrie_making.specs.declared.error.MakeError.TheVariants as error
 use Rattle.zerotrie_run.specs.declared.status.Status.{Status}
 use Rattle.zerotrie_run.specs.declared.status.Status.TheVariants.{Done, Absent, Refused, Taken, BadUsage, BadInput, BadKeys, Unread, Unwritten, OutOfMemory, Closed}
 
--- 0 if all was found; 1 if a key is absent, the keys of a build are refused, or its file is there already; 2 if words or bytes are not
+-- 0 if all was found; 1 if a key is absent, no pair is listed, the keys of a build are refused, or its file is there already; 2 if words or bytes are not
 -- what they should be; 3 if something failed; and 4 if whoever reads the output has closed it
 abbrev pub number_of : Status → ℕ
 number_of Done = 0

@@ -3,7 +3,8 @@ use Rattle.std.specs.Prelude.{◌≡◌, ◌⊎◌, ◌==◌, ℕ, nat_lt, List,
 use Rattle.std.specs.Io.KnownBytes.{Appends}
 use Rattle.zerotrie_files.specs.Disks.{Story}
 use Rattle.zerotrie_queries.specs.declared.file.OpenError.{OpenError}
-use Rattle.zerotrie_queries.specs.Texts.{looks_like_text}
+use Rattle.zerotrie_run.specs.Fronts.{IsHint}
+use Rattle.zerotrie_run.specs.declared.front.Hint.{Hint}
 use Rattle.zerotrie_making.specs.Made.{IsMade}
 use Rattle.zerotrie_making.specs.Made as made
 use Rattle.zerotrie_making.specs.declared.error.MakeError.{MakeError}
@@ -75,7 +76,7 @@ PlaceTold command old new = (name : List ℕ) × IsPlaceOf command name × ToldO
 abbrev pub HasReason : (List ℕ → OpenError → Type 0) → TrieFile → Question → Option (List ℕ) → Option Story → AskError → Type 0
 HasReason IsWhy file question input files ask.TwoInputs = Unit {0}
 HasReason IsWhy file question input files (ask.Unread e) = Unit {0}
-HasReason IsWhy file question input files (ask.NoTrie why is_text) = (held : List ℕ) × IsRead file.place input files held × IsWhy held why × (is_text ≡ looks_like_text held)
+HasReason IsWhy file question input files (ask.NoTrie why hint) = (held : List ℕ) × IsRead file.place input files held × IsWhy held why × IsHint held hint
 HasReason IsWhy file question input files (ask.Unanswered (Input e)) = Unit {0}
 HasReason IsWhy file question input files (ask.Unanswered (NoLines other)) = HasNoLines question input other
 HasReason IsWhy file question input files (ask.Unanswered (Output e)) = Unit {0}
@@ -154,7 +155,7 @@ TellsCombined c input files old new = (made : Made) × (several : Bool) × OfFil
 -- a line tells why a file that was read has no trie, by its first fault
 abbrev pub TellsUnopened : (List ℕ → OpenError → Type 0) → TrieFile → Option (List ℕ) → Option Story → (old new : Option (List ℕ)) → Type 0
 TellsUnopened IsWhy file input files old new = (held : List ℕ) × IsRead file.place input files held
-    × (why : OpenError) × IsWhy held why × (text : List ℕ) × IsLineOn (source_name file.place) text × TellsNoTrie why (looks_like_text held) text × ToldLast old new text
+    × (why : OpenError) × IsWhy held why × (hint : Hint) × IsHint held hint × (text : List ℕ) × IsLineOn (source_name file.place) text × TellsNoTrie why hint text × ToldLast old new text
 
 -- a line tells why what was read is refused: which pairs of an input, or which fault in a trie
 abbrev pub TellsRefusal : Command → Option (List ℕ) → Option Story → (old new : Option (List ℕ)) → Status → Type 0

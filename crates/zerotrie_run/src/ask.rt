@@ -18,8 +18,10 @@ ghost use Rattle.zerotrie_run.specs.declared.stdin_lines.AnswerError.TheVariants
 
 use crate::at_places::answer_at_places;
 use crate::command::{Keys, Question, TrieFile, reads_twice};
+use crate::found::{write_found, write_measured};
+use crate::front::{Hint, hint_of, refused_by_front};
 use crate::messages::ask::tell_number;
-use crate::open::{open_index, open_trie};
+use crate::open::{asks_index, open_index, open_trie};
 use crate::place::read_place;
 use crate::status::Status;
 use crate::stdin_lines::{AnswerError, answer_lines};
@@ -29,8 +31,8 @@ use std::io::{BufWriter, Read, Write};
 use zerotrie_core::TrieRef;
 use zerotrie_files::{Disk, Noted, Store};
 use zerotrie_queries::{
-    Asked, Finder, ListError, OpenError, Query, looks_like_text, write_answers, write_distances,
-    write_list, write_trie_code, write_trie_report, write_trie_view,
+    Asked, Finder, ListError, OpenError, Query, Selection, write_answers, write_trie_code,
+    write_trie_report, write_trie_view,
 };
 use zerotrie_reverse::Reverse;
 
@@ -41,8 +43,8 @@ pub enum AskError {
     TwoInputs,
     /// The file can't be read, or memory was refused before it was opened.
     Unread(io::Error),
-    /// The file has no trie, nor an index that answers the question. It looks like text or not.
-    NoTrie(OpenError, bool),
+    /// The file has no trie, nor an index that answers the question, and looks so.
+    NoTrie(OpenError, Hint),
     /// The pairs can't be one JSON value, as this key is not UTF-8.
     NotText(Vec<u8>),
     /// It can't be answered, or not to the end.
@@ -210,15 +212,19 @@ fn answer<R: Read, W: Write + Drop>(
             Ok(answer_by_trie(alloc, trie, query, keys, input, output)?)
         }
         Question::List(form, choice, order, limit) => {
-            match write_list(alloc, trie, form, choice, order, limit, output) {
-                Ok(()) => Ok(true),
+            let selection = Selection {
+                choice,
+                order,
+                limit,
+            };
+            match write_found(alloc, trie, form, selection, output) {
+                Ok(found) => Ok(found),
                 Err(ListError::NotText(key)) => Err(AskError::NotText(key)),
                 Err(ListError::Failed(error)) => Err(AskError::from(error)),
             }
         }
         Question::Distances(choice, limit) => {
-            write_distances(alloc, trie, choice, limit, output)?;
-            Ok(true)
+            Ok(write_measured(alloc, trie, choice, limit, output)?)
         }
         Question::Code(language, name) => {
             write_trie_code(alloc, trie, language, name, output)?;
@@ -304,7 +310,7 @@ fn answer_held<R: Read, W: Write + Drop>(
     }
     let trie = match open_trie(alloc, file, question, held) {
         Ok(trie) => trie,
-        Err(why) => return Err(AskError::NoTrie(why, looks_like_text(held))),
+        Err(why) => return Err(AskError::NoTrie(why, hint_of(held))),
     };
     answer(alloc, &trie, question, input, output)
 }
@@ -324,8 +330,9 @@ fn print<W: Write + Drop>(text: &[u8], output: &mut Noted<BufWriter<W>>) -> io::
 }
 
 /// Answers a question to the trie or the index of a file, and returns whether all was found. A few keys
-/// are looked up in a large index at places, and other files are read as a whole. If the file is read as
-/// bare bytes and begins with the number of a kind, a message says so.
+/// are looked up in a large index at places. A large file is refused by its first bytes if they show that
+/// it has no trie. Other files are read as a whole. If the file is read as bare bytes and begins with the
+/// number of a kind, a message says so.
 pub fn ask<D: Disk, R: Read, W: Write + Drop, M: Write>(
     alloc: Global,
     file: TrieFile<'_>,
@@ -367,6 +374,9 @@ pub fn ask<D: Disk, R: Read, W: Write + Drop, M: Write>(
     if let Some((text, all)) = answer_at_places(alloc, file, question, files.disk()) {
         print(text.as_slice(), output)?;
         return Ok(all);
+    }
+    if let Some((why, hint)) = refused_by_front(file, asks_index(question), files.disk()) {
+        return Err(AskError::NoTrie(why, hint));
     }
     let held = match read_place(alloc, file.place, files, input) {
         Ok(held) => held,

@@ -1,13 +1,13 @@
 //! A file that is made of the tries of others.
 
-ghost use Rattle.std.specs.Prelude.{◌≡◌, ◌<◌, ◌⊎◌, false, IfErr, IfOk, None, OnErr, OnOk, map};
+ghost use Rattle.std.specs.Prelude.{◌≡◌, ◌<◌, ◌⊎◌, false, IfErr, IfOk, None, OnErr, OnOk, map, IfSome};
 ghost use Rattle.std.specs.Io.Buffered.{writer_contents};
 ghost use Rattle.std.specs.List.{AllZip};
 ghost use Rattle.zerotrie_files.specs.Notes.{NothingFailed, SameReads};
 ghost use Rattle.zerotrie_making.specs.declared.error.MakeError.TheVariants.{OutOfMemory};
 ghost use Rattle.zerotrie_run.specs.Failures.{CombineFailed, ReadFailed, WasClosed, WriteFailed};
 ghost use Rattle.zerotrie_run.specs.Commands.{Runs, TellsNumber, ReadsTwice, LeavesInput, may_tell, tells_made};
-ghost use Rattle.zerotrie_run.specs.Combined.{AreRead, AreUnopened, EndsCombine, HasCombineCause, IsCombination, IsMadeSo, IsUncombined, IsUnopenedAt, IsUnread, OfHeld, are_several, combine_fails, combine_refusal};
+ghost use Rattle.zerotrie_run.specs.Combined.{AreRead, AreUnopened, EndsCombine, HasCombineCause, IsCombination, IsMadeSo, IsRefusedIn, IsUncombined, IsUnopenedAt, IsUnread, OfHeld, are_several, combine_fails, combine_refusal};
 ghost use Rattle.zerotrie_run.specs.Runs.{world, AreAllFiles, HandsOn, HaveTwoStreams, IsFreshAt, OpensBy};
 ghost use Rattle.zerotrie_run.specs.Statuses.{number_of};
 ghost use Rattle.zerotrie_run.specs.Told.{IsTold, Notes, TellsCombined};
@@ -19,8 +19,9 @@ ghost use Rattle.zerotrie_run.specs.declared.status.Status.TheVariants.{Done, Ab
 
 use crate::build::{BuildError, spare};
 use crate::command::{Combine, Place, have_two_streams};
+use crate::front::{Hint, hint_of, refused_by_front};
 use crate::messages::build::tell_removed;
-use crate::messages::combine::{combine_text, combined_text, tell_two_streams};
+use crate::messages::combine::{combine_text, combined_text, file_of, tell_two_streams};
 use crate::messages::line::tell;
 use crate::open::open_in_full;
 use crate::place::{read_place, write_place};
@@ -32,7 +33,7 @@ use std::io::{BufWriter, Read, Write};
 use zerotrie_core::{TrieKind, TrieRef};
 use zerotrie_files::{Disk, Noted, Store};
 use zerotrie_making::{CombinationError, Made, MakeError, kind_kept, make_combined};
-use zerotrie_queries::{OpenError, looks_like_text};
+use zerotrie_queries::OpenError;
 use zerotrie_sets::RuleError;
 
 /// Why no file is made of the tries of others.
@@ -40,8 +41,8 @@ use zerotrie_sets::RuleError;
 pub enum CombineError {
     /// The file with this number, from 0 on, can't be read.
     Unopened(usize, io::Error),
-    /// The file with this number has no trie, and looks like text or not.
-    NoTrie(usize, OpenError, bool),
+    /// The file with this number has no trie, and looks so.
+    NoTrie(usize, OpenError, Hint),
     /// This key is taken, and gets no value: why.
     NoValue(RuleError, Vec<u8>),
     /// No file is made of the pairs that are taken, or it can't be written.
@@ -91,6 +92,18 @@ impl<T: Drop> From<AllocFailed<T>> for CombineError {
     }
 }
 
+/// Returns the number of the first file whose first bytes show that it has no trie, and why.
+fn refused_in<D: Disk>(from: &[Place<'_>], disk: &D) -> Option<(usize, OpenError, Hint)>
+    ensures { IfSome result (λ r. IsRefusedIn from.now (D.story disk.now) r.0 r.1 r.2) }
+{
+    for number in 0..from.len() {
+        if let Some((why, hint)) = refused_by_front(file_of(from[number]), false, disk) {
+            return Some((number, why, hint));
+        }
+    }
+    None
+}
+
 /// Reads all files, of which at most one is standard input.
 fn read_all<D: Disk, R: Read>(
     alloc: Global,
@@ -125,7 +138,7 @@ fn open_one(alloc: Global, number: usize, held: &[u8]) -> Result<TrieRef<'_>, Co
 {
     match open_in_full(alloc, None, held) {
         Ok(trie) => Ok(trie),
-        Err(why) => Err(CombineError::NoTrie(number, why, looks_like_text(held))),
+        Err(why) => Err(CombineError::NoTrie(number, why, hint_of(held))),
     }
 }
 
@@ -207,6 +220,9 @@ fn make_file<D: Disk, R: Read, W: Write + Drop, M: Write>(
         (WriteFailed output.new files.new)) }
     ensures unread { AreAllFiles combine.entry.from.now → input.new ≡ input.old }
 {
+    if let Some((number, why, hint)) = refused_in(combine.from, files.disk()) {
+        return Err(CombineError::NoTrie(number, why, hint));
+    }
     let held = read_all(alloc, combine.from, files, input)?;
     let (made, several) = combine_held(alloc, combine, held.as_slice())?;
     let done = combined_text(alloc, combine, several, &made)?;

@@ -1,14 +1,14 @@
 //! A comparison of the tries of two files.
 
-ghost use Rattle.std.specs.Prelude.{◌≡◌, ◌↔◌, ◌<◌, ◌⊎◌, ℕ, List, true, false, Ok, Err, IfOk, IfErr, IsTrue, OnOk};
+ghost use Rattle.std.specs.Prelude.{◌≡◌, ◌↔◌, ◌<◌, ◌⊎◌, ℕ, List, true, false, Ok, Err, IfOk, IfErr, IsTrue, OnOk, IfSome};
 ghost use Rattle.std.specs.Io.Buffered.{writer_contents};
 ghost use Rattle.zerotrie_core.specs.Kinds.{kind_of};
 ghost use Rattle.zerotrie_core.specs.WellFormed.{IsWellFormed};
 ghost use Rattle.zerotrie_files.specs.Notes.{NothingFailed, SameReads};
 ghost use Rattle.zerotrie_run.specs.Failures.{AskFailed, ReadFailed, WasClosed, WriteFailed};
 ghost use Rattle.zerotrie_run.specs.Commands.{Runs, TellsNumber, ReadsTwice, LeavesInput, tells_made};
-ghost use Rattle.zerotrie_run.specs.Diffs.{old_file, new_file, IsEitherDoubtful, IsDiffed, EndsDiff, diff_fails, diff_refusal, TellsIfDoubtful, NotesNumbers, IsUnread, HasNoTrieIn, AreHeldCompared, AreUncompared};
-ghost use Rattle.zerotrie_run.specs.Runs.{AreFiles, AreOneStream, HandsOn, IsDoubtful, IsRead, Opens, ask_refusal, world};
+ghost use Rattle.zerotrie_run.specs.Diffs.{old_file, new_file, IsEitherDoubtful, IsDiffed, EndsDiff, diff_fails, diff_refusal, TellsIfDoubtful, NotesNumbers, IsFileOf, IsUnread, HasNoTrieIn, AreHeldCompared, AreUncompared};
+ghost use Rattle.zerotrie_run.specs.Runs.{AreFiles, AreOneStream, HandsOn, IsDoubtful, IsRead, IsRefusedUnread, Opens, ask_refusal, world};
 ghost use Rattle.zerotrie_run.specs.Statuses.{number_of};
 ghost use Rattle.zerotrie_run.specs.Told.{HasDiffReason, IsTold, LineTold, Notes, TellsMore};
 ghost use Rattle.zerotrie_run.specs.declared.command.Check.TheVariants.{Full};
@@ -18,6 +18,7 @@ ghost use Rattle.zerotrie_run.specs.declared.status.Status.TheVariants.{Done, Ab
 
 use crate::ask::AskError;
 use crate::command::{Check, Diff, TrieFile, are_one_stream};
+use crate::front::{Hint, hint_of, refused_by_front};
 use crate::messages::ask::{ask_text, tell_number};
 use crate::messages::line::tell_one_stream;
 use crate::open::open_in_full;
@@ -30,7 +31,7 @@ use std::io;
 use std::io::{BufWriter, Read, Write};
 use zerotrie_core::TrieRef;
 use zerotrie_files::{Disk, Noted, Store};
-use zerotrie_queries::{looks_like_text, write_diff};
+use zerotrie_queries::{OpenError, write_diff};
 
 /// Why two files are not compared, and which of them shows it.
 #[derive(Debug, Drop)]
@@ -59,6 +60,20 @@ fn new_file<'a>(diff: Diff<'a>) -> TrieFile<'a>
         bare: diff.bare,
         check: Check::Full,
     }
+}
+
+/// Returns the first of the two files that has no trie, if its first bytes show it, and why.
+fn refused_in<'a, D: Disk>(diff: Diff<'a>, disk: &D) -> Option<(TrieFile<'a>, OpenError, Hint)>
+    ensures { IfSome result (λ r. IsFileOf diff.entry r.0
+        × IsRefusedUnread r.0 false (D.story disk.now) r.1 r.2) }
+{
+    let old = old_file(diff);
+    if let Some((why, hint)) = refused_by_front(old, false, disk) {
+        return Some((old, why, hint));
+    }
+    let new = new_file(diff);
+    let (why, hint) = refused_by_front(new, false, disk)?;
+    Some((new, why, hint))
 }
 
 /// Reads a file. If it is read as bare bytes and begins with the number of a kind, a message says
@@ -120,7 +135,7 @@ fn open_file<'a, 'h>(
         Ok(trie) => Ok(trie),
         Err(why) => Err(DiffError {
             file,
-            error: AskError::NoTrie(why, looks_like_text(held)),
+            error: AskError::NoTrie(why, hint_of(held)),
         }),
     }
 }
@@ -214,6 +229,12 @@ fn compare<'a, D: Disk, R: Read, W: Write + Drop, M: Write>(
         (WriteFailed output.new files.new) e.error) }
     ensures unread { AreFiles diff.entry.old diff.entry.new → input.new ≡ input.old }
 {
+    if let Some((file, why, hint)) = refused_in(diff, files.disk()) {
+        return Err(DiffError {
+            file,
+            error: AskError::NoTrie(why, hint),
+        });
+    }
     let held = read_file(alloc, old_file(diff), files, input, messages)?;
     let other = read_file(alloc, new_file(diff), files, input, messages)?;
     compare_and_hand_on(alloc, diff, held.as_slice(), other.as_slice(), output)

@@ -7,6 +7,8 @@ mod build;
 mod combine;
 mod command;
 mod diff;
+mod found;
+mod front;
 pub mod laws;
 mod messages;
 mod open;

@@ -49,7 +49,7 @@ fn open<'a>(alloc: Global, file: TrieFile<'_>, held: &'a [u8]) -> Result<TrieRef
 }
 
 /// Returns whether an index answers a question.
-fn asks_index(question: Question<'_>) -> bool
+pub fn asks_index(question: Question<'_>) -> bool
     ensures { result ≡ asks_index question.entry }
 {
     match question {

@@ -100,11 +100,12 @@ pub(crate) fn end<M: Write>(
 /// If one of these did, its number is 3 or 4: otherwise nothing failed that the files and streams
 /// note. A message that can't be written changes nothing.
 ///
-/// After success, or if a key is absent or pairs differ, the buffer is flushed if it was empty
-/// before. The only messages are then what a build or a combination made, as its summary says, how many
-/// files it removed that killed builds of its file left, unless it is to say nothing, and a warning for a file that is read as bare bytes and begins with the number of a kind. If the file and
-/// the keys, or two of the files, are standard input, the usage is bad. Standard input is not read
-/// unless the command needs it; keys are not read from it if nothing in the file answers.
+/// After success, or if a key is absent, no pair is listed or pairs differ, the buffer is flushed if it
+/// was empty before. The only messages are then what a build or a combination made, as its summary says,
+/// how many files it removed that killed builds of its file left, unless it is to say nothing, and a
+/// warning for a file that is read as bare bytes and begins with the number of a kind. If the file and the
+/// keys, or two of the files, are standard input, the usage is bad. Standard input is not read unless the
+/// command needs it; keys are not read from it if nothing in the file answers.
 pub fn run<D: Disk, R: Read, W: Write + Drop, M: Write>(
     alloc: Global,
     command: Command<'_>,

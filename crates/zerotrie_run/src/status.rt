@@ -10,7 +10,8 @@ use zerotrie_making::MakeError;
 pub enum Status {
     /// All was done, and all was found.
     Done,
-    /// A key is not there, a text begins with no key, or a pair of one file is not in the other.
+    /// A key is not there, no pair is listed, a text begins with no key, or a pair of one file is not in the
+    /// other.
     Absent,
     /// A build of the pairs is refused.
     Refused,

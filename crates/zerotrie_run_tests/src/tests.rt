@@ -229,7 +229,7 @@ const SHOWN: [Row; 6] = [
                 None,
             ),
         ),
-        status: Status::Done,
+        status: Status::Absent,
         printed: b"",
         told: b"",
         left: ("names.trie", b"\x00a\x85"),
@@ -368,7 +368,7 @@ const OF_BYTES: &[u8] = b"\x03\xA2\xFF\xFE\x83";
 const OF_BYTES_JSON: &[u8] = b"[[255,254],3]\n";
 
 /// Questions without an answer: the file has no trie, is the keys too, or is not there.
-const UNANSWERED: [Row; 5] = [
+const UNANSWERED: [Row; 6] = [
     Row {
         files: &[("names.trie", b"\x00a")],
         command: Command::Ask(FILE, Question::Report(ReportForm::Lines)),
@@ -415,6 +415,14 @@ const UNANSWERED: [Row; 5] = [
         told: b"zerotrie: names.trie: the file is empty\n",
         left: ("names.trie", b""),
     },
+    Row {
+        files: &[("names.trie", b"\x1f\x8b\x08")],
+        command: Command::Ask(FILE, Question::Verify),
+        status: Status::BadInput,
+        printed: b"",
+        told: b"zerotrie: names.trie: it looks like a file of gzip: gunzip it first\n",
+        left: ("names.trie", b"\x1f\x8b\x08"),
+    },
 ];
 
 /// The file of the names as bare bytes of a kind, which they are not: the number of a kind stands in front.
@@ -439,7 +447,7 @@ const NOTED: [Row; 1] = [Row {
             None,
         ),
     ),
-    status: Status::Done,
+    status: Status::Absent,
     printed: b"",
     told: b"zerotrie: names.trie: read as bare bytes, though its first byte is the number of kind simple: leave out --bare unless every key begins with that byte\n",
     left: ("names.trie", TRIE),

@@ -68,6 +68,7 @@ listing = option (codes "prefix") (letter (codes "p"))
     ∷ limit
     ∷ flag (codes "count") (letter (codes "c"))
     ∷ flag (codes "sorted") (letter (codes "S"))
+    ∷ quiet
     ∷ bare
     ∷ no_check
     ∷ []

@@ -132,10 +132,18 @@ IsHeading (task.Ask topic.Code) matches n name = name ≡ None
 IsHeading task.Diff matches n name = name ≡ None
 IsHeading (task.Combine selection) matches n name = name ≡ None
 
--- whether nothing is printed of what a task finds: by the flag of a comparison
+-- whether nothing is printed of what a task finds: by the flag of a listing, a search or a comparison
 abbrev pub IsQuiet : Task → ArgMatches → Bool → Type 0
 IsQuiet task.Build matches quiet = quiet ≡ false
-IsQuiet (task.Ask topic) matches quiet = quiet ≡ false
+IsQuiet (task.Ask topic.Get) matches quiet = quiet ≡ false
+IsQuiet (task.Ask topic.Longest) matches quiet = quiet ≡ false
+IsQuiet (task.Ask topic.Keys) matches quiet = quiet ≡ false
+IsQuiet (task.Ask topic.List) matches quiet = IsFlag (flag_of matches (codes "quiet")) quiet
+IsQuiet (task.Ask topic.Search) matches quiet = IsFlag (flag_of matches (codes "quiet")) quiet
+IsQuiet (task.Ask topic.Verify) matches quiet = quiet ≡ false
+IsQuiet (task.Ask topic.Stats) matches quiet = quiet ≡ false
+IsQuiet (task.Ask topic.Inspect) matches quiet = quiet ≡ false
+IsQuiet (task.Ask topic.Code) matches quiet = quiet ≡ false
 IsQuiet task.Diff matches quiet = IsFlag (flag_of matches (codes "quiet")) quiet
 IsQuiet (task.Combine selection) matches quiet = quiet ≡ false
 

@@ -1,5 +1,5 @@
 -- The words of a command line, and what they ask for.
-use Rattle.std.specs.Prelude.{◌≡◌, ◌≢◌, ◌⊎◌, ℕ, ◌-◌, List, [], ◌∷◌, Option, Some, None, Bool, true, false, Vec, codes, drop, eqb, length, map, unwrap_or}
+use Rattle.std.specs.Prelude.{◌≡◌, ◌≢◌, ◌⊎◌, ℕ, ◌-◌, List, [], ◌∷◌, Option, Some, None, Bool, true, false, Vec, codes, drop, eqb, length, map, min, unwrap_or}
 use Rattle.std.specs.Char.{to_ascii_lowercase}
 use Rattle.std.specs.Global.{Global}
 use Rattle.std.specs.Borrow.{Bor}
@@ -254,6 +254,17 @@ abbrev pub IsLimit : Option (List ℕ) → Option ℕ → Type 0
 IsLimit None limit = limit ≡ None
 IsLimit (Some word) None = ⊥
 IsLimit (Some word) (Some limit) = IsNumberOf word limit
+
+-- how many pairs are listed at most: as many as the limit says, but one if none is printed
+abbrev pub most_of : (quiet : Bool) → Option ℕ → Option ℕ
+most_of false limit = limit
+most_of true (Some limit) = Some (min limit 1)
+most_of true None = Some 1
+
+-- the same by the words
+abbrev pub IsMost : ArgMatches → Option ℕ → Type 0
+IsMost matches most = (quiet : Bool) × (limit : Option ℕ) × IsFlag (flag_of matches (codes "quiet")) quiet × IsLimit (word_of matches (codes "limit")) limit
+    × (most ≡ most_of quiet limit)
 
 -- the byte at which a key may end: the one byte of the word
 abbrev pub IsBorder : Option (List ℕ) → Option ℕ → Type 0
@@ -550,7 +561,7 @@ pub record IsListing (matches : ArgMatches) (IsChoice : Choice → Type 0) (IsOr
   pub format : IsListForm matches form
   pub chosen : IsChoice c
   pub ordered : IsOrdered o
-  pub most : IsLimit (word_of matches (codes "limit")) limit
+  pub most : IsMost matches limit
 
 -- Keys are near a word, and nothing says otherwise how they are listed than with how many edits make each.
 pub record AreMeasured (matches : ArgMatches) : Type 0 where
@@ -563,7 +574,7 @@ pub record AreMeasured (matches : ArgMatches) : Type 0 where
 
 -- what a search asks for, by whether distances are to be printed
 abbrev pub IsSearch : (distances : Bool) → ArgMatches → Question → Type 0
-IsSearch true matches q = (c : Choice) × (limit : Option ℕ) × AreMeasured matches × IsSought matches c × IsLimit (word_of matches (codes "limit")) limit × (q ≡ question.Distances c limit)
+IsSearch true matches q = (c : Choice) × (limit : Option ℕ) × AreMeasured matches × IsSought matches c × IsMost matches limit × (q ≡ question.Distances c limit)
 IsSearch false matches q = (f : Form) × (c : Choice) × (o : Order) × (limit : Option ℕ) × IsListing matches (IsSought matches) (IsSearchOrder matches) f c o limit × (q ≡ question.List f c o limit)
 
 -- a name is none of those in zerotrie.h, if the language is C; of keywords, tests show it

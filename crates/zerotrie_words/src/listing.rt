@@ -2,7 +2,7 @@
 
 ghost use Rattle.std.specs.Prelude.{◌≡◌, Some, IfErr, IfOk, IfSome, IfNone, codes};
 ghost use Rattle.zerotrie_words.specs.Refusals.{HasNoNumber, IsNoForm, IsSaid};
-ghost use Rattle.zerotrie_words.specs.Words.{IsLimit, IsListForm, IsOrder, IsSearchOrder, flag_of, form_word, near_by, order_by, word_of};
+ghost use Rattle.zerotrie_words.specs.Words.{IsLimit, IsListForm, IsMost, IsOrder, IsSearchOrder, flag_of, form_word, most_of, near_by, order_by, word_of};
 ghost use Rattle.zerotrie_queries.specs.declared.print.Form.{Form};
 
 use clap::ArgMatches;
@@ -98,4 +98,26 @@ pub fn limit_in(matches: &ArgMatches<'_>) -> Result<Option<usize>, &'static str>
         Ok(limit) => Ok(Some(limit)),
         Err(_) => Err("--limit asks for a number"),
     }
+}
+
+/// Returns how many pairs are listed at most: as many as the limit says, but one if none is printed.
+fn most_of(quiet: bool, limit: Option<usize>) -> Option<usize>
+    ensures { result ≡ most_of quiet limit }
+{
+    match (quiet, limit) {
+        (false, limit) => limit,
+        (true, Some(limit)) => Some(limit.min(1)),
+        (true, None) => Some(1),
+    }
+}
+
+/// Returns how many pairs are listed at most, which is one if none is printed. It is an error, with the
+/// message, if the word of the limit is no number, which clap refuses.
+pub fn most_in(matches: &ArgMatches<'_>) -> Result<Option<usize>, &'static str>
+    ensures most { IfOk result (IsMost matches.now) }
+    ensures refused { IfErr result (λ _. HasNoNumber 64 (word_of matches.now (codes "limit"))) }
+    ensures said { IfErr result IsSaid }
+{
+    let limit = limit_in(matches)?;
+    Ok(most_of(matches.get_flag("quiet"), limit))
 }

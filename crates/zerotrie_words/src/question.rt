@@ -10,7 +10,7 @@ ghost use Rattle.zerotrie_words.specs.Words.{AreMeasured, IsAsk, IsBorder, IsChe
 
 use crate::code::code_in;
 use crate::keys::keys_of;
-use crate::listing::{form_in, limit_in, order_in, search_order_in};
+use crate::listing::{form_in, limit_in, most_in, order_in, search_order_in};
 use crate::names::{kind_in, source_in, source_of};
 use crate::search::{choice_in, listed_in};
 use crate::task::Topic;
@@ -229,7 +229,7 @@ fn distances_in<'a>(matches: &ArgMatches<'a>) -> Result<Question<'a>, &'static s
     if let Some(why) = unmeasured_in(matches) {
         return Err(why);
     }
-    Ok(Question::Distances(choice_in(matches)?, limit_in(matches)?))
+    Ok(Question::Distances(choice_in(matches)?, most_in(matches)?))
 }
 
 /// Returns what a search asks for, whose pairs are printed in a format. It is an error, with the
@@ -243,7 +243,7 @@ fn found_in<'a>(matches: &ArgMatches<'a>) -> Result<Question<'a>, &'static str>
         form_in(matches)?,
         choice_in(matches)?,
         search_order_in(matches),
-        limit_in(matches)?,
+        most_in(matches)?,
     ))
 }
 
@@ -292,7 +292,7 @@ fn question_in<'w, 'a: 'w>(
             form_in(matches)?,
             listed_in(matches),
             order_in(matches),
-            limit_in(matches)?,
+            most_in(matches)?,
         )),
         Topic::Search => search_in(matches),
         Topic::Verify => Ok(Question::Verify),

@@ -115,8 +115,18 @@ impl<'a> Request<'a> {
         ensures { IsQuiet self.now.task self.now.matches result }
     {
         match self.task {
-            Task::Diff => self.matches.get_flag("quiet"),
-            Task::Build | Task::Ask(_) | Task::Combine(_) => false,
+            Task::Diff | Task::Ask(Topic::List | Topic::Search) => self.matches.get_flag("quiet"),
+            Task::Build
+            | Task::Ask(
+                Topic::Get
+                | Topic::Longest
+                | Topic::Keys
+                | Topic::Verify
+                | Topic::Stats
+                | Topic::Inspect
+                | Topic::Code,
+            )
+            | Task::Combine(_) => false,
         }
     }
 

@@ -154,6 +154,12 @@ const QUIET: Argument = Argument {
     help: "Report nothing but errors, even on a terminal",
 };
 
+const ONLY_ASK: Argument = Argument {
+    name: "quiet",
+    form: Form::Flag(Some('q')),
+    help: "Print nothing: the status alone says whether there is a pair",
+};
+
 const KIND: Argument = Argument {
     name: "kind",
     form: Form::OneOf("K", Some('k'), KINDS_OR_AUTO, Otherwise::Is("auto")),
@@ -226,11 +232,12 @@ const OF_FIRST: &[Argument] = &[
 ];
 
 /// What a status says, in the help of the program.
-pub const STATUSES: &str = "Status: 0 if all is done or found; 1 if a key is not there, a text\n\
-    begins with none, pairs differ, or a build is refused; 2 if the command\n\
-    line is wrong, FILE is no trie, IN is no pairs, or keys are no lines;\n\
-    3 if a file can't be read or written, or memory runs out; 4 if whoever\n\
-    reads the output has closed it.";
+pub const STATUSES: &str =
+    "Status: 0 if all is done or found; 1 if a key is not there, no pair is\n\
+    listed, a text begins with no key, pairs differ, or a build is refused;\n\
+    2 if the command line is wrong, FILE is no trie, IN is no pairs, or keys\n\
+    are no lines; 3 if a file can't be read or written, or memory runs out;\n\
+    4 if whoever reads the output has closed it.";
 
 /// The commands that build a trie and look up in it.
 const LOOK_UPS: &[Subcommand] = &[
@@ -365,9 +372,9 @@ const LISTINGS: &[Subcommand] = &[
         name: "list",
         about: "Print the pairs",
         help: "Example: zerotrie list names.trie --prefix am\n\
-            Status: 0 also if no key begins so, 2 if FILE is no trie.",
+            Status: 1 if no key is listed, 2 if FILE is no trie.",
         arguments: &[
-            FILE, PREFIX, FROM, BELOW, FORMAT, RAW, LIMIT, COUNT, SORTED, BARE, NO_CHECK,
+            FILE, PREFIX, FROM, BELOW, FORMAT, RAW, LIMIT, COUNT, SORTED, ONLY_ASK, BARE, NO_CHECK,
         ],
     },
     Subcommand {
@@ -381,7 +388,7 @@ const LISTINGS: &[Subcommand] = &[
             --prefix, --from and --below, or these alone. With --edits the nearest\n\
             keys come first; without it those of the fewest edits that find any,\n\
             up to 2, are printed. In kind ignore a letter is found in either case.\n\
-            Status: 0 also if no key is found, 2 if FILE is no trie.",
+            Status: 1 if no key is found, 2 if FILE is no trie.",
         arguments: &[
             FILE,
             Argument {
@@ -437,6 +444,7 @@ const LISTINGS: &[Subcommand] = &[
             LIMIT,
             COUNT,
             SORTED,
+            ONLY_ASK,
             BARE,
             NO_CHECK,
         ],

@@ -9,6 +9,7 @@ ghost use Rattle.zerotrie_run.specs.Told.{LineTold, TellsMore};
 
 use crate::ask::AskError;
 use crate::command::{Question, TrieFile};
+use crate::front::Hint;
 use crate::messages::build::other_words;
 use crate::messages::key::add_key;
 use crate::messages::line::{
@@ -57,16 +58,16 @@ fn malformed(
     Ok(text)
 }
 
-/// Returns what is said of a file whose kind is not known: it looks like text, or has no kind.
-fn tag_words(why: &TagError, is_text: bool) -> &'static str
-    ensures { result.now ≡ tag_words is_text why.now }
+/// Returns what is said of a file whose kind is not known: which other file it is, that it looks like text,
+/// or has no kind.
+fn tag_words(why: &TagError, hint: Hint) -> &'static str
+    ensures { result.now ≡ tag_words hint why.now }
 {
-    if is_text {
-        return "it looks like text: build it first";
-    }
-    match why {
-        TagError::Empty => "the file is empty",
-        TagError::InvalidTag => {
+    match (hint, why) {
+        (Hint::Text, _) => "it looks like text: build it first",
+        (Hint::Other(other), _) => other_words(other),
+        (Hint::Nothing, TagError::Empty) => "the file is empty",
+        (Hint::Nothing, TagError::InvalidTag) => {
             "not a file of zerotrie build: its first byte is the number of no kind; if it is bare bytes, name their kind by --bare"
         }
     }
@@ -100,14 +101,14 @@ pub fn no_trie(
     alloc: Global,
     file: TrieFile<'_>,
     why: &OpenError,
-    is_text: bool,
+    hint: Hint,
 ) -> Result<Vec<u8>, AllocError>
     ensures line { IfOk result (λ text. IsLineOn (source_name file.entry.place) text.items) }
-    ensures tells { IfOk result (λ text. TellsNoTrie why.now is_text text.items) }
+    ensures tells { IfOk result (λ text. TellsNoTrie why.now hint text.items) }
 {
     let path = source_name(file.place);
     match why {
-        OpenError::BadTag(why) => line_on(alloc, path, tag_words(why, is_text)),
+        OpenError::BadTag(why) => line_on(alloc, path, tag_words(why, hint)),
         OpenError::Damaged(why) => damaged(alloc, path, *why),
         OpenError::NotWellFormed(kind, fault) => malformed(alloc, file, *kind, *fault),
         OpenError::OutOfMemory => line_on(alloc, path, "out of memory"),
@@ -220,7 +221,7 @@ pub fn ask_text(alloc: Global, file: TrieFile<'_>, error: &AskError) -> Result<V
     match error {
         AskError::TwoInputs => two_inputs(alloc),
         AskError::Unread(error) => fault_on(alloc, path, error),
-        AskError::NoTrie(why, is_text) => no_trie(alloc, file, why, *is_text),
+        AskError::NoTrie(why, hint) => no_trie(alloc, file, why, *hint),
         AskError::NotText(key) => not_text(alloc, path, key.as_slice()),
         AskError::Unanswered(AnswerError::Input(error)) => fault_on(alloc, STANDARD_INPUT, error),
         AskError::Unanswered(AnswerError::NoLines(other)) => {

@@ -43,7 +43,7 @@ fn numbered<'a>(combine: Combine<'a>, number: usize) -> Place<'a>
 }
 
 /// Returns how one of the files is read.
-fn file_of(place: Place<'_>) -> TrieFile<'_>
+pub fn file_of(place: Place<'_>) -> TrieFile<'_>
     ensures { result ≡ file_of place.entry }
 {
     TrieFile {
@@ -93,8 +93,8 @@ pub fn combine_text(
         CombineError::Unopened(number, error) => {
             fault_on(alloc, source_name(numbered(combine, *number)), error)
         }
-        CombineError::NoTrie(number, why, is_text) => {
-            no_trie(alloc, file_of(numbered(combine, *number)), why, *is_text)
+        CombineError::NoTrie(number, why, hint) => {
+            no_trie(alloc, file_of(numbered(combine, *number)), why, *hint)
         }
         CombineError::NoValue(why, key) => no_value(alloc, to, *why, key.as_slice()),
         CombineError::NotBuilt(error) => unbuilt(alloc, to, PairUnit::Pair, to, error),

@@ -1,8 +1,9 @@
 use Rattle.std.proofs.Common.{rules, inl, inr, subst}
 use Rattle.std.proofs.lemmas.Result.{err_from_is_err_and}
 use Rattle.std.specs.Io.Buffered.{writer_contents}
-use Rattle.zerotrie_run.specs.Runs.{HasNumberToo, IsAsked}
-use Rattle.zerotrie_run.proofs.AskLemmas.{kept_content, same_answer, answer_in_part, same_keys, same_part, is_not, ends_unanswered, reason_unanswered}
+use Rattle.zerotrie_run.specs.Runs.{HasNumberToo, IsAsked, IsRefusedUnread, asks_index}
+use Rattle.zerotrie_run.proofs.FrontLemmas.{ends_refused, reason_refused}
+use Rattle.zerotrie_run.proofs.AskLemmas.{kept_content, same_answer, answer_in_part, same_keys, same_part, is_not, ends_unanswered, reason_unanswered, left_alone, not_misused}
 use Rattle.zerotrie_run.proofs.ask.ask.Goals as goal
 
 pub returns-in-Ok-hand_on-clause-ok : goal.returns-in-Ok-hand_on-clause-ok
@@ -62,6 +63,18 @@ returns-in_err-all-clause-err g c =
     (λ both. is_not c.reads_twice.result c.if-reads_twice.false (c.reads_twice.ensures.1 both)) c.read_place.ensures.untouched h)
     c.in_err-all.ensures.err)
 
+pub returns-in_err-all-clause-quiet : goal.returns-in_err-all-clause-quiet
+returns-in_err-all-clause-quiet g c = λ none.
+    c.tell_number.ensures.quiet (λ both. none (c.as_slice-held.result.now, rw c.as_slice-held.ensures.value c.in-Ok.ensures.read, both))
+
+pub returns-in_err-all-clause-unread : goal.returns-in_err-all-clause-unread
+returns-in_err-all-clause-unread g c =
+    let contents = writer_contents g.W.Write.contents in
+    let same = err_from_is_err_and c.from_residual-in_err-all.result c.from_residual-in_err-all.ensures.1 in
+    rw (same.1, same.2) (left_alone c.args.file c.args.question c.args.input.now c.read_place.new.input c.answer_held.new.input c.in_err-all.field-0.0
+    (not_misused c.args.file c.args.question (g.R.Read.remaining c.read_place.new.input.inner) c.as_slice-held.result.now (contents c.args.output.now.inner) (contents c.answer_held.new.output.inner) c.in_err-all.field-0.0
+    c.in_err-all.ensures.err) c.read_place.ensures.untouched c.in_err-all.ensures.unread)
+
 pub returns-in_err-all-clause-why : goal.returns-in_err-all-clause-why
 returns-in_err-all-clause-why g c =
     let contents = writer_contents g.W.Write.contents in
@@ -80,3 +93,21 @@ returns-in-Some-clause-notes g c = λ fine.
     let files = g.D.Disk.story c.args.files.now.disk in
     let asked : IsAsked c.args.file c.args.question input files (contents c.args.output.now.inner) (contents c.print.new.output.inner) c.in-Some.all = search rules in
     (asked.held, asked.read, λ number. absurd (subst (λ named. HasNumberToo named asked.held) c.in-Some.ensures.named number))
+
+pub returns-in-Some-refused_by_front-clause-err : goal.returns-in-Some-refused_by_front-clause-err
+returns-in-Some-refused_by_front-clause-err g c =
+    let files = g.D.Disk.story c.args.files.now.disk in
+    let why = c.in-Some-refused_by_front.why in
+    let hint = c.in-Some-refused_by_front.hint in
+    let takes = subst (λ takes. IsRefusedUnread c.args.file takes (g.D.Disk.story c.disk-2.result.now) why hint) c.asks_index.ensures c.in-Some-refused_by_front.ensures in
+    let refused = subst (λ disk. IsRefusedUnread c.args.file (asks_index c.args.question) (g.D.Disk.story disk) why hint) c.disk-2.ensures takes in
+    ends_refused c.args.file c.args.question (g.R.Read.remaining c.args.input.now.inner) files (writer_contents g.W.Write.contents c.args.output.now.inner) why hint refused
+
+pub returns-in-Some-refused_by_front-clause-why : goal.returns-in-Some-refused_by_front-clause-why
+returns-in-Some-refused_by_front-clause-why g c =
+    let files = g.D.Disk.story c.args.files.now.disk in
+    let why = c.in-Some-refused_by_front.why in
+    let hint = c.in-Some-refused_by_front.hint in
+    let takes = subst (λ takes. IsRefusedUnread c.args.file takes (g.D.Disk.story c.disk-2.result.now) why hint) c.asks_index.ensures c.in-Some-refused_by_front.ensures in
+    let refused = subst (λ disk. IsRefusedUnread c.args.file (asks_index c.args.question) (g.D.Disk.story disk) why hint) c.disk-2.ensures takes in
+    reason_refused c.args.file c.args.question (g.R.Read.remaining c.args.input.now.inner) files why hint refused

@@ -3,11 +3,11 @@ use Rattle.std.proofs.lemmas.Result.{err_from_is_err_and}
 use Rattle.std.specs.Io.Buffered.{writer_contents}
 use Rattle.std.proofs.KnownBytes.{Appends-trans}
 use Rattle.std.specs.Io.KnownBytes.{Appends}
-use Rattle.zerotrie_run.specs.Combined.{AreRead}
+use Rattle.zerotrie_run.specs.Combined.{AreRead, IsRefusedIn}
 use Rattle.zerotrie_run.specs.Messages.{target_name}
 use Rattle.zerotrie_run.specs.Runs.{IsKept, IsWritten, world}
 use Rattle.zerotrie_run.specs.Told.{told_left}
-use Rattle.zerotrie_run.proofs.CombinedLemmas.{uncombined_cause, uncombined_ends}
+use Rattle.zerotrie_run.proofs.CombinedLemmas.{refused_cause, refused_ends, uncombined_cause, uncombined_ends}
 use Rattle.zerotrie_run.proofs.combine.make_file.Goals as goal
 
 pub returns-in_err-made-clause-err : goal.returns-in_err-made-clause-err
@@ -81,3 +81,15 @@ returns-clause-err g c =
       kept = subst (λ f. IsKept to file (world f old) after) (ap story c.in_ok-held.ensures.same)
           (subst (λ b. IsKept to b (world (story c.read_all.new.files.disk) old) after) c.as_slice-2.ensures.value c.in-Err.ensures.err);
     })
+
+pub returns-in-Some-clause-err : goal.returns-in-Some-clause-err
+returns-in-Some-clause-err g c =
+    let files = g.D.Disk.story c.args.files.now.disk in
+    let refused = subst (λ disk. IsRefusedIn c.args.combine.from.now (g.D.Disk.story disk) c.in-Some.number c.in-Some.why c.in-Some.hint) c.disk.ensures c.in-Some.ensures in
+    refused_ends c.args.combine (g.R.Read.remaining c.args.input.now.inner) files (writer_contents g.W.Write.contents c.args.output.now.inner) c.in-Some.number c.in-Some.why c.in-Some.hint refused
+
+pub returns-in-Some-clause-why : goal.returns-in-Some-clause-why
+returns-in-Some-clause-why g c =
+    let files = g.D.Disk.story c.args.files.now.disk in
+    let refused = subst (λ disk. IsRefusedIn c.args.combine.from.now (g.D.Disk.story disk) c.in-Some.number c.in-Some.why c.in-Some.hint) c.disk.ensures c.in-Some.ensures in
+    refused_cause c.args.combine (g.R.Read.remaining c.args.input.now.inner) files c.in-Some.number c.in-Some.why c.in-Some.hint refused
