@@ -10,7 +10,7 @@ use Rattle.zerotrie_core.specs.Kinds.{kind_of}
 use Rattle.zerotrie_core.specs.declared.TrieKind.{TrieKind}
 use Rattle.zerotrie_files.specs.Parts.{AppendsPart}
 use Rattle.zerotrie_queries.specs.Listed.{AreListed, AreListedInPart, AreMeasuredInPart, AreUnlisted, ArePrinted, limited, nearest_lines}
-use Rattle.zerotrie_queries.specs.Printed.{listed, pair_lines}
+use Rattle.zerotrie_queries.specs.Printed.{lines_of, listed, pair_line}
 use Rattle.zerotrie_queries.specs.Json.{IsFirstNoText}
 use Rattle.zerotrie_queries.specs.declared.print.Form.{Form}
 use Rattle.zerotrie_queries.specs.declared.print.Form.TheVariants.{Lines}
@@ -21,11 +21,11 @@ use Rattle.zerotrie_queries.specs.declared.listing.ListError.TheVariants.{NotTex
 use Rattle.zerotrie_run.specs.Runs.{AreFound, has_pair, limit_shown}
 
 -- a line has a byte
-line_some : (key : List ℕ) (value : ℕ) → (length (pair_lines Keys ((key, value) ∷ [])) == 0) ≡ false
+line_some : (key : List ℕ) (value : ℕ) → (length (lines_of (pair_line Keys) ((key, value) ∷ [])) == 0) ≡ false
 line_some key value = ne_eqb _ 0 (omega (arith, length-append (key ++ 10 ∷ []) [], length-append key (10 ∷ [])))
 
 -- the lines of at most one pair say whether there is one, whatever the limit is, if it is not 0
-by_limit : (limit : Option ℕ) (pairs : Pairs) → limit ≢ Some 0 → not (length (pair_lines Keys (take 1 pairs)) == 0) ≡ has_pair (limited limit pairs)
+by_limit : (limit : Option ℕ) (pairs : Pairs) → limit ≢ Some 0 → not (length (lines_of (pair_line Keys) (take 1 pairs)) == 0) ≡ has_pair (limited limit pairs)
 by_limit None [] some = refl
 by_limit None (e ∷ pairs) some = ap not (line_some e.0 e.1)
 by_limit (Some zero) pairs some = absurd (some refl)
