@@ -331,6 +331,8 @@ pub fn kind_kept(named: Option<TrieKind>, tries: &[TrieRef<'_>]) -> Option<TrieK
 /// Makes the file of the union, the intersection or a difference of tries, of any kinds.
 ///
 /// ```
+/// use zerotrie_sets::Selection;
+///
 /// // the keys "a" and "b", and the keys "b" and "c"
 /// let tries = [
 ///     TrieRef { kind: TrieKind::Simple, bytes: b"\xC2ab\x01\x81\x82" },

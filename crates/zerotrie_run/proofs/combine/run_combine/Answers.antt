@@ -8,7 +8,7 @@ use Rattle.zerotrie_run.specs.declared.command.Command.TheVariants as commands
 use Rattle.zerotrie_run.proofs.CombinedEnds.{combine_end, combine_ends}
 use Rattle.zerotrie_run.proofs.CombinedTold.{combine_told}
 use Rattle.zerotrie_run.proofs.NoteLemmas.{was_refused}
-use Rattle.zerotrie_run.proofs.ToldLemmas.{end_not_closed, not_open}
+use Rattle.zerotrie_run.proofs.ToldLemmas.{end_closed, end_not_closed, end_pipe_closed, end_unread, end_unwritten, not_open}
 use Rattle.zerotrie_run.proofs.combine.run_combine.Goals as goal
 
 pub returns-then-have_two_streams-clause-told : goal.returns-then-have_two_streams-clause-told
@@ -41,6 +41,58 @@ returns-in-Err-clause-runs g c =
     let closed = c.combine.new.output.closed || c.combine.new.files.closed in
     combine_ends c.args.given (g.R.Read.remaining c.args.input.now.inner) (world (story c.args.files.now.disk) (printed c.args.output.now.inner)) (world (story c.combine.new.files.disk) (printed c.combine.new.output.inner))
     read write closed c.in-Err.error c.end_of-status.result c.end.result c.combine_text.result c.in-Err.ensures.err (rw c.refusal.ensures at c.end_of-status.ensures) c.end.ensures.status
+
+pub returns-in-Err-clause-read_failed : goal.returns-in-Err-clause-read_failed
+returns-in-Err-clause-read_failed g c =
+    let read = c.combine.new.input.failed in
+    let unread = c.combine.new.files.unread in
+    let write = c.combine.new.output.failed in
+    let unwritten = c.combine.new.files.unwritten in
+    let closed = c.combine.new.output.closed in
+    let gone = c.combine.new.files.closed in
+    let refusal = combine_refusal c.in-Err.error in
+    let result = c.end.result in
+    let end = combine_end (read || unread) (write || unwritten) (closed || gone) c.in-Err.error c.end_of-status.result result c.combine_text.result (rw c.refusal.ensures at c.end_of-status.ensures) c.end.ensures.status in
+    end_unread read unread (write || unwritten) (closed || gone) refusal result end
+
+pub returns-in-Err-clause-write_failed : goal.returns-in-Err-clause-write_failed
+returns-in-Err-clause-write_failed g c =
+    let read = c.combine.new.input.failed in
+    let unread = c.combine.new.files.unread in
+    let write = c.combine.new.output.failed in
+    let unwritten = c.combine.new.files.unwritten in
+    let closed = c.combine.new.output.closed in
+    let gone = c.combine.new.files.closed in
+    let refusal = combine_refusal c.in-Err.error in
+    let result = c.end.result in
+    let end = combine_end (read || unread) (write || unwritten) (closed || gone) c.in-Err.error c.end_of-status.result result c.combine_text.result (rw c.refusal.ensures at c.end_of-status.ensures) c.end.ensures.status in
+    end_unwritten (read || unread) write unwritten (closed || gone) refusal result end
+
+pub returns-in-Err-clause-closed : goal.returns-in-Err-clause-closed
+returns-in-Err-clause-closed g c =
+    let read = c.combine.new.input.failed in
+    let unread = c.combine.new.files.unread in
+    let write = c.combine.new.output.failed in
+    let unwritten = c.combine.new.files.unwritten in
+    let closed = c.combine.new.output.closed in
+    let gone = c.combine.new.files.closed in
+    let refusal = combine_refusal c.in-Err.error in
+    let result = c.end.result in
+    let end = combine_end (read || unread) (write || unwritten) (closed || gone) c.in-Err.error c.end_of-status.result result c.combine_text.result (rw c.refusal.ensures at c.end_of-status.ensures) c.end.ensures.status in
+    end_closed (read || unread) write unwritten (closed || gone) refusal result end
+
+pub returns-in-Err-clause-pipe_closed : goal.returns-in-Err-clause-pipe_closed
+returns-in-Err-clause-pipe_closed g c =
+    let read = c.combine.new.input.failed in
+    let unread = c.combine.new.files.unread in
+    let write = c.combine.new.output.failed in
+    let unwritten = c.combine.new.files.unwritten in
+    let closed = c.combine.new.output.closed in
+    let gone = c.combine.new.files.closed in
+    let refusal = combine_refusal c.in-Err.error in
+    let result = c.end.result in
+    let end = combine_end (read || unread) (write || unwritten) (closed || gone) c.in-Err.error c.end_of-status.result result c.combine_text.result (rw c.refusal.ensures at c.end_of-status.ensures) c.end.ensures.status in
+    end_pipe_closed (read || unread) (write || unwritten) closed gone refusal result end
 
 pub returns-in-Err-clause-not_closed : goal.returns-in-Err-clause-not_closed
 returns-in-Err-clause-not_closed g c =
