@@ -27,7 +27,7 @@ TOGETHER = 24900  # words of all pages that have a limit
 # How many words a page may have: words have a letter or a digit, so the bars of a table are none. CHANGELOG.md grows.
 LIMITS = {
     "README.md": 845,
-    "CONTRIBUTING.md": 1760,
+    "CONTRIBUTING.md": 1780,
     "bindings/README.md": 330,
     "bindings/python/README.md": 120,
     "crates/zerotrie_cli/NOTES.md": 732,
@@ -45,11 +45,11 @@ LIMITS = {
     "docs/MODEL.md": 1960,
     "docs/README.md": 190,
     "docs/SPEED.md": 1090,
-    "docs/speed/fast.md": 540,
-    "docs/speed/tables.md": 1340,
+    "docs/speed/fast.md": 510,
+    "docs/speed/tables.md": 1055,
     "examples/README.md": 250,
     "release/README.md": 290,
-    "rust/README.md": 225,
+    "rust/README.md": 401,
     "rust/zerotrie/README.md": 180,
 }
 # Pages for users of a language are as long as they have to be.

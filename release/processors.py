@@ -39,10 +39,10 @@ def unpacked(processor):
 
 
 def by_library(processor, compiler, player, library):
-    """The library's test in C, linked with a library of an archive."""
+    """The library's tests in C, linked with a library of an archive."""
     folder = unpacked(processor)
-    test = release.parent / "bindings/tests/test.c"
-    run(*compiler, "-std=c11", "-O2", f"-I{folder}/include", test, folder / "lib" / library, f"-Wl,-rpath,{folder}/lib", "-o", room / "test")
+    tests = sorted((release.parent / "bindings/c/tests").glob("test_*.c"))
+    run(*compiler, "-std=c11", "-O2", f"-I{folder}/include", *tests, folder / "lib" / library, f"-Wl,-rpath,{folder}/lib", "-o", room / "test")
     run(*player, room / "test")
 
 
@@ -64,8 +64,8 @@ def by_wheel():
 
 tried("the program on the first x86-64", by_program)
 for library in ("libzerotrie.a", "libzerotrie.so"):
-    tried(f"{library} and its test in C on the first x86-64", lambda: by_library("x86_64", ["cc"], oldest, library))
-    tried(f"{library} and its test in C on ARM", lambda: by_library("aarch64", ["aarch64-linux-gnu-gcc"], arm, library))
+    tried(f"{library} and its tests in C on the first x86-64", lambda: by_library("x86_64", ["cc"], oldest, library))
+    tried(f"{library} and its tests in C on ARM", lambda: by_library("aarch64", ["aarch64-linux-gnu-gcc"], arm, library))
 tried("the archive for ARM by pkg-config", lambda: by_pkg_config(unpacked("aarch64")))
 if debian.exists():
     tried("the wheel in Debian's Python on ARM", by_wheel)

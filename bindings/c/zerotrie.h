@@ -186,7 +186,7 @@ typedef enum zerotrie_status ZEROTRIE_ENUM {
     ZEROTRIE_UNKNOWN_SEARCH = 20,
     /** zerotrie_search_some(): the pattern is malformed, or the word is not UTF-8 */
     ZEROTRIE_MALFORMED_SEARCH = 21,
-    /** zerotrie_search_some(): the pattern, the word or the number of edits is over its limit */
+    /** zerotrie_search_some(): the pattern or the word is over its limit */
     ZEROTRIE_SEARCH_TOO_LONG = 22,
     /** zerotrie_index_build(): too many keys share a bucket under this seed; this is rare */
     ZEROTRIE_CROWDED = 23,
@@ -195,7 +195,9 @@ typedef enum zerotrie_status ZEROTRIE_ENUM {
     /** zerotrie_combine(): the sum of the values of a key is 2^64 or more */
     ZEROTRIE_SUM_TOO_LARGE = 25,
     /** zerotrie_combine(), zerotrie_diff_some(): the bytes of a trie are not valid */
-    ZEROTRIE_MALFORMED_TRIE = 26
+    ZEROTRIE_MALFORMED_TRIE = 26,
+    /** zerotrie_search_some(): more edits are asked for than it takes */
+    ZEROTRIE_TOO_MANY_EDITS = 27
 } zerotrie_status;
 
 /** The rule of the format that malformed bytes break first. */
@@ -861,8 +863,8 @@ zerotrie_status zerotrie_list_some(zerotrie_kind_number kind, const uint8_t *byt
  * written: ZEROTRIE_UNKNOWN_SEARCH, if no search or no bound that it uses has its number;
  * ZEROTRIE_MALFORMED_SEARCH, of a pattern where a class has no end or no byte, or the last byte is
  * a backslash that escapes nothing, or of a word that is not UTF-8; ZEROTRIE_SEARCH_TOO_LONG, of a
- * pattern of more than 63 items, or of a word of more than 63 bytes or characters, or of more than
- * 254 edits, with swaps more than 7.
+ * pattern of more than 63 items, or of a word of more than 63 bytes or characters;
+ * ZEROTRIE_TOO_MANY_EDITS, of more than 254 edits, with swaps more than 7.
  *
  *     zerotrie_search near = zerotrie_fuzzy("exampel", 7, 1);
  *     status = zerotrie_search_some(kind, trie, len, NULL, 0, &near, false, NULL, 0, keys,
@@ -2217,12 +2219,12 @@ ZEROTRIE_INLINE const char *zerotrie_status_text(uint32_t status) {
     case ZEROTRIE_UNKNOWN_SEARCH: return "no search, or no bound, has the number";
     case ZEROTRIE_MALFORMED_SEARCH: return "the pattern is malformed, or the word is not UTF-8";
     case ZEROTRIE_SEARCH_TOO_LONG:
-        return "a pattern has at most 63 items, a word at most 63 letters, and at most 254 edits, "
-               "with swaps 7, are allowed";
+        return "a pattern has at most 63 items, and a word at most 63 letters";
     case ZEROTRIE_CROWDED: return "too many keys share a bucket: build from another seed";
     case ZEROTRIE_UNKNOWN_SELECTION: return "no selection, or no rule, has the number";
     case ZEROTRIE_SUM_TOO_LARGE: return "the sum of the values of a key is 2^64 or more";
     case ZEROTRIE_MALFORMED_TRIE: return "the bytes of a trie are not valid: get them anew";
+    case ZEROTRIE_TOO_MANY_EDITS: return "at most 254 edits are allowed, and with swaps at most 7";
     default: return "Unknown status";
     }
 }

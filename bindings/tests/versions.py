@@ -35,7 +35,7 @@ def written():
         for part in ("MAJOR", "MINOR", "PATCH")
     ]
     yield "crates/zerotrie_c/src/version.rt", ".".join(parts)
-    for package in ("zerotrie", "zerotrie_c"):
+    for package in ("zerotrie", "zerotrie_c", "zerotrie_cli"):
         manifest = f"rust/{package}/Cargo.toml"
         yield manifest, found(f"../{manifest}", r'^version = "(.*)"')
     yield "bindings/js/package.json", found("js/package.json", r'^\s*"version": "(.*)"')

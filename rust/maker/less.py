@@ -1,5 +1,6 @@
 """What plain Rust writes in another way, so that there is less to compile: std's sorts are not made anew for each kind of trie, builders
-read items of one form, and a build by a type is of its kind alone. Each text must be in its file once.
+read items of one form, and a build by a type is of its kind alone. A number is read by as many digits as always fit into `usize`. Each text
+must be in its file once.
 """
 import re
 
@@ -146,6 +147,15 @@ pub fn len_ascending<K: ZeroTrieWithOptions, A: Allocator + Copy>(
     "zerotrie_build/mod.rs": {
         "pub use builder::{ZeroTrieBuilder, build_slice, encoded_len};": """\
 pub use builder::{ZeroTrieBuilder, build_ascending, build_given, build_slice, encoded_len, len_ascending};""",
+    },
+    "zerotrie_lines/items.rs": {
+        "/// It reads at most eighteen digits,": "/// It reads at most `MOST_DIGITS` digits,",
+        "while count < 18 &&": "while count < MOST_DIGITS &&",
+        "/// Reads the digits that a text begins with": """\
+/// As many nines as fit.
+const MOST_DIGITS: usize = if usize::BITS == 64 { 18 } else { 9 };
+
+/// Reads the digits that a text begins with""",
     },
     "zerotrie_any/routes.rs": {
         """\

@@ -22,6 +22,8 @@ FITS = {
     "zerotrie_index/placed.rs": "len",
     "zerotrie_index/reader.rs": "bucket_of() count >>32",
     "zerotrie_index/well_formed.rs": "len",
+    "zerotrie_lines/": "-b'0'",
+    "zerotrie_queries/reports/lines.rs": "/keysasu128",  # hundredths
     "zerotrie_reverse/": "%latent place",
     "zerotrie_sealed/": "%256 bytes:VERSION bytes:checksum bytes:crc32c() bytes:number",
     "zerotrie_search/glob/": "letter place",

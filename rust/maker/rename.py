@@ -8,6 +8,11 @@ LIBRARIES = {
     "arrayvec": "rstd::arrayvec",
     "serde_json": "rstd::serde_json",
     "linked_list_allocator": "rstd::linked_list_allocator",
+    "clap": "rstd::clap",
+    "csv": "rstd::csv",
+    "itoa": "rstd::itoa",
+    "json": "rstd::json",
+    "memchr": "rstd::memchr",
 }
 # a crate whose module has another name: else `use zerotrie::*` would bring a second `zerotrie` into a program
 MODULES = {"zerotrie": "zerotrie_all"}
@@ -22,10 +27,13 @@ METHODS_WITH_ALLOCATOR = {"collect": "collect_in"}
 INFALLIBLE_METHODS = {"clone", "sort", "sort_by_key"}
 INFALLIBLE_WITH_ALLOCATOR = {"to_ascii_lowercase"}
 METHODS = {*FALLIBLE_METHODS, *METHODS_WITH_ALLOCATOR, *INFALLIBLE_METHODS, *INFALLIBLE_WITH_ALLOCATOR}
-# macros that stay, those that lose the runtime or the allocator with the error that they return for it, and those of the shim
-KEPT_MACROS = {"matches", "unreachable", "write", "writeln", "by_kind", "by_flavor", "by_automaton", "by_listing", "macro_rules"}
-MACROS_WITH_RUNTIME = {"assert", "assert_eq", "assert_ne", "panic", "println", "eprintln", "format"}
+# macros that stay, those that lose the runtime or the allocator with the error that they return for it, and those of the shim; what prints
+# is one of the shim if its error is not handed on, as Rust's own ends the program
+KEPT_MACROS = {"matches", "unreachable", "write", "writeln", "macro_rules"}
+KEPT_MACROS |= {"by_kind", "by_flavor", "by_automaton", "by_listing", "by_pairs"}
+MACROS_WITH_RUNTIME = {"assert", "assert_eq", "assert_ne", "panic", "format"}
 SHIM_MACROS = {"vec": "vec_in"}
+PRINTS = {"print", "println", "eprint", "eprintln"}
 OPERATORS = {"if", "while", "return", "match", "in", "else", "let"}
 
 
@@ -34,6 +42,7 @@ def rename(source, crate, crates, root="crate", home=""):
     own_methods(source)
     formats(source)
     strings(source, root)
+    pushes(source)
     methods(source)
     macros(source, root)
     paths(source, crate, crates, root, home)
@@ -45,8 +54,9 @@ def module(crate):
 
 def paths(source, crate, crates, root, home):
     """Names each crate as a module of the package, and the libraries below it as modules of the shim. The modules are in `home`, from
-    where the root of the package hands them on; only what is visible in one has to name it.
+    where the root of the package hands them on; only what is visible in one has to name it. A module that the source declares is its own.
     """
+    own = {source.word(source.after(it)) for it in source.each("mod")}
     for at in source.each("crate", *crates, *LIBRARIES):
         word = source.word(at)
         is_path = source.match(at, f"{word}::")
@@ -58,7 +68,7 @@ def paths(source, crate, crates, root, home):
                 source.put(at, is_path + 1, f"crate::{public}")
             else:
                 source.put(at, at + 1, f"crate::{module(crate)}" if is_path else f"in crate::{home}{module(crate)}")
-        elif is_path and not follows_path(source, at):
+        elif is_path and word not in own and not follows_path(source, at):
             source.put(at, at + 1, f"{root}::{LIBRARIES.get(word, module(word))}")
 
 
@@ -71,6 +81,20 @@ def strings(source, root):
     for at in source.each("String"):
         if any(source.match(at, it) for it in STRING_FUNCTIONS) and not follows_path(source, at):
             source.put(at, at + 1, f"{root}::rstd::string")
+
+
+def pushes(source):
+    """A character that is added to a `String` of the function's parameters may lack memory."""
+    for at in source.each("String"):
+        start = source.before(source.before(at))
+        if source.match(start, "&mut String"):
+            name = source.word(source.before(source.before(start)))
+            body = source.find(at, "{", ";")
+            for it in range(body, source.close(body) if source.word(body) == "{" else body):
+                end = source.match(it, f"{name}.push(")
+                if end:
+                    push = source.before(source.before(end))
+                    source.put(push, push + 1, "try_push")
 
 
 def own_methods(source):
@@ -106,7 +130,7 @@ def macros(source, root):
             continue
         if word in SHIM_MACROS:
             source.put(name, name + 1, f"{root}::rstd::{SHIM_MACROS[word]}")
-        elif word in MACROS_WITH_RUNTIME:
+        elif word in MACROS_WITH_RUNTIME or word in PRINTS:
             without_runtime(source, root, name, bracket)
         elif word not in KEPT_MACROS:
             source.refuse(name, f"the macro {word}")
@@ -114,12 +138,14 @@ def macros(source, root):
 
 def without_runtime(source, root, name, bracket):
     """Takes the runtime or the allocator from a macro. One that returned an error for that does so no more."""
-    if not source.match(bracket, "(rt;") and not source.match(bracket, "(in "):
+    if not any(source.match(bracket, it) for it in ("(rt;", "(&rt;", "(in ")):
         source.refuse(name, "a macro without the runtime")
     source.cut(bracket + 1, source.after(source.find(bracket, ";")))
     end = source.close(bracket)
     if source.word(source.after(end)) == "?":
         source.cut(end + 1, source.after(end) + 1)
+    elif source.word(name) in PRINTS:
+        source.put(name, name + 1, f"{root}::rstd::{source.word(name)}")
     elif source.word(name) == "format":
         source.put(name, name + 1, f"Ok::<_, {root}::rstd::alloc::AllocError>(format")
         source.put(end, end + 1, "))")

@@ -27,6 +27,7 @@ UNKNOWN = {
     "#[derive(Error)]\nstruct A;\n": 2,
     "fn f() {\n    todo!()\n}": 2,
     "fn f() {\n    assert!(x)\n}": 2,
+    "fn f() {\n    print!(x)\n}": 2,
     "fn f(\n    rt: &HostRuntime,\n) {}": 2,
     "impl Clone for A {\n    fn clone(&self) -> Result<Self, AllocError> {\n        self.x.clone()\n    }\n}": 2,
     "impl D for A {\n    fn fmt(&self, f: &mut Formatter<W>) {}\n}": 2,
@@ -72,6 +73,10 @@ KEPT = {
 KEPT |= {
     SAME.replace("x as", "byte as"): SAME.replace("x as", "byte as"),
     "fn f()\n    requires { x' = '{' → y'' '}' = f' x }\n{\n    a();\n}\n": "fn f() {\n    a();\n}\n",
+    # what the shim has in the place of Rust's own
+    "fn f(a: &mut String, b: &mut Vec<char>) {\n    a.push(c)?;\n    b.push(c)?;\n}\n": "    a.try_push(c)?;\n    b.push(c)?;\n",
+    'fn f() {\n    let _ = println!(rt; "a");\n    println!(rt; "b")?;\n}\n': '    let _ = crate::rstd::println!("a");\n    println!("b");\n',
+    "mod json;\nuse json::Aa;\nuse csv::Bb;\n": "use json::Aa;\nuse crate::rstd::csv::Bb;\n",
     '#[derive(Error)]\n#[error("a", self.n())]\npub struct A {\n    pub(crate) x: u8,\n    pub y: u8,\n}\n': "let Self { x, y } = self;",
 }
 

@@ -26,7 +26,7 @@ class Kind(IntEnum):
 
 DONE, NON_ASCII, MIXED_CASE, ILLEGAL_DELIMITER, DUPLICATE_KEY, UNSORTED = 0, 1, 4, 5, 6, 7
 TOO_SMALL, NO_MEMORY, UNKNOWN_KIND, NO_TAG, INVALID_TAG, NO_ENTRY = 8, 11, 12, 13, 14, 15
-DAMAGED, UNKNOWN_VERSION, SEARCH_TOO_LONG, SUM_TOO_LARGE, MALFORMED_TRIE = 18, 19, 22, 25, 26
+DAMAGED, UNKNOWN_VERSION, SUM_TOO_LARGE, MALFORMED_TRIE = 18, 19, 25, 26
 
 #: The texts of the statuses from 0 on, as zerotrie.h has them. The test compares them.
 TEXTS = (
@@ -52,11 +52,12 @@ TEXTS = (
     "the sealed file has another version of the format: take a library that knows it",
     "no search, or no bound, has the number",
     "the pattern is malformed, or the word is not UTF-8",
-    "a pattern has at most 63 items, a word at most 63 letters, and at most 254 edits, with swaps 7, are allowed",
+    "a pattern has at most 63 items, and a word at most 63 letters",
     "too many keys share a bucket: build from another seed",
     "no selection, or no rule, has the number",
     "the sum of the values of a key is 2^64 or more",
     "the bytes of a trie are not valid: get them anew",
+    "at most 254 edits are allowed, and with swaps at most 7",
 )
 
 #: The texts of the rules of the format, by their numbers from 1 on. The test compares them.

@@ -6,11 +6,11 @@ import ctypes
 from ctypes import c_size_t, c_uint8
 from typing import TYPE_CHECKING, Any, Generic, NamedTuple
 
-from ._errors import TOO_SMALL
+from ._errors import TOO_SMALL, check_status
 from ._library import lib
 from ._pairs import Key, key_bytes, whole_number
 from ._readers import Word
-from ._search import check_search, edits_by, limit_of
+from ._search import edits_by
 
 if TYPE_CHECKING:
     from . import _Trie
@@ -52,7 +52,7 @@ def nearest(
             kind, at, length, edits_by(word, swaps), text, len(text), number, keys, room, ends, places,
             values, places, distances, places, count, next_len)
         if status != TOO_SMALL:
-            check_search(status, limit_of(word, number, swaps))
+            check_status(status)
         elif count.value == most:
             break
         elif count.value == places:

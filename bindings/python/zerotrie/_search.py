@@ -5,7 +5,7 @@ from __future__ import annotations
 from ctypes import addressof, c_uint8
 from typing import Any, Optional
 
-from ._errors import SEARCH_TOO_LONG, ZeroTrieError, check_status
+from ._errors import check_status
 from ._library import EXCLUDED, INCLUDED, UNBOUNDED, Bytes, RawSearch, lib
 from ._pairs import Key, key_bytes, whole_number
 
@@ -40,9 +40,9 @@ class Search:
         """Where the structure is."""
         return addressof(self._raw)
 
-    def checked(self, limit: str) -> Search:
-        """The search, if it is one. ZeroTrieError if not, whose text is `limit` if it is too long."""
-        check_search(lib.zerotrie_search_check(self._raw), limit)
+    def checked(self) -> Search:
+        """The search, if it is one, and else ZeroTrieError."""
+        check_status(lib.zerotrie_search_check(self._raw))
         return self
 
     @classmethod
@@ -72,31 +72,14 @@ class Search:
     def glob(cls, pattern: Key) -> Search:
         """The keys that a pattern matches: by characters if it is text, and else by bytes."""
         by = BY_CHAR_GLOB if isinstance(pattern, str) else BY_GLOB
-        return cls(by, key_bytes(pattern)).checked("a pattern has at most 63 items")
+        return cls(by, key_bytes(pattern)).checked()
 
     @classmethod
     def fuzzy(cls, word: Key, edits: int, beginnings: bool, swaps: bool) -> Search:
         """The keys that a few edits make of a word: edits of characters if the word is text."""
         most = whole_number(edits, 32, "a number of edits")
         made = cls(edits_by(word, swaps), key_bytes(word), edits=most, beginnings=beginnings)
-        return made.checked(limit_of(word, most, swaps))
-
-
-def check_search(status: int, limit: str) -> None:
-    """check_status(), which says of a search that is too long what its limit is."""
-    if status == SEARCH_TOO_LONG:
-        raise ZeroTrieError(limit, status)
-    check_status(status)
-
-
-def limit_of(word: Key, edits: int, swaps: bool) -> str:
-    """The limit that the number of edits, or else the word, is beyond."""
-    most = 7 if swaps else 254
-    if edits > most:
-        return f"at most {most} edits {'with swaps ' if swaps else ''}are allowed, not {edits}"
-    if isinstance(word, str):
-        return f"a word has at most 63 characters, not {len(word)}"
-    return f"a word has at most 63 bytes, not {len(key_bytes(word))}"
+        return made.checked()
 
 
 def edits_by(word: Key, swaps: bool) -> int:

@@ -107,15 +107,16 @@ long_given by.Prefix word h = h
 long_given by.Glob word h = h
 long_given by.GlobChars word h = h
 long_given by.Subsequence word h = h
-long_given (by.Fuzzy edits) word h = elim h [ inl long ↦ inl (omega (arith, long, as_long word)) | inr many ↦ inr many ]
-long_given (by.FuzzyChars edits) word h = elim h [ inl long ↦ inl (omega (arith, long, as_many_chars word)) | inr many ↦ inr many ]
-long_given (by.Swaps edits) word h = elim h [ inl long ↦ inl (omega (arith, long, as_long word)) | inr many ↦ inr many ]
-long_given (by.SwapsChars edits) word h = elim h [ inl long ↦ inl (omega (arith, long, as_many_chars word)) | inr many ↦ inr many ]
+long_given (by.Fuzzy edits) word h = omega (arith, h, as_long word)
+long_given (by.FuzzyChars edits) word h = omega (arith, h, as_many_chars word)
+long_given (by.Swaps edits) word h = omega (arith, h, as_long word)
+long_given (by.SwapsChars edits) word h = omega (arith, h, as_many_chars word)
 
 word_fault_given : (how : SearchBy) (word : List ℕ) (status : ℕ) → IsWordFault how (word_by ignore_case how word) status → IsWordFault how word status
 word_fault_given how word status h = elim h [
   | inl bad ↦ inl (bad.0, malformed_given how word bad.1)
-  | inr long ↦ inr (long.0, long_given how word long.1)
+  | inr (inl long) ↦ inr (inl (long.0, long_given how word long.1))
+  | inr (inr many) ↦ inr (inr many)
 ]
 
 -- a search with the texts of another one, as a kind compares them

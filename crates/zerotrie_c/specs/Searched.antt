@@ -7,10 +7,10 @@ use Rattle.zerotrie_core.specs.Maps.{Pairs}
 use Rattle.zerotrie_index.specs.Tries.{folded_key}
 use Rattle.zerotrie_search.specs.Searches.{accepted}
 use Rattle.zerotrie_search.specs.Sets.{from_left, to_left, some_front}
-use Rattle.zerotrie_search.specs.Automata.{finds_by, finds_in, word_by, IsMalformedWord, IsLongWord}
+use Rattle.zerotrie_search.specs.Automata.{finds_by, finds_in, word_by, HasManyEdits, IsMalformedWord, IsLongWord}
 use Rattle.zerotrie_search.specs.declared.any.SearchBy.{SearchBy}
 use Rattle.zerotrie_search.specs.declared.any.SearchBy.TheVariants as by
-use Rattle.zerotrie_c.specs.Statuses.{done, unknown_search, malformed_search, search_too_long, IsUnwritten}
+use Rattle.zerotrie_c.specs.Statuses.{done, unknown_search, malformed_search, search_too_long, too_many_edits, IsUnwritten}
 use Rattle.zerotrie_c.specs.Listed.{Part, IsListedSome}
 use Rattle.zerotrie_c.specs.declared.folding.FoldedTexts.{FoldedTexts}
 use Rattle.zerotrie_c.specs.declared.searches.Search.{Search}
@@ -53,10 +53,11 @@ finds kind s = or_beginnings s.beginnings (finds_whole kind s)
 
 -- a word that no search refuses, and why one is refused
 abbrev pub IsRightWord : SearchBy → List ℕ → Type 0
-IsRightWord by word = (IsMalformedWord by word → ⊥) × (IsLongWord by word → ⊥)
+IsRightWord by word = (IsMalformedWord by word → ⊥) × (IsLongWord by word → ⊥) × (HasManyEdits by → ⊥)
 
 abbrev pub IsWordFault : SearchBy → List ℕ → ℕ → Type 0
-IsWordFault by word status = ((status ≡ malformed_search) × IsMalformedWord by word) ⊎ ((status ≡ search_too_long) × IsLongWord by word)
+IsWordFault by word status =
+    ((status ≡ malformed_search) × IsMalformedWord by word) ⊎ ((status ≡ search_too_long) × IsLongWord by word) ⊎ ((status ≡ too_many_edits) × HasManyEdits by)
 
 -- why a search is refused: no search, or no bound of a range, has the number; or its word is refused
 abbrev pub IsFaultHow : Option SearchBy → Search → ℕ → Type 0

@@ -51,7 +51,7 @@ damaged = 18
 abbrev pub unknown_version : ℕ
 unknown_version = 19
 
--- no search, or no bound, has the number; a text is not one of the search; a text or a number is over its limit
+-- no search, or no bound, has the number; a text is not one of the search; a text is over its limit
 abbrev pub unknown_search : ℕ
 unknown_search = 20
 
@@ -60,6 +60,10 @@ malformed_search = 21
 
 abbrev pub search_too_long : ℕ
 search_too_long = 22
+
+-- more edits are asked for than a search takes
+abbrev pub too_many_edits : ℕ
+too_many_edits = 27
 
 -- too many keys of an index share a bucket
 abbrev pub crowded : ℕ

@@ -59,27 +59,15 @@ fn flat_of(alloc: Global, mut pairs: ZeroTrieStream<'_>) -> Result<Flat, ListErr
     Ok(listed)
 }
 
-/// Copies numbers to the beginning of the room, if there is enough.
-fn put(numbers: &[usize], room: &mut [usize]) -> bool
-    ensures { IsPut numbers.now result room.old room.new }
+/// Copies items to the beginning of the room, if there is enough.
+fn put<T: Copy>(items: &[T], room: &mut [T]) -> bool
+    ensures { IsPut items.now result room.old room.new }
 {
-    if room.len() < numbers.len() {
+    if room.len() < items.len() {
         return false;
     }
-    let (front, _) = room.split_at_mut(numbers.len());
-    front.copy_from_slice(numbers);
-    true
-}
-
-/// Copies bytes to the beginning of the room, if there is enough.
-fn put_bytes(bytes: &[u8], room: &mut [u8]) -> bool
-    ensures { IsPut bytes.now result room.old room.new }
-{
-    if room.len() < bytes.len() {
-        return false;
-    }
-    let (front, _) = room.split_at_mut(bytes.len());
-    front.copy_from_slice(bytes);
+    let (front, _) = room.split_at_mut(items.len());
+    front.copy_from_slice(items);
     true
 }
 
@@ -109,7 +97,7 @@ fn give(
 {
     *key_bytes = listed.keys.len();
     *count = listed.values.len();
-    let whole_keys = put_bytes(listed.keys.as_slice(), keys);
+    let whole_keys = put(listed.keys.as_slice(), keys);
     let whole_ends = put(listed.ends.as_slice(), ends);
     let whole_values = put(listed.values.as_slice(), values);
     status_of_rooms(whole_keys, whole_ends, whole_values)

@@ -73,7 +73,7 @@ pub const UNKNOWN_SEARCH: u32 = 20;
 /// A pattern is malformed, or a word is not UTF-8.
 pub const MALFORMED_SEARCH: u32 = 21;
 
-/// A pattern, a word or a number of edits is over its limit.
+/// A pattern or a word is over its limit.
 pub const SEARCH_TOO_LONG: u32 = 22;
 
 /// Too many keys of an index share a bucket.
@@ -87,6 +87,9 @@ pub const SUM_TOO_LARGE: u32 = 25;
 
 /// The bytes of a trie are not valid.
 pub const MALFORMED_TRIE: u32 = 26;
+
+/// More edits are asked for than a search takes.
+pub const TOO_MANY_EDITS: u32 = 27;
 
 /// Returns the status of a build error.
 pub fn status_of(error: ZeroTrieBuildError) -> u32

@@ -18,7 +18,8 @@ ghost use Rattle.zerotrie_c.specs.Searched.{bound_with, finds_given, or_beginnin
 use crate::folding;
 use crate::folding::FoldedTexts;
 use crate::numbers::{
-    DONE, MALFORMED_SEARCH, OUT_OF_MEMORY, SEARCH_TOO_LONG, UNKNOWN_KIND, UNKNOWN_SEARCH, trie_of,
+    DONE, MALFORMED_SEARCH, OUT_OF_MEMORY, SEARCH_TOO_LONG, TOO_MANY_EDITS, UNKNOWN_KIND,
+    UNKNOWN_SEARCH, trie_of,
 };
 use crate::parts::{Page, fill, left_of};
 use std::alloc::Global;
@@ -86,6 +87,7 @@ pub fn word_of(kind: TrieKind, by: SearchBy, word: &[u8]) -> Result<AnyAutomaton
         Ok(any) => Ok(any),
         Err(WordError::Malformed) => Err(MALFORMED_SEARCH),
         Err(WordError::TooLong) => Err(SEARCH_TOO_LONG),
+        Err(WordError::TooManyEdits) => Err(TOO_MANY_EDITS),
     }
 }
 

@@ -31,7 +31,7 @@ use Rattle.zerotrie_queries.specs.declared.print.Form.TheVariants.{Json}
 use Rattle.zerotrie_queries.specs.declared.question.Choice.{Choice}
 use Rattle.zerotrie_queries.specs.declared.question.Order.{Order}
 use Rattle.zerotrie_queries.specs.declared.question.Order.TheVariants.{Stored, ByBytes, Closest, Nearest}
-use Rattle.zerotrie_queries.specs.declared.question.Selection.{Selection}
+use Rattle.zerotrie_queries.specs.declared.question.ListQuery.{ListQuery}
 use Rattle.zerotrie_queries.proofs.ChoiceLemmas.{accepted_alike, by_all, by_prefix_alone, few_accepted, kept_alone}
 use Rattle.zerotrie_queries.proofs.FoldLemmas.{picked_folded}
 use Rattle.zerotrie_queries.proofs.NearLemmas.{few_of_nearest, near_kept, two_as_one}
@@ -101,7 +101,7 @@ has_any IsValid left kind c bytes p (Ok found) gives none = λ m means.
 has_any IsValid left kind c bytes p (Err e) gives none = tt
 
 -- the first of them, of a choice with folded words
-pub gives_first : {P : Type 0} (IsValid : P → Type 0) (left : P → Left) (kind : TrieKind) (s : Selection) (words : FoldedWords) (d : Choice) (bytes : List ℕ) (p : P) → AreWordsOf kind s.choice words → HasWords words s.choice d
+pub gives_first : {P : Type 0} (IsValid : P → Type 0) (left : P → Left) (kind : TrieKind) (s : ListQuery) (words : FoldedWords) (d : Choice) (bytes : List ℕ) (p : P) → AreWordsOf kind s.choice words → HasWords words s.choice d
     → Gives IsValid left (picked s.order kind d) kind bytes p → (pairs : Pairs) → Lists (kind_of kind) bytes pairs → IsValid p × (first_left false s.limit (left p) ≡ to_come (first_picked s kind pairs))
 gives_first IsValid left kind s words d bytes p are has h pairs lists =
     let given = h pairs lists in
@@ -131,7 +131,7 @@ few_picked ByBytes kind c pairs = let few = few_accepted (is_chosen kind c) (ent
 few_picked Closest kind c pairs = let few = few_closest kind c (entries (map_of pairs)) 0 (edits_of c) in let all = entries_count pairs in omega (arith, few, all)
 few_picked Nearest kind c pairs = let few = few_of_nearest (measured kind c) (entries (map_of pairs)) 0 (suc (edits_of c)) in let all = entries_count pairs in omega (arith, few, all)
 
-pub few_first : (s : Selection) (kind : TrieKind) (bytes : List ℕ) → length bytes < 2 ^ 64 → (pairs : Pairs) → Lists (kind_of kind) bytes pairs → length (first_picked s kind pairs) < 2 ^ 64
+pub few_first : (s : ListQuery) (kind : TrieKind) (bytes : List ℕ) → length bytes < 2 ^ 64 → (pairs : Pairs) → Lists (kind_of kind) bytes pairs → length (first_picked s kind pairs) < 2 ^ 64
 few_first s kind bytes short pairs lists =
     let first = few_limited s.limit (picked s.order kind s.choice pairs) in
     let few = few_picked s.order kind s.choice pairs in
@@ -139,11 +139,11 @@ few_first s kind bytes short pairs lists =
     omega (arith, first, few, all, short)
 
 -- what is not begun is written in part
-pub none_written : (form : Form) (s : Selection) (kind : TrieKind) (bytes : List ℕ) (old : Option (List ℕ)) → AreListedInPart form (picked s.order kind s.choice) s.limit kind bytes old old
+pub none_written : (form : Form) (s : ListQuery) (kind : TrieKind) (bytes : List ℕ) (old : Option (List ℕ)) → AreListedInPart form (picked s.order kind s.choice) s.limit kind bytes old old
 none_written form s kind bytes old pairs lists = part_none old (listed form (first_picked s kind pairs))
 
 -- what is written of a listing is what is picked of the pairs that the bytes list
-module _ {P : Type 0} (IsValid : P → Type 0) (left : P → Left) (form : Form) (s : Selection) (kind : TrieKind) (bytes : List ℕ) (p : P) (short : length bytes < 2 ^ 64) (gives : Gives IsValid left (first_picked s kind) kind bytes p) (old new : Option (List ℕ)) where
+module _ {P : Type 0} (IsValid : P → Type 0) (left : P → Left) (form : Form) (s : ListQuery) (kind : TrieKind) (bytes : List ℕ) (p : P) (short : length bytes < 2 ^ 64) (gives : Gives IsValid left (first_picked s kind) kind bytes p) (old new : Option (List ℕ)) where
   pub written_all : ((pairs : Pairs) → Lists (kind_of kind) bytes pairs → IsPrintable form (first_picked s kind pairs)) → (IsValid p → length (left p).pairs < 2 ^ 64 → Appends old new (listed form (left p).pairs))
       → AreListed form (picked s.order kind s.choice) s.limit kind bytes old new
   written_all printable wrote pairs lists =
@@ -166,11 +166,11 @@ written_lines IsValid left kind bytes p gives line text same Wrote wrote pairs l
     subst Wrote (ap (λ l. lines_of line l.pairs) given.1 ∙ same pairs) (wrote given.0)
 
 -- a key of a listing that is no text is one of what is picked
-pub no_text_in : {P : Type 0} (IsValid : P → Type 0) (left : P → Left) (form : Form) (s : Selection) (kind : TrieKind) (bytes : List ℕ) (p : P) (key : List ℕ) → form ≡ Json → Gives IsValid left (first_picked s kind) kind bytes p
+pub no_text_in : {P : Type 0} (IsValid : P → Type 0) (left : P → Left) (form : Form) (s : ListQuery) (kind : TrieKind) (bytes : List ℕ) (p : P) (key : List ℕ) → form ≡ Json → Gives IsValid left (first_picked s kind) kind bytes p
     → (IsValid p → IsFirstNoText (left p).pairs key) → AreNoText form (picked s.order kind s.choice) s.limit kind bytes key
 no_text_in IsValid left form s kind bytes p key is gives found = (is, λ pairs lists. (let given = gives pairs lists in subst (λ l. IsFirstNoText l.pairs key) given.1 (found given.0)))
 
 -- and if all of them are, all can be printed
-pub printable_all : {P : Type 0} (IsValid : P → Type 0) (left : P → Left) (form : Form) (s : Selection) (kind : TrieKind) (bytes : List ℕ) (p : P) → form ≡ Json → Gives IsValid left (first_picked s kind) kind bytes p
+pub printable_all : {P : Type 0} (IsValid : P → Type 0) (left : P → Left) (form : Form) (s : ListQuery) (kind : TrieKind) (bytes : List ℕ) (p : P) → form ≡ Json → Gives IsValid left (first_picked s kind) kind bytes p
     → (IsValid p → are_text (left p).pairs ≡ true) → (pairs : Pairs) → Lists (kind_of kind) bytes pairs → IsPrintable form (first_picked s kind pairs)
 printable_all IsValid left form s kind bytes p is gives all pairs lists = let given = gives pairs lists in rw is (sym (ap (λ l. are_text l.pairs) given.1) ∙ all given.0)

@@ -17,7 +17,7 @@ use Rattle.zerotrie_queries.specs.declared.print.Form.{Form}
 use Rattle.zerotrie_queries.specs.declared.print.Form.TheVariants.{Lines, Json, Count}
 use Rattle.zerotrie_queries.specs.declared.question.Choice.{Choice}
 use Rattle.zerotrie_queries.specs.declared.question.Order.TheVariants.{Nearest}
-use Rattle.zerotrie_queries.specs.declared.question.Selection.{Selection}
+use Rattle.zerotrie_queries.specs.declared.question.ListQuery.{ListQuery}
 use Rattle.zerotrie_queries.specs.declared.listing.ListError.{ListError}
 use Rattle.zerotrie_queries.specs.declared.listing.ListError.TheVariants.{NotText, Failed}
 
@@ -46,7 +46,7 @@ abbrev pub Gives : {P : Type 0} → (IsValid : P → Type 0) → (left : P → L
 Gives IsValid left pick kind bytes p = (pairs : Pairs) → Lists (kind_of kind) bytes pairs → IsValid p × (left p ≡ to_come (pick pairs))
 
 -- the pairs of a selection
-abbrev pub first_picked : Selection → TrieKind → Pairs → Pairs
+abbrev pub first_picked : ListQuery → TrieKind → Pairs → Pairs
 first_picked s kind pairs = limited s.limit (picked s.order kind s.choice pairs)
 
 -- pairs can be printed so: as one JSON value only if each key is UTF-8

@@ -33,7 +33,7 @@ pub use file::{OpenError, of_tagged, open, open_unchecked};
 pub use listing::{ListError, write_distances, write_list};
 pub use lookups::{add_answers_at, write_answers};
 pub use print::{Form, Style};
-pub use question::{Asked, Choice, Finder, Order, Pattern, Query, Selection, Sought, Spelling};
+pub use question::{Asked, Choice, Finder, ListQuery, Order, Pattern, Query, Sought, Spelling};
 pub use reports::{Branches, Report, ReportForm, write_trie_report};
 pub use sorted::sorted_pairs;
 pub use text::looks_like_text;

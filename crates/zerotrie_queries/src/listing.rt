@@ -21,7 +21,7 @@ use crate::listing::forms::{write_lines, write_pairs};
 use crate::listing::json_object::first_no_text;
 use crate::listing::listed::listed;
 use crate::print::Form;
-use crate::question::{Choice, Order, Selection};
+use crate::question::{Choice, ListQuery, Order};
 use std::alloc::{AllocError, Global};
 use std::io;
 use std::io::Write;
@@ -52,7 +52,7 @@ fn first_unprintable(
     trie: &TrieRef<'_>,
     form: Form,
     words: &FoldedWords,
-    selection: Selection<'_>,
+    selection: ListQuery<'_>,
 ) -> Result<Option<Vec<u8>>, AllocError>
     requires { AreWordsOf trie.now.kind selection.choice words.now }
     ensures some { IfOk result (λ key. IfSome key (λ k. AreNoText form
@@ -77,7 +77,7 @@ fn write_selection<W: Write>(
     alloc: Global,
     trie: &TrieRef<'_>,
     form: Form,
-    selection: Selection<'_>,
+    selection: ListQuery<'_>,
     output: &mut Noted<W>,
 ) -> io::Result<Option<Vec<u8>>>
     ensures all { IfOk result (λ key. IfNone key (AreListed form
@@ -116,7 +116,7 @@ pub fn write_list<W: Write>(
     alloc: Global,
     trie: &TrieRef<'_>,
     form: Form,
-    selection: Selection<'_>,
+    selection: ListQuery<'_>,
     output: &mut Noted<W>,
 ) -> Result<(), ListError>
     ensures all { OnOk result (AreListed form
@@ -180,7 +180,7 @@ pub fn write_distances<W: Write>(
     ensures noted { IsNoted result output.old.failed output.new.failed }
 {
     let words = FoldedWords::new(alloc, trie.kind, choice)?;
-    let nearest = Selection {
+    let nearest = ListQuery {
         choice,
         order: Order::Nearest,
         limit,

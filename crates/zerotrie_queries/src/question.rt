@@ -198,7 +198,7 @@ pub enum Order {
 
 /// Which pairs are listed, and in which order.
 #[derive(Clone, Copy, Debug)]
-pub struct Selection<'a> {
+pub struct ListQuery<'a> {
     /// Their keys.
     pub choice: Choice<'a>,
     /// Their order.

@@ -1,5 +1,5 @@
 -- A question that was answered, and the flush after it.
-use Rattle.std.proofs.Common.{◌≡◌, ◌⊎◌, ◌∙◌, ℕ, List, Option, Some, Bool, true, false, IsTrue, refl, sym, subst, inl, inr}
+use Rattle.std.proofs.Common.{◌≡◌, ◌⊎◌, ◌∙◌, ℕ, List, Option, Some, Bool, true, refl, sym, subst, inl, inr}
 use Rattle.std.specs.Io.KnownBytes.{Keeps}
 use Rattle.std.proofs.KnownBytes.{Appends-kept, Keeps-trans}
 use Rattle.zerotrie_core.specs.Kinds.{kind_of}
@@ -26,7 +26,7 @@ use Rattle.zerotrie_run.specs.Runs.Content.{of_trie, of_index, in_blocks}
 use Rattle.zerotrie_run.specs.Runs.{Answers, AnswersInPart, Content, ContentAnswers, ContentAnswersInPart, IndexAnswers, IndexAnswersInPart, AreKeys, KeysAnswered, KeysAnsweredInPart, IsNoAnswer, IsRead, IsUnanswered, AreLines, HasNoKeys, HasNoLines, Opens, EndsAsk, ask_refusal, are_lines, of_lines, IsUnasked, LeavesKeys, LeavesInputOf}
 use Rattle.zerotrie_run.specs.Told.{HasReason}
 use Rattle.zerotrie_run.specs.declared.ask.AskError.{AskError}
-use Rattle.zerotrie_run.specs.declared.ask.AskError.TheVariants.{TwoInputs, Unread, NoTrie, NotText, Unanswered}
+use Rattle.zerotrie_run.specs.declared.ask.AskError.TheVariants.{Unread, NoTrie, NotText, Unanswered}
 use Rattle.zerotrie_making.specs.declared.others.OtherFile.{OtherFile}
 use Rattle.zerotrie_run.specs.declared.stdin_lines.AnswerError.{AnswerError}
 use Rattle.zerotrie_run.specs.declared.stdin_lines.AnswerError.TheVariants.{Input, NoLines, Output}
@@ -48,7 +48,7 @@ kept_texts of Has texts a b c all h k at has = let x = h at has in (x.0, x.1, Ap
 kept_answer : (q : Question) (input : Option (List ℕ)) (kind : TrieKind) (bytes : List ℕ) (a b c : Option (List ℕ)) (all : Bool) → Answers q input kind bytes a b all → Keeps b c
     → Answers q input kind bytes a c all
 kept_answer (LookUp of keys) input kind bytes a b c all h k = (h.0, h.1, kept_texts of (TrieFinds kind bytes) h.0 a b c all h.2 k)
-kept_answer (Listing form choice order limit) input kind bytes a b c all h k = (h.0, λ pairs lists. let x = h.1 pairs lists in (x.0, Appends-kept a b c (listed form (limited limit (picked order kind choice pairs))) x.1 k))
+kept_answer (Listing form s) input kind bytes a b c all h k = (h.0, λ pairs lists. let x = h.1 pairs lists in (x.0, Appends-kept a b c (listed form (limited s.limit (picked s.order kind s.choice pairs))) x.1 k))
 kept_answer (Distances choice limit) input kind bytes a b c all h k = (h.0, λ pairs lists. Appends-kept a b c (nearest_lines kind choice limit pairs) (h.1 pairs lists) k)
 kept_answer (Code language name) input kind bytes a b c all h k = (h.0, Appends-kept a b c (whole_code language kind name.now bytes) h.1 k)
 kept_answer Verify input kind bytes a b c all h k = (h.0, Keeps-trans a b c h.1 k)
@@ -57,7 +57,7 @@ kept_answer (View view) input kind bytes a b c all h k = (h.0, Appends-kept a b 
 
 kept_index : (q : Question) (input : Option (List ℕ)) (bytes : List ℕ) (a b c : Option (List ℕ)) (all : Bool) → IndexAnswers q input bytes a b all → Keeps b c → IndexAnswers q input bytes a c all
 kept_index (LookUp of keys) input bytes a b c all h k = (h.0, h.1, kept_texts of (IndexFinds of.asked bytes) h.0 a b c all h.2 k)
-kept_index (Listing form choice order limit) input bytes a b c all h k = (h.0, Keeps-trans a b c h.1 k)
+kept_index (Listing form s) input bytes a b c all h k = (h.0, Keeps-trans a b c h.1 k)
 kept_index (Distances choice limit) input bytes a b c all h k = (h.0, Keeps-trans a b c h.1 k)
 kept_index (Code language name) input bytes a b c all h k = (h.0, Keeps-trans a b c h.1 k)
 kept_index Verify input bytes a b c all h k = (h.0, Keeps-trans a b c h.1 k)
@@ -82,7 +82,7 @@ other_lines Lines i j apart h = absurd (apart refl)
 other_input : (q : Question) (i j : Option (List ℕ)) (kind : TrieKind) (bytes : List ℕ) (a b : Option (List ℕ)) (all : Bool) → (of_lines q ≡ true → ⊥) → Answers q i kind bytes a b all
     → Answers q j kind bytes a b all
 other_input (LookUp of keys) i j kind bytes a b all apart h = (h.0, (other_keys keys i j h.0 apart h.1.0, other_lines keys i j apart h.1.1), h.2)
-other_input (Listing form choice order limit) i j kind bytes a b all apart h = h
+other_input (Listing form s) i j kind bytes a b all apart h = h
 other_input (Distances choice limit) i j kind bytes a b all apart h = h
 other_input (Code language name) i j kind bytes a b all apart h = h
 other_input Verify i j kind bytes a b all apart h = h
@@ -91,7 +91,7 @@ other_input (View view) i j kind bytes a b all apart h = h
 
 other_input_index : (q : Question) (i j : Option (List ℕ)) (bytes : List ℕ) (a b : Option (List ℕ)) (all : Bool) → (of_lines q ≡ true → ⊥) → IndexAnswers q i bytes a b all → IndexAnswers q j bytes a b all
 other_input_index (LookUp of keys) i j bytes a b all apart h = (h.0, (other_keys keys i j h.0 apart h.1.0, other_lines keys i j apart h.1.1), h.2)
-other_input_index (Listing form choice order limit) i j bytes a b all apart h = h
+other_input_index (Listing form s) i j bytes a b all apart h = h
 other_input_index (Distances choice limit) i j bytes a b all apart h = h
 other_input_index (Code language name) i j bytes a b all apart h = h
 other_input_index Verify i j bytes a b all apart h = h
@@ -130,7 +130,7 @@ by_table kind bytes asked t k b is d h = (is, subst (λ x. KindFinds x t.bytes d
 -- an answer is a beginning of itself
 trie_in_part : (q : Question) (input : Option (List ℕ)) (kind : TrieKind) (bytes : List ℕ) (a b : Option (List ℕ)) (all : Bool) → Answers q input kind bytes a b all → AnswersInPart q input kind bytes a b
 trie_in_part (LookUp of keys) input kind bytes a b all h = keys_in_part of keys input (TrieFinds kind bytes) a b all h
-trie_in_part (Listing form choice order limit) input kind bytes a b all h = λ pairs lists. part_all a b (listed form (limited limit (picked order kind choice pairs))) (h.1 pairs lists).1
+trie_in_part (Listing form s) input kind bytes a b all h = λ pairs lists. part_all a b (listed form (limited s.limit (picked s.order kind s.choice pairs))) (h.1 pairs lists).1
 trie_in_part (Distances choice limit) input kind bytes a b all h = λ pairs lists. part_all a b (nearest_lines kind choice limit pairs) (h.1 pairs lists)
 trie_in_part (Code language name) input kind bytes a b all h = part_all a b (whole_code language kind name.now bytes) h.1
 trie_in_part Verify input kind bytes a b all h = h.1
@@ -139,7 +139,7 @@ trie_in_part (View view) input kind bytes a b all h = part_all a b (shown view k
 
 index_in_part : (q : Question) (input : Option (List ℕ)) (bytes : List ℕ) (a b : Option (List ℕ)) (all : Bool) → IndexAnswers q input bytes a b all → IndexAnswersInPart q input bytes a b
 index_in_part (LookUp of keys) input bytes a b all h = keys_in_part of keys input (IndexFinds of.asked bytes) a b all h
-index_in_part (Listing form choice order limit) input bytes a b all h = h.1
+index_in_part (Listing form s) input bytes a b all h = h.1
 index_in_part (Distances choice limit) input bytes a b all h = h.1
 index_in_part (Code language name) input bytes a b all h = h.1
 index_in_part Verify input bytes a b all h = h.1
@@ -154,7 +154,7 @@ answer_in_part (in_blocks start held) q input a b all h = λ bytes has. index_in
 -- a beginning of an answer whose keys are no lines is one whatever standard input has
 other_part : (q : Question) (i j : Option (List ℕ)) (kind : TrieKind) (bytes : List ℕ) (a b : Option (List ℕ)) → (of_lines q ≡ true → ⊥) → AnswersInPart q i kind bytes a b → AnswersInPart q j kind bytes a b
 other_part (LookUp of keys) i j kind bytes a b apart h = (h.0, other_keys keys i j h.0 apart h.1, h.2)
-other_part (Listing form choice order limit) i j kind bytes a b apart h = h
+other_part (Listing form s) i j kind bytes a b apart h = h
 other_part (Distances choice limit) i j kind bytes a b apart h = h
 other_part (Code language name) i j kind bytes a b apart h = h
 other_part Verify i j kind bytes a b apart h = h
@@ -163,7 +163,7 @@ other_part (View view) i j kind bytes a b apart h = h
 
 other_part_index : (q : Question) (i j : Option (List ℕ)) (bytes : List ℕ) (a b : Option (List ℕ)) → (of_lines q ≡ true → ⊥) → IndexAnswersInPart q i bytes a b → IndexAnswersInPart q j bytes a b
 other_part_index (LookUp of keys) i j bytes a b apart h = (h.0, other_keys keys i j h.0 apart h.1, h.2)
-other_part_index (Listing form choice order limit) i j bytes a b apart h = h
+other_part_index (Listing form s) i j bytes a b apart h = h
 other_part_index (Distances choice limit) i j bytes a b apart h = h
 other_part_index (Code language name) i j bytes a b apart h = h
 other_part_index Verify i j bytes a b apart h = h
@@ -186,7 +186,7 @@ other_no_keys (LookUp of Lines) i j a b e apart h = absurd (apart refl)
 other_no_keys (LookUp of (Words words)) i j a b (Input e) apart h = h
 other_no_keys (LookUp of (Words words)) i j a b (NoLines o) apart h = absurd h.0
 other_no_keys (LookUp of (Words words)) i j a b (Output e) apart h = h
-other_no_keys (Listing form choice order limit) i j a b e apart h = h
+other_no_keys (Listing form s) i j a b e apart h = h
 other_no_keys (Distances choice limit) i j a b e apart h = h
 other_no_keys (Code language name) i j a b e apart h = h
 other_no_keys Verify i j a b e apart h = h
@@ -200,22 +200,17 @@ same_keys place remaining old new q a b e apart (inr is) h = subst (λ r. HasNoK
 
 no_lines : (q : Question) (i : Option (List ℕ)) (a b : Option (List ℕ)) (o : OtherFile) → HasNoKeys q i a b (NoLines o) → HasNoLines q i o × (b ≡ a)
 no_lines (LookUp of keys) i a b o h = h
-no_lines (Listing form choice order limit) i a b o h = absurd (cc)
+no_lines (Listing form s) i a b o h = absurd (cc)
 no_lines (Distances choice limit) i a b o h = absurd (cc)
 no_lines (Code language name) i a b o h = absurd (cc)
 no_lines Verify i a b o h = absurd (cc)
 no_lines (Report form) i a b o h = absurd (cc)
 no_lines (View view) i a b o h = absurd (cc)
 
--- what is false is not so
-pub is_not : (b : Bool) → b ≡ false → IsTrue b → ⊥
-is_not b is so = absurd (cc)
-
 -- what was read has no answer, and so the question ends
 pub ends_unanswered : (file : TrieFile) (q : Question) (i j : Option (List ℕ)) (files : Option Story) (held : List ℕ) (old new : Option (List ℕ)) (e : AskError) → IsRead file.place i files held
     → ((x : Content) → ContentAnswersInPart x q j old new → ContentAnswersInPart x q i old new) → ((e : AnswerError) → HasNoKeys q j old new e → HasNoKeys q i old new e)
     → IsUnanswered file q j held old new e → EndsAsk file q i files old new (ask_refusal e)
-ends_unanswered file q i j files held old new TwoInputs read same keys h = absurd h
 ends_unanswered file q i j files held old new (Unread e) read same keys h = absurd h
 ends_unanswered file q i j files held old new (NoTrie (BadTag why) t) read same keys h = ((held, read, BadTag why, h.0), h.2)
 ends_unanswered file q i j files held old new (NoTrie (Damaged why) t) read same keys h = ((held, read, Damaged why, h.0), h.2)
@@ -232,7 +227,6 @@ ends_unanswered file q i j files held old new (NotText key) read same keys h = (
 pub reason_unanswered : (file : TrieFile) (q : Question) (i j : Option (List ℕ)) (files : Option Story) (held : List ℕ) (old new : Option (List ℕ)) (e : AskError) → IsRead file.place i files held
     → ((e : AnswerError) → HasNoKeys q j old new e → HasNoKeys q i old new e) → IsUnanswered file q j held old new e
     → HasReason (IsUnasked file q) file q i files e
-reason_unanswered file q i j files held old new TwoInputs read keys h = tt
 reason_unanswered file q i j files held old new (Unread e) read keys h = tt
 reason_unanswered file q i j files held old new (NoTrie why t) read keys h = (held, read, h.0.0, h.1)
 reason_unanswered file q i j files held old new (Unanswered (Input e)) read keys h = tt
@@ -244,24 +238,22 @@ reason_unanswered file q i j files held old new (NotText key) read keys h = reco
 pub unanswered_of : (file : TrieFile) (q : Question) (input : Option (List ℕ)) (held : List ℕ) (old new : Option (List ℕ)) (kind : TrieKind) (bytes : List ℕ) (e : AskError) → Opens file held kind bytes
     → IsNoAnswer q input kind bytes old new e
     → IsUnanswered file q input held old new e
-unanswered_of file q input held old new kind bytes TwoInputs opens h = h
 unanswered_of file q input held old new kind bytes (Unread e) opens h = h
 unanswered_of file q input held old new kind bytes (NoTrie why t) opens h = absurd h
 unanswered_of file q input held old new kind bytes (NotText key) opens h = (kind, bytes, opens, h.0, h.1)
 unanswered_of file q input held old new kind bytes (Unanswered e) opens h = (of_trie kind bytes, opens, h.0, h.1)
 
 -- a question that is asked is not refused for its words
-pub not_misused : (file : TrieFile) (q : Question) (input : Option (List ℕ)) (held : List ℕ) (a b : Option (List ℕ)) (e : AskError) → IsUnanswered file q input held a b e → ask_refusal e ≡ Some BadUsage → ⊥
-not_misused file q input held a b TwoInputs h is = h
-not_misused file q input held a b (Unread e) h is = h
-not_misused file q input held a b (NoTrie (BadTag why) hint) h is = cc is
-not_misused file q input held a b (NoTrie (Damaged why) hint) h is = cc is
-not_misused file q input held a b (NoTrie (NotWellFormed kind fault) hint) h is = cc is
-not_misused file q input held a b (NoTrie OutOfMemory hint) h is = cc is
-not_misused file q input held a b (NotText key) h is = cc is
-not_misused file q input held a b (Unanswered (Input e)) h is = cc is
-not_misused file q input held a b (Unanswered (NoLines other)) h is = cc is
-not_misused file q input held a b (Unanswered (Output e)) h is = cc is
+pub not_misused : (e : AskError) → ask_refusal e ≡ Some BadUsage → ⊥
+not_misused (Unread e) is = cc is
+not_misused (NoTrie (BadTag why) hint) is = cc is
+not_misused (NoTrie (Damaged why) hint) is = cc is
+not_misused (NoTrie (NotWellFormed kind fault) hint) is = cc is
+not_misused (NoTrie OutOfMemory hint) is = cc is
+not_misused (NotText key) is = cc is
+not_misused (Unanswered (Input e)) is = cc is
+not_misused (Unanswered (NoLines other)) is = cc is
+not_misused (Unanswered (Output e)) is = cc is
 
 -- standard input is left alone if neither the read of the file nor the answer reads it
 pub left_alone : {A : Type 0} (file : TrieFile) (q : Question) (first read last : A) (e : AskError) → (ask_refusal e ≡ Some BadUsage → ⊥) → (file.place ≡ Stream) ⊎ (read ≡ first)

@@ -1,5 +1,5 @@
 -- What is told of a run that makes a file of others.
-use Rattle.std.proofs.Common.{◌≡◌, ◌⊎◌, ◌++◌, ℕ, List, [], Option, Some, Bool, true, false, Result, Ok, Err, IfOk, Vec, Global, length, refl, subst, inl, inr}
+use Rattle.std.proofs.Common.{◌≡◌, ◌++◌, ℕ, List, [], Option, Some, Bool, true, false, Result, Ok, Err, IfOk, Vec, Global, length, refl, subst, inl, inr}
 use Rattle.std.specs.Prelude.{◌&&◌, Any, unwrap_or}
 use Rattle.std.specs.Io.KnownBytes.{Appends}
 use Rattle.std.specs.declared.alloc.AllocError.{AllocError}
@@ -18,9 +18,8 @@ use Rattle.zerotrie_run.specs.Statuses.{failure}
 use Rattle.zerotrie_run.specs.Messages.{IsLineOn, Says, TellsBuild, TellsCombine, TellsUnmade, source_name, target_name, told_key, value_words}
 use Rattle.zerotrie_run.specs.declared.front.Hint.{Hint}
 use Rattle.zerotrie_run.specs.Combined.{HasCombineCause, IsNumbered, OfFiles, combine_refusal, file_of, unmade_refusal}
-use Rattle.zerotrie_run.specs.Told.{TellsMore, TellsUnopened, IsPlaceOf, IsTold, ended, has_kind, is_told, last_text, told_kind, told_made}
-use Rattle.zerotrie_run.specs.declared.status.Status.{Status}
-use Rattle.zerotrie_run.specs.declared.status.Status.TheVariants.{Refused, Closed}
+use Rattle.zerotrie_run.specs.Told.{TellsMore, TellsUnopened, IsPlaceOf, IsTold, has_kind, is_told, told_kind, told_made}
+use Rattle.zerotrie_run.specs.declared.status.Status.TheVariants.{Refused}
 use Rattle.zerotrie_run.specs.declared.build.BuildError.TheVariants as build
 use Rattle.zerotrie_run.specs.declared.combine.CombineError.{CombineError}
 use Rattle.zerotrie_run.specs.declared.combine.CombineError.TheVariants.{Unopened, NoTrie, NoValue, NotBuilt}
@@ -29,11 +28,10 @@ use Rattle.zerotrie_run.specs.declared.command.Combine.{Combine}
 use Rattle.zerotrie_run.specs.declared.command.Place.{Place}
 use Rattle.zerotrie_run.specs.declared.command.Summary.{Summary}
 use Rattle.zerotrie_run.specs.declared.command.Summary.TheVariants.{Never, IfEmpty, Always}
-use Rattle.zerotrie_run.specs.declared.command.Command.{Command}
 use Rattle.zerotrie_run.specs.declared.command.Command.TheVariants as commands
 use Rattle.zerotrie_run.proofs.CombinedLemmas.{IsOfPairs, file_there, of_pairs}
 use Rattle.zerotrie_run.proofs.CombinedLemmas.IsOfPairs.{keys, refused, index_refused, memory}
-use Rattle.zerotrie_run.proofs.ToldLemmas.{told_last, no_memory, failure_told}
+use Rattle.zerotrie_run.proofs.ToldLemmas.{told_last, failure_told}
 use Rattle.zerotrie_run.specs.Runs.{IsUnopened}
 
 -- a refusal of what the combination takes
@@ -61,39 +59,24 @@ unopened_told o input files a b c text number why t cause tells more h =
     file_there (λ place. TellsUnopened (IsUnopened (file_of place)) (file_of place) input files a c) o.from.now number cause.0 cause.1
     (cause.2, cause.3, why, cause.4, t, cause.5, text, tells.0 cause.0 cause.1, tells.1, told_last a b c text more h)
 
-text_told : (o : Combine) (input : Option (List ℕ)) (files : Option Story) (a b c : Option (List ℕ)) (text : List ℕ) (read write closed : Bool) (e : CombineError) → HasCombineCause o input files e → TellsCombine o e text
+pub combine_text_told : (o : Combine) (input : Option (List ℕ)) (files : Option Story) (a b c : Option (List ℕ)) (text : List ℕ) (read write closed : Bool) (e : CombineError) → HasCombineCause o input files e → TellsCombine o e text
     → TellsMore a b → Appends b c text → IsTold (commands.Combine o) input files a c (unwrap_or (combine_refusal e) (failure read write closed))
-text_told o input files a b c text read write closed (Unopened number e) cause tells more h =
+combine_text_told o input files a b c text read write closed (Unopened number e) cause tells more h =
     failure_told (commands.Combine o) input files a b c text (source_name cause.0) read write closed (file_place o number cause.0 cause.1) (tells cause.0 cause.1) more h
-text_told o input files a b c text read write closed (NoTrie number (unopened.BadTag why) t) cause tells more h = unopened_told o input files a b c text number (unopened.BadTag why) t cause tells more h
-text_told o input files a b c text read write closed (NoTrie number (unopened.Damaged why) t) cause tells more h = unopened_told o input files a b c text number (unopened.Damaged why) t cause tells more h
-text_told o input files a b c text read write closed (NoTrie number (unopened.NotWellFormed k f) t) cause tells more h = unopened_told o input files a b c text number (unopened.NotWellFormed k f) t cause tells more h
-text_told o input files a b c text read write closed (NoTrie number unopened.OutOfMemory t) cause tells more h =
+combine_text_told o input files a b c text read write closed (NoTrie number (unopened.BadTag why) t) cause tells more h = unopened_told o input files a b c text number (unopened.BadTag why) t cause tells more h
+combine_text_told o input files a b c text read write closed (NoTrie number (unopened.Damaged why) t) cause tells more h = unopened_told o input files a b c text number (unopened.Damaged why) t cause tells more h
+combine_text_told o input files a b c text read write closed (NoTrie number (unopened.NotWellFormed k f) t) cause tells more h = unopened_told o input files a b c text number (unopened.NotWellFormed k f) t cause tells more h
+combine_text_told o input files a b c text read write closed (NoTrie number unopened.OutOfMemory t) cause tells more h =
     failure_told (commands.Combine o) input files a b c text (source_name cause.0) read write closed (file_place o number cause.0 cause.1) (tells.0 cause.0 cause.1) more h
-text_told o input files a b c text read write closed (NoValue why key) cause tells more h = taken_told o input files a b c text (combination.NoValue why key) cause refl tells.0 tells.1 more h
-text_told o input files a b c text read write closed (NotBuilt (build.Unread e)) cause tells more h = failure_told (commands.Combine o) input files a b c text (target_name o.to) read write closed (inr refl) tells more h
-text_told o input files a b c text read write closed (NotBuilt (build.NotMade e)) (inl none) tells more h =
+combine_text_told o input files a b c text read write closed (NoValue why key) cause tells more h = taken_told o input files a b c text (combination.NoValue why key) cause refl tells.0 tells.1 more h
+combine_text_told o input files a b c text read write closed (NotBuilt (build.Unread e)) cause tells more h = failure_told (commands.Combine o) input files a b c text (target_name o.to) read write closed (inr refl) tells more h
+combine_text_told o input files a b c text read write closed (NotBuilt (build.NotMade e)) (inl none) tells more h =
     rw none (failure_told (commands.Combine o) input files a b c text (target_name o.to) read write closed (inr refl) tells.0 more h)
-text_told o input files a b c text read write closed (NotBuilt (build.NotMade e)) (inr cause) tells more h =
+combine_text_told o input files a b c text read write closed (NotBuilt (build.NotMade e)) (inr cause) tells more h =
     made_told o input files a b c text read write closed e cause tells more h (of_pairs o e cause.2.0 cause.2.2)
-text_told o input files a b c text read write closed (NotBuilt (build.Unwritten e)) cause tells more h = failure_told (commands.Combine o) input files a b c text (target_name o.to) read write closed (inr refl) tells more h
-text_told o input files a b c text read write closed (NotBuilt build.Taken) cause tells more h = (text, tells, told_last a b c text more h)
-text_told o input files a b c text read write closed (NotBuilt (build.Unfound e)) cause tells more h = failure_told (commands.Combine o) input files a b c text (target_name o.to) read write closed (inr refl) tells more h
-
-told_by : (o : Combine) (input : Option (List ℕ)) (files : Option Story) (a b c : Option (List ℕ)) (read write closed : Bool) (e : CombineError) (status : Status) (r : Result (Vec ℕ Global) AllocError)
-    → HasCombineCause o input files e
-    → status ≡ unwrap_or (combine_refusal e) (failure read write closed) → IfOk r (λ text. TellsCombine o e text.items) → TellsMore a b → Appends b c (last_text r)
-    → IsTold (commands.Combine o) input files a c (ended status r)
-told_by o input files a b c read write closed e status (Ok text) cause is tells more h = rw is (text_told o input files a b c text.items read write closed e cause tells more h)
-told_by o input files a b c read write closed e status (Err x) cause is tells more h = no_memory a b c more h
-
-pub combine_told : (command : Command) (o : Combine) (input : Option (List ℕ)) (files : Option Story) (a b c : Option (List ℕ)) (read write closed : Bool) (e : CombineError) (status result : Status)
-    (r : Result (Vec ℕ Global) AllocError)
-    → command ≡ commands.Combine o → HasCombineCause o input files e → status ≡ unwrap_or (combine_refusal e) (failure read write closed) → IfOk r (λ text. TellsCombine o e text.items) → TellsMore a b
-    → result ≡ ended status r → (result ≡ Closed) ⊎ Appends b c (last_text r)
-    → IsTold command input files a c result
-combine_told command o input files a b c read write closed e status result r at cause is tells more ends (inl silent) = rw silent tt
-combine_told command o input files a b c read write closed e status result r at cause is tells more ends (inr h) = rw (at, ends) (told_by o input files a b c read write closed e status r cause is tells more h)
+combine_text_told o input files a b c text read write closed (NotBuilt (build.Unwritten e)) cause tells more h = failure_told (commands.Combine o) input files a b c text (target_name o.to) read write closed (inr refl) tells more h
+combine_text_told o input files a b c text read write closed (NotBuilt build.Taken) cause tells more h = (text, tells, told_last a b c text more h)
+combine_text_told o input files a b c text read write closed (NotBuilt (build.Unfound e)) cause tells more h = failure_told (commands.Combine o) input files a b c text (target_name o.to) read write closed (inr refl) tells more h
 
 -- a line that says a key and why it gets no value tells that
 pub tells_no_value : (r : Result (Vec ℕ Global) AllocError) (o : Combine) (error : CombineError) (why : RuleError) (key : Vec ℕ Global) (place bytes : List ℕ) → error ≡ NoValue why key → place ≡ target_name o.to

@@ -1,8 +1,6 @@
 -- Two files that are compared.
-use Rattle.std.proofs.Common.{◌≡◌, ◌⊎◌, ◌++◌, ◌∙◌, ℕ, List, Option, Bool, true, false, Result, Ok, Err, Vec, refl, sym, ap, subst, inl, inr}
-use Rattle.std.specs.Prelude.{unwrap_or, IfOk, IsTrue}
-use Rattle.std.specs.Global.{Global}
-use Rattle.std.specs.declared.alloc.AllocError.{AllocError}
+use Rattle.std.proofs.Common.{◌≡◌, ◌⊎◌, ◌++◌, ◌∙◌, ℕ, List, Option, Bool, false, Result, Ok, Err, refl, sym, ap, subst, inl, inr}
+use Rattle.std.specs.Prelude.{IfOk}
 use Rattle.std.specs.Io.KnownBytes.{Keeps}
 use Rattle.std.proofs.KnownBytes.{Appends-kept, Appends-trans}
 use Rattle.zerotrie_files.specs.Disks.{Story}
@@ -14,10 +12,9 @@ use Rattle.zerotrie_queries.specs.declared.file.OpenError.TheVariants as unopene
 use Rattle.zerotrie_queries.specs.declared.reports.ReportForm.TheVariants.{Lines}
 use Rattle.zerotrie_queries.proofs.PartLemmas.{part_all}
 use Rattle.zerotrie_run.specs.Runs.{HasNumberToo, IsDoubtful, IsRead, IsRefusedUnread, ask_refusal, IsUnasked, IsUnopened}
-use Rattle.zerotrie_run.specs.Statuses.{failure}
 use Rattle.zerotrie_run.specs.Messages.{source_name}
-use Rattle.zerotrie_run.specs.Told.{HasReason, HasDiffReason, IsPlaceOf, IsTold, TellsMore, ended}
-use Rattle.zerotrie_run.specs.Diffs.{old_file, new_file, IsFileOf, IsDiffed, IsDiffedInPart, FailsDiff, RunsDiff, EndsDiff, HasNoTrieIn, IsEitherDoubtful, IsUnanswered, NotesNumbers, TellsIfDoubtful, AreHeldCompared, AreHeldComparedInPart, AreUncompared}
+use Rattle.zerotrie_run.specs.Told.{HasReason, HasDiffReason, IsPlaceOf, IsTold, TellsMore}
+use Rattle.zerotrie_run.specs.Diffs.{old_file, new_file, IsFileOf, IsDiffed, IsDiffedInPart, EndsDiff, HasNoTrieIn, IsEitherDoubtful, IsUnanswered, NotesNumbers, TellsIfDoubtful, AreHeldCompared, AreHeldComparedInPart, AreUncompared}
 use Rattle.zerotrie_run.specs.declared.front.Hint.{Hint}
 use Rattle.zerotrie_run.specs.declared.ask.AskError.{AskError}
 use Rattle.zerotrie_run.specs.declared.ask.AskError.TheVariants as ask
@@ -97,7 +94,6 @@ are_diffed_in_part diff input files held other a b r s h = record {
 -- a file has no trie, and so the comparison ends
 ends_unopened : (diff : Diff) (file : TrieFile) (input : Option (List ℕ)) (files : Option Story) (held : List ℕ) (a b : Option (List ℕ)) (e : AskError) → IsFileOf diff file → IsRead file.place input files held
     → HasNoTrieIn file held e → b ≡ a → EndsDiff diff input files a b (ask_refusal e)
-ends_unopened diff file input files held a b ask.TwoInputs of r h same = absurd h
 ends_unopened diff file input files held a b (ask.Unread e) of r h same = absurd h
 ends_unopened diff file input files held a b (ask.NoTrie (BadTag why) t) of r h same = ((file, of, (held, r, BadTag why, h.0)), same)
 ends_unopened diff file input files held a b (ask.NoTrie (Damaged why) t) of r h same = ((file, of, (held, r, Damaged why, h.0)), same)
@@ -120,7 +116,6 @@ reason_refused file input files why hint h = let r = h input in (r.0, r.1, unkno
 
 -- a beginning was printed, and so it ends
 ends_begun : (diff : Diff) (input : Option (List ℕ)) (files : Option Story) (a b : Option (List ℕ)) (e : AskError) → IsUnanswered e → IsDiffedInPart diff input files a b → EndsDiff diff input files a b (ask_refusal e)
-ends_begun diff input files a b ask.TwoInputs is h = absurd is
 ends_begun diff input files a b (ask.Unread e) is h = absurd is
 ends_begun diff input files a b (ask.NoTrie why t) is h = absurd is
 ends_begun diff input files a b (ask.NotText key) is h = absurd is
@@ -136,14 +131,12 @@ ends_uncompared diff input files held other a b e r s (inr h) = ends_begun diff 
 
 -- the reasons why
 reason_unopened : (file : TrieFile) (input : Option (List ℕ)) (files : Option Story) (held : List ℕ) (e : AskError) → IsRead file.place input files held → HasNoTrieIn file held e → HasReason (IsUnopened file) file Verify input files e
-reason_unopened file input files held ask.TwoInputs r h = absurd h
 reason_unopened file input files held (ask.Unread e) r h = absurd h
 reason_unopened file input files held (ask.NoTrie why t) r h = (held, r, h.0, h.1)
 reason_unopened file input files held (ask.NotText key) r h = absurd h
 reason_unopened file input files held (ask.Unanswered e) r h = absurd h
 
 reason_unanswered : (file : TrieFile) (input : Option (List ℕ)) (files : Option Story) (e : AskError) → IsUnanswered e → HasReason (IsUnopened file) file Verify input files e
-reason_unanswered file input files ask.TwoInputs h = absurd h
 reason_unanswered file input files (ask.Unread e) h = absurd h
 reason_unanswered file input files (ask.NoTrie why t) h = absurd h
 reason_unanswered file input files (ask.NotText key) h = absurd h
@@ -159,38 +152,6 @@ reason_uncompared diff input files held other a b e r s (inl (inr h, same)) =
     (inr h.0, subst (λ file. HasReason (IsUnopened file) file Verify input files e.error) (sym h.0) (reason_unopened (new_file diff) input files other e.error s h.1))
 reason_uncompared diff input files held other a b e r s (inr h) = (h.0, reason_unanswered e.file input files e.error h.1)
 
--- how a comparison ends after its message
-fails : (diff : Diff) (i : Option (List ℕ)) (files : Option Story) (a b : Option (List ℕ)) (read write closed : Bool) → FailsDiff diff i files a b → RunsDiff diff i files a b (failure read write closed)
-fails diff i files a b true write closed h = h
-fails diff i files a b false false closed h = h
-fails diff i files a b false true true h = h
-fails diff i files a b false true false h = h
-
-ends_by : (diff : Diff) (i : Option (List ℕ)) (files : Option Story) (a b : Option (List ℕ)) (read write closed : Bool) (e : AskError) (r : Result (Vec ℕ Global) AllocError) → EndsDiff diff i files a b (ask_refusal e)
-    → RunsDiff diff i files a b (ended (unwrap_or (ask_refusal e) (failure read write closed)) r)
-ends_by diff i files a b read write closed ask.TwoInputs (Ok text) h = h
-ends_by diff i files a b read write closed ask.TwoInputs (Err x) h = inl h.1
-ends_by diff i files a b read write closed (ask.Unread e) (Ok text) h = fails diff i files a b read write closed h
-ends_by diff i files a b read write closed (ask.Unread e) (Err x) h = h
-ends_by diff i files a b read write closed (ask.NoTrie (BadTag why) t) (Ok text) h = h
-ends_by diff i files a b read write closed (ask.NoTrie (BadTag why) t) (Err x) h = inl h.1
-ends_by diff i files a b read write closed (ask.NoTrie (Damaged why) t) (Ok text) h = h
-ends_by diff i files a b read write closed (ask.NoTrie (Damaged why) t) (Err x) h = inl h.1
-ends_by diff i files a b read write closed (ask.NoTrie (NotWellFormed k f) t) (Ok text) h = h
-ends_by diff i files a b read write closed (ask.NoTrie (NotWellFormed k f) t) (Err x) h = inl h.1
-ends_by diff i files a b read write closed (ask.NoTrie unopened.OutOfMemory t) (Ok text) h = fails diff i files a b read write closed h
-ends_by diff i files a b read write closed (ask.NoTrie unopened.OutOfMemory t) (Err x) h = h
-ends_by diff i files a b read write closed (ask.NotText key) r h = absurd h
-ends_by diff i files a b read write closed (ask.Unanswered (answer.Input e)) (Ok text) h = fails diff i files a b read write closed h
-ends_by diff i files a b read write closed (ask.Unanswered (answer.Input e)) (Err x) h = h
-ends_by diff i files a b read write closed (ask.Unanswered (answer.NoLines o)) r h = absurd h
-ends_by diff i files a b read write closed (ask.Unanswered (answer.Output e)) (Ok text) h = fails diff i files a b read write closed h
-ends_by diff i files a b read write closed (ask.Unanswered (answer.Output e)) (Err x) h = h
-
-pub diff_ends : (diff : Diff) (i : Option (List ℕ)) (files : Option Story) (a b : Option (List ℕ)) (read write closed : Bool) (e : AskError) (status result : Status) (r : Result (Vec ℕ Global) AllocError)
-    → EndsDiff diff i files a b (ask_refusal e) → status ≡ unwrap_or (ask_refusal e) (failure read write closed) → result ≡ ended status r → RunsDiff diff i files a b result
-diff_ends diff i files a b read write closed e status result r h is ends = rw (ends, is) (ends_by diff i files a b read write closed e r h)
-
 -- a question that an index does not answer
 abbrev pub a_report : Question
 a_report = Report Lines
@@ -201,7 +162,6 @@ no_index_asked file held why (inr bad) = absurd (let no = bad.0 in cc)
 
 -- why a file is not compared is why it is not asked such a question
 pub as_asked : (file : TrieFile) (i : Option (List ℕ)) (files : Option Story) (e : AskError) → HasReason (IsUnopened file) file Verify i files e → HasReason (IsUnasked file a_report) file a_report i files e
-as_asked file i files ask.TwoInputs h = tt
 as_asked file i files (ask.Unread e) h = tt
 as_asked file i files (ask.NoTrie why t) h = (h.0, h.1, inl h.2, h.3)
 as_asked file i files (ask.Unanswered (answer.Input e)) h = tt
@@ -229,10 +189,6 @@ told_of diff file i files a b Unread of h = (h.0, place_in diff file h.0 of h.1,
 told_of diff file i files a b Unwritten of h = (h.0, place_in diff file h.0 of h.1, h.2)
 told_of diff file i files a b OutOfMemory of h = h
 told_of diff file i files a b Closed of h = h
-
--- what is false is not so
-pub never : (b : Bool) → b ≡ false → IsTrue b → ⊥
-never b is so = absurd (cc)
 
 as_at_first : {R S : Type 0} (diff : Diff) (first second : TrieFile) (remaining : R → Option (List ℕ)) (old new : Watched R) (story : S → Option Story) (d e : S) (other : List ℕ)
     → ((diff.old ≡ Stream) × (diff.new ≡ Stream) → ⊥) → first ≡ old_file diff → second ≡ new_file diff → e ≡ d → (first.place ≡ Stream) ⊎ (new ≡ old)

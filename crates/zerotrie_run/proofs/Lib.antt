@@ -14,5 +14,5 @@ mod DiffLemmas
 mod StreamLemmas
 mod CombinedLemmas
 mod CombinedTold
-mod CombinedEnds
+mod EndLemmas
 mod CombinedLaws

@@ -1,16 +1,18 @@
 -- What each command does with its input, prints and leaves in files, and how it ends.
-use Rattle.std.specs.Prelude.{◌≡◌, ◌⊎◌, ℕ, List, Option, Some, Bool, true, false}
+use Rattle.std.specs.Prelude.{◌≡◌, ◌⊎◌, ℕ, List, Option, Some, None, Bool, true, false, Result, Ok, Err, is_none, unwrap_or}
 use Rattle.zerotrie_files.specs.Disks.{Story}
-use Rattle.zerotrie_run.specs.Runs.{World, AreAllFiles, AreFiles, AreOneStream, HaveTwoStreams, IsDoubtful, LeavesInputOf, RunsAsk, RunsBuild, of_lines}
+use Rattle.zerotrie_run.specs.Runs.{World, AreAllFiles, AreFiles, AreOneStream, HaveTwoStreams, IsDoubtful, LeavesInputOf, RunsAsk, RunsBuild, ask_refusal, build_refusal, of_lines}
 use Rattle.zerotrie_run.specs.Diffs.{IsEitherDoubtful, RunsDiff}
-use Rattle.zerotrie_run.specs.Combined.{RunsCombine}
+use Rattle.zerotrie_run.specs.Combined.{RunsCombine, combine_refusal}
 use Rattle.zerotrie_run.specs.declared.command.Command.{Command}
 use Rattle.zerotrie_run.specs.declared.command.Command.TheVariants as commands
 use Rattle.zerotrie_run.specs.declared.command.Place.TheVariants.{Stream}
 use Rattle.zerotrie_run.specs.declared.command.Summary.{Summary}
 use Rattle.zerotrie_run.specs.declared.command.Summary.TheVariants.{Never, IfEmpty, Always}
 use Rattle.zerotrie_run.specs.declared.status.Status.{Status}
-use Rattle.zerotrie_run.specs.declared.status.Status.TheVariants.{BadUsage}
+use Rattle.zerotrie_run.specs.declared.status.Status.TheVariants.{Done, Absent, BadUsage, OutOfMemory}
+use Rattle.zerotrie_run.specs.declared.error.CommandError.{CommandError}
+use Rattle.zerotrie_run.specs.declared.error.CommandError.TheVariants as error
 
 -- a command reads a file of bare bytes that begins with the number of a kind, which is told
 abbrev pub TellsNumber : Command → Option (List ℕ) → Option Story → Type 0
@@ -26,12 +28,16 @@ ReadsTwice (commands.Ask file question) = (file.place ≡ Stream) × (of_lines q
 ReadsTwice (commands.Diff diff) = AreOneStream diff.old diff.new
 ReadsTwice (commands.Combine c) = HaveTwoStreams c.from.now
 
--- a command that ends so doesn't read standard input
+-- a command that is refused so, or is not, doesn't read standard input
+abbrev pub LeavesInputBy : Command → Option Status → Type 0
+LeavesInputBy (commands.Build build) refusal = build.from ≡ Stream → ⊥
+LeavesInputBy (commands.Ask file question) refusal = LeavesInputOf file question refusal
+LeavesInputBy (commands.Diff diff) refusal = (refusal ≡ Some BadUsage) ⊎ AreFiles diff.old diff.new
+LeavesInputBy (commands.Combine c) refusal = (refusal ≡ Some BadUsage) ⊎ AreAllFiles c.from.now
+
+-- a command that ends so doesn't
 abbrev pub LeavesInput : Command → Status → Type 0
-LeavesInput (commands.Build build) status = build.from ≡ Stream → ⊥
-LeavesInput (commands.Ask file question) status = LeavesInputOf file question (Some status)
-LeavesInput (commands.Diff diff) status = (status ≡ BadUsage) ⊎ AreFiles diff.old diff.new
-LeavesInput (commands.Combine c) status = (status ≡ BadUsage) ⊎ AreAllFiles c.from.now
+LeavesInput command status = LeavesInputBy command (Some status)
 
 -- whether what was made may be told
 abbrev pub may_tell : Summary → Bool
@@ -52,3 +58,29 @@ Runs (commands.Build build) input before after status = RunsBuild build input be
 Runs (commands.Ask file question) input before after status = (after.files ≡ before.files) × RunsAsk file question input before.files before.printed after.printed status
 Runs (commands.Diff diff) input before after status = (after.files ≡ before.files) × RunsDiff diff input before.files before.printed after.printed status
 Runs (commands.Combine c) input before after status = RunsCombine c input before after status
+
+-- how a run ends in which nothing failed, by whether all was found
+abbrev pub found : Bool → Status
+found true = Done
+found false = Absent
+
+-- how a run ends if its command is refused; none if something failed
+abbrev pub command_refusal : CommandError → Option Status
+command_refusal (error.Build build e) = build_refusal e
+command_refusal (error.Ask file question e) = ask_refusal e
+command_refusal (error.Diff diff e) = ask_refusal e.error
+command_refusal (error.Combine c e) = combine_refusal e
+
+-- the same of a command that may have come to its end
+abbrev pub refusal_of : Result Bool CommandError → Option Status
+refusal_of (Ok all) = None
+refusal_of (Err e) = command_refusal e
+
+-- whether something failed: a command neither came to its end nor was refused
+abbrev pub command_fails : Result Bool CommandError → Bool
+command_fails (Ok all) = false
+command_fails (Err e) = is_none (command_refusal e)
+
+-- how a command ends if it is refused so, or if only that something failed is known
+abbrev pub Ends : Command → Option (List ℕ) → World → World → Option Status → Type 0
+Ends command input before after refusal = Runs command input before after (unwrap_or refusal OutOfMemory)

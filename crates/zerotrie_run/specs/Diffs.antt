@@ -109,7 +109,6 @@ pub record NotesNumbers (diff : Diff) (input : Option (List ℕ)) (files : Optio
 
 -- why a file is not read
 abbrev pub IsUnread : AskError → Type 0
-IsUnread ask.TwoInputs = ⊥
 IsUnread (ask.Unread e) = Unit {0}
 IsUnread (ask.NoTrie why hint) = ⊥
 IsUnread (ask.NotText key) = ⊥
@@ -117,7 +116,6 @@ IsUnread (ask.Unanswered e) = ⊥
 
 -- why what was read of a file is not opened
 abbrev pub HasNoTrieIn : TrieFile → List ℕ → AskError → Type 0
-HasNoTrieIn file held ask.TwoInputs = ⊥
 HasNoTrieIn file held (ask.Unread e) = ⊥
 HasNoTrieIn file held (ask.NoTrie why hint) = IsUnopened file held why × IsHint held hint
 HasNoTrieIn file held (ask.NotText key) = ⊥
@@ -149,7 +147,6 @@ IsOneUnopened diff held other e = ((e.file ≡ old_file diff) × HasNoTrieIn (ol
 
 -- the output failed, or an allocation failed
 abbrev pub IsUnanswered : AskError → Type 0
-IsUnanswered ask.TwoInputs = ⊥
 IsUnanswered (ask.Unread e) = ⊥
 IsUnanswered (ask.NoTrie why hint) = ⊥
 IsUnanswered (ask.NotText key) = ⊥

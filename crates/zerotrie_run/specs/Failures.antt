@@ -35,7 +35,6 @@ AnswerFailed read write (Output e) = IsFailureOf write e
 
 -- of one that a question has none
 abbrev pub AskFailed : (read write : Type 0) → AskError → Type 0
-AskFailed read write ask.TwoInputs = Unit {0}
 AskFailed read write (ask.Unread e) = IsFailureOf read e
 AskFailed read write (ask.NoTrie why hint) = Unit {0}
 AskFailed read write (ask.NotText key) = Unit {0}

@@ -167,7 +167,6 @@ TellsNoTrie unopened.OutOfMemory hint text = Unit {0}
 
 -- a line tells why a question to a file has no answer, and which place it is about
 abbrev pub TellsAsk : Place → AskError → List ℕ → Type 0
-TellsAsk file ask.TwoInputs text = IsLine text
 TellsAsk file (ask.Unread e) text = IsLineOn (source_name file) text
 TellsAsk file (ask.NoTrie why hint) text = IsLineOn (source_name file) text × TellsNoTrie why hint text
 TellsAsk file (ask.Unanswered (Input e)) text = IsLineOn (codes "standard input") text

@@ -149,7 +149,7 @@ are_lines Lines = true
 -- whether the keys of a question are
 abbrev pub of_lines : Question → Bool
 of_lines (LookUp query keys) = are_lines keys
-of_lines (Listing form choice order limit) = false
+of_lines (Listing form s) = false
 of_lines (Distances choice limit) = false
 of_lines (Code language name) = false
 of_lines (Report form) = false
@@ -169,7 +169,7 @@ Opens file all kind bytes = OpensBy file.check file.bare all kind bytes
 -- whether an index answers a question: what values keys have, and whether it is one
 abbrev pub asks_index : Question → Bool
 asks_index (LookUp query keys) = asks_keys query.asked
-asks_index (Listing form choice order limit) = false
+asks_index (Listing form s) = false
 asks_index (Distances choice limit) = false
 asks_index (Code language name) = false
 asks_index (Report form) = false
@@ -196,7 +196,7 @@ OpensFor file question all (in_blocks start held) = ⊥
 abbrev pub asks_places : Question → Bool
 asks_places (LookUp query (Words words)) = asks_keys query.asked
 asks_places (LookUp query Lines) = false
-asks_places (Listing form choice order limit) = false
+asks_places (Listing form s) = false
 asks_places (Distances choice limit) = false
 asks_places (Code language name) = false
 asks_places (Report form) = false
@@ -271,7 +271,7 @@ limit_shown false limit = Some 0
 -- what was printed, and whether all was found, belong to the question and to bytes of this kind: of pairs, whether there is one
 abbrev pub Answers : Question → (input : Option (List ℕ)) → TrieKind → List ℕ → (old new : Option (List ℕ)) → Bool → Type 0
 Answers (LookUp query keys) input kind bytes old new all = KeysAnswered query keys input (TrieFinds kind bytes) old new all
-Answers (Listing form choice order limit) input kind bytes old new all = AreFound (picked order kind choice) limit kind bytes all × AreListed form (picked order kind choice) limit kind bytes old new
+Answers (Listing form s) input kind bytes old new all = AreFound (picked s.order kind s.choice) s.limit kind bytes all × AreListed form (picked s.order kind s.choice) s.limit kind bytes old new
 Answers (Distances choice limit) input kind bytes old new all = AreFound (picked Nearest kind choice) limit kind bytes all × AreMeasured choice limit kind bytes old new
 Answers (Code language name) input kind bytes old new all = (all ≡ true) × Appends old new (whole_code language kind name.now bytes)
 Answers Verify input kind bytes old new all = (all ≡ true) × Keeps old new
@@ -281,7 +281,7 @@ Answers (View view) input kind bytes old new all = (all ≡ true) × Appends old
 -- the same of the bytes of an index; nothing is printed if it is only tested
 abbrev pub IndexAnswers : Question → (input : Option (List ℕ)) → List ℕ → (old new : Option (List ℕ)) → Bool → Type 0
 IndexAnswers (LookUp query keys) input bytes old new all = KeysAnswered query keys input (IndexFinds query.asked bytes) old new all
-IndexAnswers (Listing form choice order limit) input bytes old new all = (all ≡ true) × Keeps old new
+IndexAnswers (Listing form s) input bytes old new all = (all ≡ true) × Keeps old new
 IndexAnswers (Distances choice limit) input bytes old new all = (all ≡ true) × Keeps old new
 IndexAnswers (Code language name) input bytes old new all = (all ≡ true) × Keeps old new
 IndexAnswers Verify input bytes old new all = (all ≡ true) × Keeps old new
@@ -301,7 +301,7 @@ KeysAnsweredInPart query keys input MayHave old new = (ks : List (List ℕ)) × 
 -- a beginning of what belongs to the question and to bytes of this kind was printed
 abbrev pub AnswersInPart : Question → (input : Option (List ℕ)) → TrieKind → List ℕ → (old new : Option (List ℕ)) → Type 0
 AnswersInPart (LookUp query keys) input kind bytes old new = KeysAnsweredInPart query keys input (TrieFinds kind bytes) old new
-AnswersInPart (Listing form choice order limit) input kind bytes old new = AreListedInPart form (picked order kind choice) limit kind bytes old new
+AnswersInPart (Listing form s) input kind bytes old new = AreListedInPart form (picked s.order kind s.choice) s.limit kind bytes old new
 AnswersInPart (Distances choice limit) input kind bytes old new = AreMeasuredInPart choice limit kind bytes old new
 AnswersInPart (Code language name) input kind bytes old new = AppendsPart old new (whole_code language kind name.now bytes)
 AnswersInPart Verify input kind bytes old new = Keeps old new
@@ -311,7 +311,7 @@ AnswersInPart (View view) input kind bytes old new = AppendsPart old new (shown 
 -- the same of the bytes of an index
 abbrev pub IndexAnswersInPart : Question → (input : Option (List ℕ)) → List ℕ → (old new : Option (List ℕ)) → Type 0
 IndexAnswersInPart (LookUp query keys) input bytes old new = KeysAnsweredInPart query keys input (IndexFinds query.asked bytes) old new
-IndexAnswersInPart (Listing form choice order limit) input bytes old new = Keeps old new
+IndexAnswersInPart (Listing form s) input bytes old new = Keeps old new
 IndexAnswersInPart (Distances choice limit) input bytes old new = Keeps old new
 IndexAnswersInPart (Code language name) input bytes old new = Keeps old new
 IndexAnswersInPart Verify input bytes old new = Keeps old new
@@ -327,7 +327,7 @@ ContentAnswersInPart (in_blocks start held) question input old new = (bytes : Li
 -- the pairs that are asked for can't be printed so: this is the first of their keys that is not UTF-8
 abbrev pub IsUnprintable : Question → TrieKind → List ℕ → List ℕ → Type 0
 IsUnprintable (LookUp query keys) kind bytes key = ⊥
-IsUnprintable (Listing form choice order limit) kind bytes key = AreNoText form (picked order kind choice) limit kind bytes key
+IsUnprintable (Listing form s) kind bytes key = AreNoText form (picked s.order kind s.choice) s.limit kind bytes key
 IsUnprintable (Distances choice limit) kind bytes key = ⊥
 IsUnprintable (Code language name) kind bytes key = ⊥
 IsUnprintable Verify kind bytes key = ⊥
@@ -337,7 +337,7 @@ IsUnprintable (View view) kind bytes key = ⊥
 -- the keys of a question are to be lines of standard input, which is this other file
 abbrev pub HasNoLines : Question → Option (List ℕ) → OtherFile → Type 0
 HasNoLines (LookUp query keys) input other = AreNoLines keys input other
-HasNoLines (Listing form choice order limit) input other = ⊥
+HasNoLines (Listing form s) input other = ⊥
 HasNoLines (Distances choice limit) input other = ⊥
 HasNoLines (Code language name) input other = ⊥
 HasNoLines Verify input other = ⊥
@@ -358,7 +358,7 @@ answer_fails (Err e) = is_none (answer_refusal e)
 -- why a question is not answered, or not to the end: its keys are no lines, and nothing was printed; or something failed
 abbrev pub HasNoKeys : Question → Option (List ℕ) → (old new : Option (List ℕ)) → AnswerError → Type 0
 HasNoKeys (LookUp query keys) input old new e = AreNoKeys keys input old new e
-HasNoKeys (Listing form choice order limit) input old new e = answer_refusal e ≡ None
+HasNoKeys (Listing form s) input old new e = answer_refusal e ≡ None
 HasNoKeys (Distances choice limit) input old new e = answer_refusal e ≡ None
 HasNoKeys (Code language name) input old new e = answer_refusal e ≡ None
 HasNoKeys Verify input old new e = answer_refusal e ≡ None
@@ -368,7 +368,6 @@ HasNoKeys (View view) input old new e = answer_refusal e ≡ None
 -- why there is no answer, or not all of it: the pairs can't be printed so, and nothing was; or something failed, and a beginning of
 -- the answer was printed
 abbrev pub IsNoAnswer : Question → (input : Option (List ℕ)) → TrieKind → List ℕ → (old new : Option (List ℕ)) → AskError → Type 0
-IsNoAnswer question input kind bytes old new ask.TwoInputs = ⊥
 IsNoAnswer question input kind bytes old new (ask.Unread e) = ⊥
 IsNoAnswer question input kind bytes old new (ask.NoTrie why hint) = ⊥
 IsNoAnswer question input kind bytes old new (ask.Unanswered e) = AnswersInPart question input kind bytes old new × HasNoKeys question input old new e
@@ -418,7 +417,6 @@ pub record IsUnkeyed (file : TrieFile) (question : Question) (input : Option (Li
 -- what a file holds has no answer: nothing in it is asked the question, and nothing was printed; or something is, and there is no answer,
 -- or not all of it
 abbrev pub IsUnanswered : TrieFile → Question → (input : Option (List ℕ)) → List ℕ → (old new : Option (List ℕ)) → AskError → Type 0
-IsUnanswered file question input held old new ask.TwoInputs = ⊥
 IsUnanswered file question input held old new (ask.Unread e) = ⊥
 IsUnanswered file question input held old new (ask.NoTrie why hint) = IsUnopenedFor file question held why × IsHint held hint × (new ≡ old)
 IsUnanswered file question input held old new (ask.NotText key) = (kind : TrieKind) × (bytes : List ℕ) × Opens file held kind bytes × IsUnprintable question kind bytes key.items × (new ≡ old)
@@ -472,7 +470,6 @@ EndsAsk file question input files old new (Some status) = RunsAsk file question 
 
 -- how a run ends if a question is refused; none if something failed
 abbrev pub ask_refusal : AskError → Option Status
-ask_refusal ask.TwoInputs = Some BadUsage
 ask_refusal (ask.Unread e) = None
 ask_refusal (ask.NoTrie (unopened.BadTag why) hint) = Some BadInput
 ask_refusal (ask.NoTrie (unopened.Damaged why) hint) = Some BadInput

@@ -16,12 +16,12 @@ use Rattle.zerotrie_making.specs.declared.plan.FileForm.TheVariants as form
 use Rattle.zerotrie_making.specs.declared.plan.Made.{Made}
 use Rattle.zerotrie_core.specs.declared.TrieKind.{TrieKind}
 use Rattle.zerotrie_run.specs.Statuses.{made_refusal}
-use Rattle.zerotrie_run.specs.Messages.{IsLine, IsLineOn, Says, other_words, TellsMade, TellsNoTrie, TellsUnmade, kind_line, made_line, removed_line, source_name, target_name, told_key, unit_of}
+use Rattle.zerotrie_run.specs.Messages.{IsLine, IsLineOn, Says, other_words, TellsAsk, TellsBuild, TellsCombine, TellsMade, TellsNoTrie, TellsUnmade, kind_line, made_line, removed_line, source_name, target_name, told_key, unit_of}
 use Rattle.zerotrie_run.specs.Runs.{IsRead, IsThere, IsUnasked, IsUnopened, IsUnprinted, HasNoLines, HasNumberToo}
 use Rattle.zerotrie_run.specs.Diffs.{IsFileOf, NotesNumbers}
 use Rattle.zerotrie_run.specs.declared.command.Diff.{Diff}
 use Rattle.zerotrie_run.specs.declared.diff.DiffError.{DiffError}
-use Rattle.zerotrie_run.specs.Combined.{IsMadeSo, OfFiles, file_of, unmade_refusal}
+use Rattle.zerotrie_run.specs.Combined.{HasCombineCause, IsMadeSo, NamesFile, OfFiles, file_of, unmade_refusal}
 use Rattle.zerotrie_run.specs.Commands.{may_tell}
 use Rattle.zerotrie_run.specs.declared.status.Status.{Status}
 use Rattle.zerotrie_run.specs.declared.status.Status.TheVariants.{Done, Absent, Refused, Taken, BadUsage, BadInput, BadKeys, Unread, Unwritten, OutOfMemory, Closed}
@@ -40,6 +40,8 @@ use Rattle.zerotrie_run.specs.declared.ask.AskError.TheVariants as ask
 use Rattle.zerotrie_run.specs.declared.stdin_lines.AnswerError.TheVariants.{Input, NoLines, Output}
 use Rattle.zerotrie_run.specs.declared.build.BuildError.{BuildError}
 use Rattle.zerotrie_run.specs.declared.build.BuildError.TheVariants as unmade
+use Rattle.zerotrie_run.specs.declared.error.CommandError.{CommandError}
+use Rattle.zerotrie_run.specs.declared.error.CommandError.TheVariants as error
 
 -- some words were told, or none
 abbrev pub TellsMore : (old new : Option (List ℕ)) → Type 0
@@ -74,7 +76,6 @@ PlaceTold command old new = (name : List ℕ) × IsPlaceOf command name × ToldO
 
 -- why a question has no answer is so of what was read of the file, which has no trie for such a reason
 abbrev pub HasReason : (List ℕ → OpenError → Type 0) → TrieFile → Question → Option (List ℕ) → Option Story → AskError → Type 0
-HasReason IsWhy file question input files ask.TwoInputs = Unit {0}
 HasReason IsWhy file question input files (ask.Unread e) = Unit {0}
 HasReason IsWhy file question input files (ask.NoTrie why hint) = (held : List ℕ) × IsRead file.place input files held × IsWhy held why × IsHint held hint
 HasReason IsWhy file question input files (ask.Unanswered (Input e)) = Unit {0}
@@ -93,6 +94,28 @@ HasCause build input files (unmade.NotMade e) = (all : List ℕ) × IsRead build
 HasCause build input files (unmade.Unwritten e) = Unit {0}
 HasCause build input files unmade.Taken = IsThere build.to files
 HasCause build input files (unmade.Unfound e) = Unit {0}
+
+-- why a command was not carried out is so of what it was to do and what was read
+abbrev pub HasCommandCause : Command → Option (List ℕ) → Option Story → CommandError → Type 0
+HasCommandCause command input files (error.Build build e) = (command ≡ commands.Build build) × HasCause build input files e
+HasCommandCause command input files (error.Ask file question e) =
+    (command ≡ commands.Ask file question) × HasReason (IsUnasked file question) file question input files e
+HasCommandCause command input files (error.Diff diff e) = (command ≡ commands.Diff diff) × HasDiffReason diff input files e
+HasCommandCause command input files (error.Combine c e) = (command ≡ commands.Combine c) × HasCombineCause c input files e
+
+-- a line tells why
+abbrev pub TellsCommand : CommandError → List ℕ → Type 0
+TellsCommand (error.Build build e) text = TellsBuild (source_name build.from) (target_name build.to) (unit_of build.plan.read.source) e text
+TellsCommand (error.Ask file question e) text = TellsAsk file.place e text
+TellsCommand (error.Diff diff e) text = TellsAsk e.file.place e.error text
+TellsCommand (error.Combine c e) text = TellsCombine c e text
+
+-- the number that an error has for a file is that of one
+abbrev pub NamesItsFile : CommandError → Type 0
+NamesItsFile (error.Build build e) = Unit {0}
+NamesItsFile (error.Ask file question e) = Unit {0}
+NamesItsFile (error.Diff diff e) = Unit {0}
+NamesItsFile (error.Combine c e) = NamesFile c e
 
 -- a line on the file is told if it is read as bare bytes and begins with the number of a kind
 abbrev pub NotesNumber : TrieFile → Option (List ℕ) → Option Story → (old new : Option (List ℕ)) → Type 0

@@ -13,11 +13,11 @@ ghost use Rattle.zerotrie_run.specs.Runs.{OpensFor, Content, ContentAnswers, Ind
 ghost use Rattle.zerotrie_run.specs.Told.{HasReason, NotesNumber, TellsMore};
 ghost use Rattle.zerotrie_run.specs.declared.command.Command.TheVariants.{Ask};
 ghost use Rattle.zerotrie_run.specs.declared.command.Keys.TheVariants.{Lines};
-ghost use Rattle.zerotrie_run.specs.declared.ask.AskError.TheVariants.{TwoInputs, Unanswered};
+ghost use Rattle.zerotrie_run.specs.declared.ask.AskError.TheVariants.{Unanswered};
 ghost use Rattle.zerotrie_run.specs.declared.stdin_lines.AnswerError.TheVariants.{Output};
 
 use crate::at_places::answer_at_places;
-use crate::command::{Keys, Question, TrieFile, reads_twice};
+use crate::command::{Keys, Question, TrieFile};
 use crate::found::{write_found, write_measured};
 use crate::front::{Hint, hint_of, refused_by_front};
 use crate::messages::ask::tell_number;
@@ -31,7 +31,7 @@ use std::io::{BufWriter, Read, Write};
 use zerotrie_core::TrieRef;
 use zerotrie_files::{Disk, Noted, Store};
 use zerotrie_queries::{
-    Asked, Finder, ListError, OpenError, Query, Selection, write_answers, write_trie_code,
+    Asked, Finder, ListError, ListQuery, OpenError, Query, write_answers, write_trie_code,
     write_trie_report, write_trie_view,
 };
 use zerotrie_reverse::Reverse;
@@ -39,8 +39,6 @@ use zerotrie_reverse::Reverse;
 /// Why a question has no answer.
 #[derive(Debug, Drop)]
 pub enum AskError {
-    /// Standard input can't be both the file and the keys.
-    TwoInputs,
     /// The file can't be read, or memory was refused before it was opened.
     Unread(io::Error),
     /// The file has no trie, nor an index that answers the question, and looks so.
@@ -57,7 +55,6 @@ impl AskError {
         ensures { result ≡ ask_refusal self.now }
     {
         match self {
-            AskError::TwoInputs => Some(Status::BadUsage),
             AskError::NoTrie(why, _) => match why {
                 OpenError::BadTag(_) | OpenError::Damaged(_) | OpenError::NotWellFormed(_, _) => {
                     Some(Status::BadInput)
@@ -211,12 +208,7 @@ fn answer<R: Read, W: Write + Drop>(
         Question::LookUp(query, keys) => {
             Ok(answer_by_trie(alloc, trie, query, keys, input, output)?)
         }
-        Question::List(form, choice, order, limit) => {
-            let selection = Selection {
-                choice,
-                order,
-                limit,
-            };
+        Question::List(form, selection) => {
             match write_found(alloc, trie, form, selection, output) {
                 Ok(found) => Ok(found),
                 Err(ListError::NotText(key)) => Err(AskError::NotText(key)),
@@ -271,7 +263,7 @@ fn answer_of_index<R: Read, W: Write + Drop>(
             let finder = Finder::Index(index);
             answer_keys(alloc, &finder, query, keys, input, output)
         }
-        Question::List(_, _, _, _)
+        Question::List(_, _)
         | Question::Distances(_, _)
         | Question::Code(_, _)
         | Question::Verify
@@ -342,6 +334,7 @@ pub fn ask<D: Disk, R: Read, W: Write + Drop, M: Write>(
     output: &mut Noted<BufWriter<W>>,
     messages: &mut Noted<M>,
 ) -> Result<bool, AskError>
+    requires { ReadsTwice (Ask file question) → ⊥ }
     ensures ok { IfOk result (λ all. IsAsked file.entry question.entry (R.remaining input.old.inner)
         (D.story files.old.disk) (writer_contents W.contents output.old.inner)
         (writer_contents W.contents output.new.inner) all) }
@@ -360,7 +353,6 @@ pub fn ask<D: Disk, R: Read, W: Write + Drop, M: Write>(
     ensures quiet { (IsDoubtful file.entry (R.remaining input.old.inner)
         (D.story files.old.disk) → ⊥)
         → messages.new ≡ messages.old }
-    ensures twice { ReadsTwice (Ask file.entry question.entry) → result ≡ Err TwoInputs }
     ensures noted { ask_fails result ≡ false
         → NothingFailed input.old input.new output.old output.new files.old files.new }
     ensures failed { IfErr result (AskFailed (ReadFailed input.new files.new)
@@ -368,9 +360,6 @@ pub fn ask<D: Disk, R: Read, W: Write + Drop, M: Write>(
     ensures unread { LeavesInputOf file.entry question.entry (asked_refusal result)
         → input.new ≡ input.old }
 {
-    if reads_twice(file.place, question) {
-        return Err(AskError::TwoInputs);
-    }
     if let Some((text, all)) = answer_at_places(alloc, file, question, files.disk()) {
         print(text.as_slice(), output)?;
         return Ok(all);

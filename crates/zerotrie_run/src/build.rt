@@ -69,60 +69,6 @@ pub fn is_told(summary: Summary, keys: usize) -> bool
     }
 }
 
-/// Makes a file of pairs, and writes it to its place. It reports that at the end, as its summary says,
-/// and then how many files of killed builds were removed.
-#[tactic(auto, using(crate::proofs::MadeLemmas::file_of_made))]
-fn make_file<D: Disk, R: Read, W: Write + Drop, M: Write>(
-    alloc: Global,
-    build: Build<'_>,
-    files: &mut Store<D>,
-    input: &mut Noted<R>,
-    output: &mut Noted<BufWriter<W>>,
-    messages: &mut Noted<M>,
-) -> Result<(), BuildError>
-    ensures ok { OnOk result (IsMade build.entry (R.remaining input.old.inner)
-        (world (D.story files.old.disk) (writer_contents W.contents output.old.inner))
-        (world (D.story files.new.disk) (writer_contents W.contents output.new.inner))) }
-    ensures err { IfErr result (λ e. EndsBuild build.entry (R.remaining input.old.inner)
-        (world (D.story files.old.disk) (writer_contents W.contents output.old.inner))
-        (world (D.story files.new.disk)
-        (writer_contents W.contents output.new.inner)) (build_refusal e)) }
-    ensures handed { OnOk result (HandsOn output.old.inner output.new.inner) }
-    ensures why { IfErr result (HasCause build.entry (R.remaining input.old.inner)
-        (D.story files.old.disk)) }
-    ensures done { OnOk result (messages.new.failed ≡ false
-        → TellsDone build.entry (R.remaining input.old.inner) (D.story files.old.disk)
-        (M.contents messages.old.inner) (M.contents messages.new.inner)) }
-    ensures tells { messages.new.failed ≡ false
-        → TellsMore (M.contents messages.old.inner) (M.contents messages.new.inner) }
-    ensures quiet { may_tell build.entry.summary ≡ false → messages.new ≡ messages.old }
-    ensures noted { build_fails result ≡ false
-        → NothingFailed input.old input.new output.old output.new files.old files.new }
-    ensures failed { IfErr result (BuildFailed (ReadFailed input.new files.new)
-        (WriteFailed output.new files.new)) }
-    ensures unread { (build.entry.from ≡ Stream → ⊥) → input.new ≡ input.old }
-{
-    let held = match read_place(alloc, build.from, files, input) {
-        Ok(held) => held,
-        Err(error) => return Err(BuildError::Unread(error)),
-    };
-    let made = match make(alloc, build.plan, held) {
-        Ok(made) => made,
-        Err(error) => return Err(BuildError::NotMade(error)),
-    };
-    let place = target_name(build.to);
-    let is_told = is_told(build.summary, made.keys);
-    let done = made_text(alloc, is_told, place, made.keys, made.file.len())?;
-    match write_place(alloc, build.to, made.file.as_slice(), files, output) {
-        Ok(removed) => {
-            tell(messages, done.as_slice());
-            tell_removed(alloc, messages, build.summary, build.to, removed);
-            Ok(())
-        }
-        Err(error) => Err(BuildError::Unwritten(error)),
-    }
-}
-
 /// Refuses a build whose file is there already, if it is to be left as it is.
 pub fn spare<D: Disk>(
     to: Place<'_>,
@@ -148,7 +94,9 @@ pub fn spare<D: Disk>(
 }
 
 /// Makes a file of pairs, and writes it to its place, unless there is a file already that is to be left
-/// as it is. It reports that at the end, as its summary says.
+/// as it is. It reports that at the end, as its summary says, and then how many files of killed builds
+/// were removed.
+#[tactic(auto, using(crate::proofs::MadeLemmas::file_of_made))]
 pub fn build<D: Disk, R: Read, W: Write + Drop, M: Write>(
     alloc: Global,
     build: Build<'_>,
@@ -182,5 +130,23 @@ pub fn build<D: Disk, R: Read, W: Write + Drop, M: Write>(
     ensures unread { (build.entry.from ≡ Stream → ⊥) → input.new ≡ input.old }
 {
     spare(build.to, build.no_clobber, files)?;
-    make_file(alloc, build, files, input, output, messages)
+    let held = match read_place(alloc, build.from, files, input) {
+        Ok(held) => held,
+        Err(error) => return Err(BuildError::Unread(error)),
+    };
+    let made = match make(alloc, build.plan, held) {
+        Ok(made) => made,
+        Err(error) => return Err(BuildError::NotMade(error)),
+    };
+    let place = target_name(build.to);
+    let is_told = is_told(build.summary, made.keys);
+    let done = made_text(alloc, is_told, place, made.keys, made.file.len())?;
+    match write_place(alloc, build.to, made.file.as_slice(), files, output) {
+        Ok(removed) => {
+            tell(messages, done.as_slice());
+            tell_removed(alloc, messages, build.summary, build.to, removed);
+            Ok(())
+        }
+        Err(error) => Err(BuildError::Unwritten(error)),
+    }
 }

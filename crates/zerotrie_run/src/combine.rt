@@ -1,31 +1,29 @@
 //! A file that is made of the tries of others.
 
-ghost use Rattle.std.specs.Prelude.{◌≡◌, ◌<◌, ◌⊎◌, false, IfErr, IfOk, None, OnErr, OnOk, map, IfSome};
+ghost use Rattle.std.specs.Prelude.{◌≡◌, ◌<◌, false, IfErr, IfOk, None, OnErr, OnOk, map, IfSome};
 ghost use Rattle.std.specs.Io.Buffered.{writer_contents};
 ghost use Rattle.std.specs.List.{AllZip};
 ghost use Rattle.zerotrie_files.specs.Notes.{NothingFailed, SameReads};
 ghost use Rattle.zerotrie_making.specs.declared.error.MakeError.TheVariants.{OutOfMemory};
-ghost use Rattle.zerotrie_run.specs.Failures.{CombineFailed, ReadFailed, WasClosed, WriteFailed};
-ghost use Rattle.zerotrie_run.specs.Commands.{Runs, TellsNumber, ReadsTwice, LeavesInput, may_tell, tells_made};
+ghost use Rattle.zerotrie_run.specs.Failures.{CombineFailed, ReadFailed, WriteFailed};
+ghost use Rattle.zerotrie_run.specs.Commands.{may_tell};
 ghost use Rattle.zerotrie_run.specs.Combined.{AreRead, AreUnopened, EndsCombine, HasCombineCause, IsCombination, IsMadeSo, IsRefusedIn, IsUncombined, IsUnopenedAt, IsUnread, OfHeld, are_several, combine_fails, combine_refusal};
 ghost use Rattle.zerotrie_run.specs.Runs.{world, AreAllFiles, HandsOn, HaveTwoStreams, IsFreshAt, OpensBy};
-ghost use Rattle.zerotrie_run.specs.Statuses.{number_of};
-ghost use Rattle.zerotrie_run.specs.Told.{IsTold, Notes, TellsCombined};
+ghost use Rattle.zerotrie_run.specs.Told.{TellsCombined};
 ghost use Rattle.zerotrie_run.specs.declared.build.BuildError.TheVariants.{NotMade};
 ghost use Rattle.zerotrie_run.specs.declared.combine.CombineError.TheVariants.{NotBuilt};
 ghost use Rattle.zerotrie_run.specs.declared.command.Check.TheVariants.{Full};
 ghost use Rattle.zerotrie_run.specs.declared.command.Command.TheVariants as commands;
-ghost use Rattle.zerotrie_run.specs.declared.status.Status.TheVariants.{Done, Absent, BadUsage, Unread, Unwritten, Closed};
+ghost use Rattle.zerotrie_run.specs.declared.status.Status.TheVariants.{Unwritten};
 
 use crate::build::{BuildError, spare};
-use crate::command::{Combine, Place, have_two_streams};
+use crate::command::{Combine, Place};
 use crate::front::{Hint, hint_of, refused_by_front};
 use crate::messages::build::tell_removed;
-use crate::messages::combine::{combine_text, combined_text, file_of, tell_two_streams};
+use crate::messages::combine::{combined_text, file_of};
 use crate::messages::line::tell;
 use crate::open::open_in_full;
 use crate::place::{read_place, write_place};
-use crate::program::{end, end_of};
 use crate::status::Status;
 use std::alloc::{AllocError, AllocFailed, Global};
 use std::io;
@@ -188,57 +186,10 @@ fn combine_held(
     }
 }
 
-/// Makes the new file of the others, and writes it to its place. It reports that at the end, as its
-/// summary says, and then how many files of killed builds were removed.
-fn make_file<D: Disk, R: Read, W: Write + Drop, M: Write>(
-    alloc: Global,
-    combine: Combine<'_>,
-    files: &mut Store<D>,
-    input: &mut Noted<R>,
-    output: &mut Noted<BufWriter<W>>,
-    messages: &mut Noted<M>,
-) -> Result<(), CombineError>
-    requires { HaveTwoStreams combine.from.now → ⊥ }
-    ensures ok { OnOk result (IsCombination combine.entry (R.remaining input.old.inner)
-        (world (D.story files.old.disk) (writer_contents W.contents output.old.inner))
-        (world (D.story files.new.disk) (writer_contents W.contents output.new.inner))) }
-    ensures err { IfErr result (λ e. EndsCombine combine.entry (R.remaining input.old.inner)
-        (world (D.story files.old.disk) (writer_contents W.contents output.old.inner))
-        (world (D.story files.new.disk) (writer_contents W.contents output.new.inner))
-        (combine_refusal e)) }
-    ensures handed { OnOk result (HandsOn output.old.inner output.new.inner) }
-    ensures why { IfErr result (HasCombineCause combine.entry (R.remaining input.old.inner)
-        (D.story files.old.disk)) }
-    ensures done { OnOk result (messages.new.failed ≡ false
-        → TellsCombined combine.entry (R.remaining input.old.inner) (D.story files.old.disk)
-        (M.contents messages.old.inner) (M.contents messages.new.inner)) }
-    ensures untold { OnErr result (messages.new ≡ messages.old) }
-    ensures quiet { may_tell combine.entry.summary ≡ false → messages.new ≡ messages.old }
-    ensures noted { combine_fails result ≡ false
-        → NothingFailed input.old input.new output.old output.new files.old files.new }
-    ensures failed { IfErr result (CombineFailed (ReadFailed input.new files.new)
-        (WriteFailed output.new files.new)) }
-    ensures unread { AreAllFiles combine.entry.from.now → input.new ≡ input.old }
-{
-    if let Some((number, why, hint)) = refused_in(combine.from, files.disk()) {
-        return Err(CombineError::NoTrie(number, why, hint));
-    }
-    let held = read_all(alloc, combine.from, files, input)?;
-    let (made, several) = combine_held(alloc, combine, held.as_slice())?;
-    let done = combined_text(alloc, combine, several, &made)?;
-    match write_place(alloc, combine.to, made.file.as_slice(), files, output) {
-        Ok(removed) => {
-            tell(messages, done.as_slice());
-            tell_removed(alloc, messages, combine.summary, combine.to, removed);
-            Ok(())
-        }
-        Err(error) => Err(CombineError::NotBuilt(BuildError::Unwritten(error))),
-    }
-}
-
 /// Makes a file of the tries of others, and writes it to its place, unless there is a file already
-/// that is to be left as it is.
-fn combine<D: Disk, R: Read, W: Write + Drop, M: Write>(
+/// that is to be left as it is. It reports that at the end, as its summary says, and then how many files
+/// of killed builds were removed.
+pub fn combine<D: Disk, R: Read, W: Write + Drop, M: Write>(
     alloc: Global,
     combine: Combine<'_>,
     files: &mut Store<D>,
@@ -271,53 +222,18 @@ fn combine<D: Disk, R: Read, W: Write + Drop, M: Write>(
     ensures unread { AreAllFiles combine.entry.from.now → input.new ≡ input.old }
 {
     spare(combine.to, combine.no_clobber, files)?;
-    make_file(alloc, combine, files, input, output, messages)
-}
-
-/// Runs a combination of files, and returns how it ended. Its contract is that of `run`.
-pub fn run_combine<D: Disk, R: Read, W: Write + Drop, M: Write>(
-    alloc: Global,
-    given: Combine<'_>,
-    files: &mut Store<D>,
-    input: &mut Noted<R>,
-    output: &mut Noted<BufWriter<W>>,
-    messages: &mut Noted<M>,
-) -> Status
-    ensures runs { Runs (commands.Combine given.entry) (R.remaining input.old.inner)
-        (world (D.story files.old.disk) (writer_contents W.contents output.old.inner))
-        (world (D.story files.new.disk) (writer_contents W.contents output.new.inner)) result }
-    ensures read_failed { result ≡ Unread → ReadFailed input.new files.new }
-    ensures write_failed { result ≡ Unwritten → WriteFailed output.new files.new }
-    ensures closed { result ≡ Closed → WriteFailed output.new files.new }
-    ensures pipe_closed { result ≡ Closed → WasClosed output.new files.new }
-    ensures not_closed { result ≡ Unwritten → WasClosed output.new files.new → ⊥ }
-    ensures failed { number_of result < 3
-        → NothingFailed input.old input.new output.old output.new files.old files.new }
-    ensures handed { (result ≡ Done) ⊎ (result ≡ Absent)
-        → HandsOn output.old.inner output.new.inner }
-    ensures told { messages.new.failed ≡ false
-        → IsTold (commands.Combine given.entry) (R.remaining input.old.inner)
-        (D.story files.old.disk) (M.contents messages.old.inner) (M.contents messages.new.inner)
-        result }
-    ensures notes { (result ≡ Done) ⊎ (result ≡ Absent) → messages.new.failed ≡ false
-        → Notes (commands.Combine given.entry) (R.remaining input.old.inner)
-        (D.story files.old.disk) (M.contents messages.old.inner) (M.contents messages.new.inner) }
-    ensures quiet { tells_made (commands.Combine given.entry) ≡ false
-        → (TellsNumber (commands.Combine given.entry) (R.remaining input.old.inner)
-        (D.story files.old.disk) → ⊥)
-        → (result ≡ Done) ⊎ (result ≡ Absent) → messages.new ≡ messages.old }
-    ensures usage { ReadsTwice (commands.Combine given.entry) → result ≡ BadUsage }
-    ensures unread { LeavesInput (commands.Combine given.entry) result → input.new ≡ input.old }
-{
-    if have_two_streams(given.from) {
-        tell_two_streams(messages);
-        return Status::BadUsage;
+    if let Some((number, why, hint)) = refused_in(combine.from, files.disk()) {
+        return Err(CombineError::NoTrie(number, why, hint));
     }
-    match combine(alloc, given, files, input, output, messages) {
-        Ok(()) => Status::Done,
-        Err(error) => {
-            let status = end_of(error.refusal(), files, input, output);
-            end(messages, status, combine_text(alloc, given, &error))
+    let held = read_all(alloc, combine.from, files, input)?;
+    let (made, several) = combine_held(alloc, combine, held.as_slice())?;
+    let done = combined_text(alloc, combine, several, &made)?;
+    match write_place(alloc, combine.to, made.file.as_slice(), files, output) {
+        Ok(removed) => {
+            tell(messages, done.as_slice());
+            tell_removed(alloc, messages, combine.summary, combine.to, removed);
+            Ok(())
         }
+        Err(error) => Err(CombineError::NotBuilt(BuildError::Unwritten(error))),
     }
 }

@@ -2,12 +2,13 @@
 
 ghost use Rattle.std.specs.Prelude.{◌≡◌, ◌↔◌, true, IsTrue};
 ghost use Rattle.zerotrie_run.specs.Messages.{place_name};
+ghost use Rattle.zerotrie_run.specs.Commands.{ReadsTwice};
 ghost use Rattle.zerotrie_run.specs.Runs.{AreOneStream, HaveTwoStreams, IsNamed, of_lines};
 ghost use Rattle.zerotrie_run.specs.declared.command.Place.TheVariants.{Stream};
 
 use zerotrie_core::TrieKind;
 use zerotrie_making::{Combination, Plan};
-use zerotrie_queries::{Choice, Form, Language, Order, Query, ReportForm, View};
+use zerotrie_queries::{Choice, Form, Language, ListQuery, Query, ReportForm, View};
 
 /// Where bytes come from, or go to.
 #[derive(Clone, Copy, PartialEq, Eq, Debug)]
@@ -42,7 +43,7 @@ impl<'a> Place<'a> {
 }
 
 /// Returns whether two places are both standard input.
-pub fn are_one_stream(first: Place<'_>, second: Place<'_>) -> bool
+fn are_one_stream(first: Place<'_>, second: Place<'_>) -> bool
     ensures { IsTrue result ↔ AreOneStream first.entry second.entry }
 {
     match (first, second) {
@@ -52,7 +53,7 @@ pub fn are_one_stream(first: Place<'_>, second: Place<'_>) -> bool
 }
 
 /// Returns whether two of these places are standard input.
-pub fn have_two_streams(places: &[Place<'_>]) -> bool
+fn have_two_streams(places: &[Place<'_>]) -> bool
     ensures { IsTrue result ↔ HaveTwoStreams places.now }
 {
     let mut found = false;
@@ -80,8 +81,8 @@ pub enum Keys<'a> {
 pub enum Question<'a> {
     /// These keys, texts or values.
     LookUp(Query, Keys<'a>),
-    /// The first pairs whose keys are chosen, in an order: at most this many, or all.
-    List(Form, Choice<'a>, Order, Option<usize>),
+    /// These pairs.
+    List(Form, ListQuery<'a>),
     /// The same with the nearest first, each with how many edits make it of the word of the choice.
     Distances(Choice<'a>, Option<usize>),
     /// The trie as source code, by a name.
@@ -184,7 +185,7 @@ fn reads_lines(question: Question<'_>) -> bool
     match question {
         Question::LookUp(_, Keys::Lines) => true,
         Question::LookUp(_, Keys::Words(_))
-        | Question::List(_, _, _, _)
+        | Question::List(_, _)
         | Question::Distances(_, _)
         | Question::Code(_, _)
         | Question::Verify
@@ -193,12 +194,17 @@ fn reads_lines(question: Question<'_>) -> bool
     }
 }
 
-/// Returns whether standard input is to be both the file and the keys.
-pub fn reads_twice(place: Place<'_>, question: Question<'_>) -> bool
-    ensures { IsTrue result ↔ (place.entry ≡ Stream) × (of_lines question.entry ≡ true) }
+/// Returns whether a command would read standard input twice.
+pub fn reads_twice(command: Command<'_>) -> bool
+    ensures { IsTrue result ↔ ReadsTwice command.entry }
 {
-    match place {
-        Place::Stream => reads_lines(question),
-        Place::File(_) => false,
+    match command {
+        Command::Build(_) => false,
+        Command::Ask(file, question) => match file.place {
+            Place::Stream => reads_lines(question),
+            Place::File(_) => false,
+        },
+        Command::Diff(diff) => are_one_stream(diff.old, diff.new),
+        Command::Combine(combine) => have_two_streams(combine.from),
     }
 }

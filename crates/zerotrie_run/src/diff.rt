@@ -1,30 +1,25 @@
 //! A comparison of the tries of two files.
 
-ghost use Rattle.std.specs.Prelude.{◌≡◌, ◌↔◌, ◌<◌, ◌⊎◌, ℕ, List, true, false, Ok, Err, IfOk, IfErr, IsTrue, OnOk, IfSome};
+ghost use Rattle.std.specs.Prelude.{◌≡◌, ◌<◌, ◌⊎◌, true, false, Ok, Err, IfOk, IfErr, OnOk, IfSome};
 ghost use Rattle.std.specs.Io.Buffered.{writer_contents};
 ghost use Rattle.zerotrie_core.specs.Kinds.{kind_of};
 ghost use Rattle.zerotrie_core.specs.WellFormed.{IsWellFormed};
 ghost use Rattle.zerotrie_files.specs.Notes.{NothingFailed, SameReads};
-ghost use Rattle.zerotrie_run.specs.Failures.{AskFailed, ReadFailed, WasClosed, WriteFailed};
-ghost use Rattle.zerotrie_run.specs.Commands.{Runs, TellsNumber, ReadsTwice, LeavesInput, tells_made};
-ghost use Rattle.zerotrie_run.specs.Diffs.{old_file, new_file, IsEitherDoubtful, IsDiffed, EndsDiff, diff_fails, diff_refusal, TellsIfDoubtful, NotesNumbers, IsFileOf, IsUnread, HasNoTrieIn, AreHeldCompared, AreUncompared};
-ghost use Rattle.zerotrie_run.specs.Runs.{AreFiles, AreOneStream, HandsOn, IsDoubtful, IsRead, IsRefusedUnread, Opens, ask_refusal, world};
-ghost use Rattle.zerotrie_run.specs.Statuses.{number_of};
-ghost use Rattle.zerotrie_run.specs.Told.{HasDiffReason, IsTold, LineTold, Notes, TellsMore};
+ghost use Rattle.zerotrie_run.specs.Failures.{AskFailed, ReadFailed, WriteFailed};
+ghost use Rattle.zerotrie_run.specs.Diffs.{old_file, new_file, IsEitherDoubtful, IsDiffed, EndsDiff, diff_fails, TellsIfDoubtful, NotesNumbers, IsFileOf, IsUnread, HasNoTrieIn, AreHeldCompared, AreUncompared};
+ghost use Rattle.zerotrie_run.specs.Runs.{AreFiles, AreOneStream, HandsOn, IsDoubtful, IsRead, IsRefusedUnread, Opens, ask_refusal};
+ghost use Rattle.zerotrie_run.specs.Told.{HasDiffReason, TellsMore};
 ghost use Rattle.zerotrie_run.specs.declared.command.Check.TheVariants.{Full};
 ghost use Rattle.zerotrie_run.specs.declared.command.Command.TheVariants as commands;
 ghost use Rattle.zerotrie_run.specs.declared.command.Place.TheVariants.{Stream};
-ghost use Rattle.zerotrie_run.specs.declared.status.Status.TheVariants.{Done, Absent, BadUsage, Unread, Unwritten, Closed};
+ghost use Rattle.zerotrie_run.specs.declared.status.Status.TheVariants.{Unread};
 
 use crate::ask::AskError;
-use crate::command::{Check, Diff, TrieFile, are_one_stream};
+use crate::command::{Check, Diff, TrieFile};
 use crate::front::{Hint, hint_of, refused_by_front};
-use crate::messages::ask::{ask_text, tell_number};
-use crate::messages::line::tell_one_stream;
+use crate::messages::ask::tell_number;
 use crate::open::open_in_full;
 use crate::place::read_place;
-use crate::program::{end, end_of};
-use crate::status::Status;
 use crate::stdin_lines::AnswerError;
 use std::alloc::Global;
 use std::io;
@@ -197,7 +192,7 @@ fn compare_and_hand_on<'a, W: Write + Drop>(
 
 /// Compares the tries of two files, and returns whether they have the same pairs. Not both files are
 /// standard input.
-fn compare<'a, D: Disk, R: Read, W: Write + Drop, M: Write>(
+pub fn compare<'a, D: Disk, R: Read, W: Write + Drop, M: Write>(
     alloc: Global,
     diff: Diff<'a>,
     files: &mut Store<D>,
@@ -238,52 +233,4 @@ fn compare<'a, D: Disk, R: Read, W: Write + Drop, M: Write>(
     let held = read_file(alloc, old_file(diff), files, input, messages)?;
     let other = read_file(alloc, new_file(diff), files, input, messages)?;
     compare_and_hand_on(alloc, diff, held.as_slice(), other.as_slice(), output)
-}
-
-/// Runs a comparison of two files, and returns how it ended. Its contract is that of `run`.
-pub fn run_diff<D: Disk, R: Read, W: Write + Drop, M: Write>(
-    alloc: Global,
-    diff: Diff<'_>,
-    files: &mut Store<D>,
-    input: &mut Noted<R>,
-    output: &mut Noted<BufWriter<W>>,
-    messages: &mut Noted<M>,
-) -> Status
-    ensures runs { Runs (commands.Diff diff.entry) (R.remaining input.old.inner)
-        (world (D.story files.old.disk) (writer_contents W.contents output.old.inner))
-        (world (D.story files.new.disk) (writer_contents W.contents output.new.inner)) result }
-    ensures read_failed { result ≡ Unread → ReadFailed input.new files.new }
-    ensures write_failed { result ≡ Unwritten → WriteFailed output.new files.new }
-    ensures closed { result ≡ Closed → WriteFailed output.new files.new }
-    ensures pipe_closed { result ≡ Closed → WasClosed output.new files.new }
-    ensures not_closed { result ≡ Unwritten → WasClosed output.new files.new → ⊥ }
-    ensures failed { number_of result < 3
-        → NothingFailed input.old input.new output.old output.new files.old files.new }
-    ensures handed { (result ≡ Done) ⊎ (result ≡ Absent)
-        → HandsOn output.old.inner output.new.inner }
-    ensures told { messages.new.failed ≡ false
-        → IsTold (commands.Diff diff.entry) (R.remaining input.old.inner) (D.story files.old.disk)
-        (M.contents messages.old.inner) (M.contents messages.new.inner) result }
-    ensures notes { (result ≡ Done) ⊎ (result ≡ Absent) → messages.new.failed ≡ false
-        → Notes (commands.Diff diff.entry) (R.remaining input.old.inner) (D.story files.old.disk)
-        (M.contents messages.old.inner) (M.contents messages.new.inner) }
-    ensures quiet { tells_made (commands.Diff diff.entry) ≡ false
-        → (TellsNumber (commands.Diff diff.entry) (R.remaining input.old.inner)
-        (D.story files.old.disk) → ⊥)
-        → (result ≡ Done) ⊎ (result ≡ Absent) → messages.new ≡ messages.old }
-    ensures usage { ReadsTwice (commands.Diff diff.entry) → result ≡ BadUsage }
-    ensures unread { LeavesInput (commands.Diff diff.entry) result → input.new ≡ input.old }
-{
-    if are_one_stream(diff.old, diff.new) {
-        tell_one_stream(messages);
-        return Status::BadUsage;
-    }
-    match compare(alloc, diff, files, input, output, messages) {
-        Ok(true) => Status::Done,
-        Ok(false) => Status::Absent,
-        Err(why) => {
-            let status = end_of(why.error.refusal(), files, input, output);
-            end(messages, status, ask_text(alloc, why.file, &why.error))
-        }
-    }
 }

@@ -13,12 +13,12 @@ use std::io::{ErrorKind, Write};
 use zerotrie_core::TrieRef;
 use zerotrie_files::Noted;
 use zerotrie_queries::{
-    Choice, Form, ListError, Order, Selection, Style, write_distances, write_list,
+    Choice, Form, ListError, ListQuery, Order, Style, write_distances, write_list,
 };
 
 /// Returns whether a listing has a pair: it reads up to the first one.
 #[tactic(auto, using(crate::proofs::FoundLemmas::none_found))]
-fn finds_pair(alloc: Global, trie: &TrieRef<'_>, selection: Selection<'_>) -> io::Result<bool>
+fn finds_pair(alloc: Global, trie: &TrieRef<'_>, selection: ListQuery<'_>) -> io::Result<bool>
     ensures found { IfOk result (AreFound
         (picked selection.entry.order trie.now.kind selection.entry.choice)
         selection.entry.limit trie.now.kind trie.now.bytes.now) }
@@ -28,7 +28,7 @@ fn finds_pair(alloc: Global, trie: &TrieRef<'_>, selection: Selection<'_>) -> io
         return Ok(false);
     }
     let mut lines = Noted::new(Vec::new(alloc));
-    let first = Selection {
+    let first = ListQuery {
         limit: Some(1),
         ..selection
     };
@@ -53,7 +53,7 @@ pub fn write_found<W: Write>(
     alloc: Global,
     trie: &TrieRef<'_>,
     form: Form,
-    selection: Selection<'_>,
+    selection: ListQuery<'_>,
     output: &mut Noted<W>,
 ) -> Result<bool, ListError>
     ensures found { IfOk result (AreFound
@@ -73,7 +73,7 @@ pub fn write_found<W: Write>(
         Ok(found) => found,
         Err(error) => return Err(ListError::Failed(error)),
     };
-    let shown = Selection {
+    let shown = ListQuery {
         limit: limit_shown(has_one, selection.limit),
         ..selection
     };
@@ -100,7 +100,7 @@ pub fn write_measured<W: Write>(
         trie.now.bytes.now (W.contents output.old.inner) (W.contents output.new.inner)) }
     ensures noted { IsNoted result output.old.failed output.new.failed }
 {
-    let nearest = Selection {
+    let nearest = ListQuery {
         choice,
         order: Order::Nearest,
         limit,

@@ -7,6 +7,7 @@ mod build;
 mod combine;
 mod command;
 mod diff;
+mod error;
 mod found;
 mod front;
 pub mod laws;

@@ -1,24 +1,23 @@
 //! The program over files and streams.
 
-ghost use Rattle.std.specs.Prelude.{◌≡◌, ◌<◌, ◌⊎◌, false, true, unwrap_or};
+ghost use Rattle.std.specs.Prelude.{◌≡◌, ◌<◌, ◌⊎◌, false, true, unwrap_or, IfErr, IfOk};
 ghost use Rattle.std.specs.Io.KnownBytes.{Appends};
 ghost use Rattle.std.specs.Io.Buffered.{writer_contents};
 ghost use Rattle.zerotrie_files.specs.Notes.{NothingFailed};
 ghost use Rattle.zerotrie_run.specs.Runs.{HandsOn, world};
 ghost use Rattle.zerotrie_run.specs.Failures.{ReadFailed, WasClosed, WriteFailed};
-ghost use Rattle.zerotrie_run.specs.Commands.{Runs, TellsNumber, ReadsTwice, LeavesInput, tells_made};
+ghost use Rattle.zerotrie_run.specs.Commands.{Ends, LeavesInput, LeavesInputBy, ReadsTwice, Runs, TellsNumber, command_fails, command_refusal, found, refusal_of, tells_made};
 ghost use Rattle.zerotrie_run.specs.Statuses.{failure_of, number_of};
-ghost use Rattle.zerotrie_run.specs.Told.{IsTold, Notes, ended, last_text};
+ghost use Rattle.zerotrie_run.specs.Told.{HasCommandCause, IsTold, Notes, TellsMore, ended, last_text};
 ghost use Rattle.zerotrie_run.specs.declared.status.Status.TheVariants.{Done, Absent, BadUsage, Unread, Unwritten, Closed};
 
 use crate::ask::ask;
 use crate::build::build;
-use crate::combine::run_combine;
+use crate::combine::combine;
 use crate::command::{Command, reads_twice};
-use crate::diff::run_diff;
-use crate::messages::ask::{question_text, tell_two_inputs};
-use crate::messages::build::build_text;
-use crate::messages::line::{NO_MEMORY, tell};
+use crate::diff::compare;
+use crate::error::CommandError;
+use crate::messages::line::{NO_MEMORY, tell, twice_line};
 use crate::status::Status;
 use std::alloc::{AllocError, Global};
 use std::io::{BufWriter, Read, Write};
@@ -47,7 +46,7 @@ fn failure<D: Disk, R: Read, W: Write + Drop>(
 }
 
 /// Returns how a run ends that is refused so, or in which something failed.
-pub(crate) fn end_of<D: Disk, R: Read, W: Write + Drop>(
+fn end_of<D: Disk, R: Read, W: Write + Drop>(
     refusal: Option<Status>,
     files: &Store<D>,
     input: &Noted<R>,
@@ -63,7 +62,7 @@ pub(crate) fn end_of<D: Disk, R: Read, W: Write + Drop>(
 
 /// Says why a run ends so, and returns how it ends: without memory for the message it is out of
 /// memory. Says nothing if whoever reads the output has closed it.
-pub(crate) fn end<M: Write>(
+fn end<M: Write>(
     messages: &mut Noted<M>,
     status: Status,
     message: Result<Vec<u8>, AllocError>,
@@ -85,6 +84,60 @@ pub(crate) fn end<M: Write>(
             tell(messages, NO_MEMORY);
             Status::OutOfMemory
         }
+    }
+}
+
+/// Carries out a command that does not read standard input twice, and returns whether all was found.
+fn carry_out<'a, D: Disk, R: Read, W: Write + Drop, M: Write>(
+    alloc: Global,
+    command: Command<'a>,
+    files: &mut Store<D>,
+    input: &mut Noted<R>,
+    output: &mut Noted<BufWriter<W>>,
+    messages: &mut Noted<M>,
+) -> Result<bool, CommandError<'a>>
+    requires { ReadsTwice command → ⊥ }
+    ensures ok { IfOk result (λ all. Runs command.entry (R.remaining input.old.inner)
+        (world (D.story files.old.disk) (writer_contents W.contents output.old.inner))
+        (world (D.story files.new.disk) (writer_contents W.contents output.new.inner)) (found all)) }
+    ensures err { IfErr result (λ e. Ends command.entry (R.remaining input.old.inner)
+        (world (D.story files.old.disk) (writer_contents W.contents output.old.inner))
+        (world (D.story files.new.disk) (writer_contents W.contents output.new.inner))
+        (command_refusal e)) }
+    ensures handed { IfOk result (λ _. HandsOn output.old.inner output.new.inner) }
+    ensures why { IfErr result (HasCommandCause command.entry (R.remaining input.old.inner)
+        (D.story files.old.disk)) }
+    ensures notes { IfOk result (λ _. messages.new.failed ≡ false
+        → Notes command.entry (R.remaining input.old.inner) (D.story files.old.disk)
+        (M.contents messages.old.inner) (M.contents messages.new.inner)) }
+    ensures tells { IfErr result (λ _. messages.new.failed ≡ false
+        → TellsMore (M.contents messages.old.inner) (M.contents messages.new.inner)) }
+    ensures quiet { IfOk result (λ _. tells_made command.entry ≡ false
+        → (TellsNumber command.entry (R.remaining input.old.inner) (D.story files.old.disk) → ⊥)
+        → messages.new ≡ messages.old) }
+    ensures noted { command_fails result ≡ false
+        → NothingFailed input.old input.new output.old output.new files.old files.new }
+    ensures unread { LeavesInputBy command.entry (refusal_of result) → input.new ≡ input.old }
+{
+    match command {
+        Command::Build(plan) => match build(alloc, plan, files, input, output, messages) {
+            Ok(()) => Ok(true),
+            Err(error) => Err(CommandError::Build(plan, error)),
+        },
+        Command::Ask(file, question) => {
+            match ask(alloc, file, question, files, input, output, messages) {
+                Ok(all) => Ok(all),
+                Err(error) => Err(CommandError::Ask(file, question, error)),
+            }
+        }
+        Command::Diff(diff) => match compare(alloc, diff, files, input, output, messages) {
+            Ok(same) => Ok(same),
+            Err(error) => Err(CommandError::Diff(diff, error)),
+        },
+        Command::Combine(given) => match combine(alloc, given, files, input, output, messages) {
+            Ok(()) => Ok(true),
+            Err(error) => Err(CommandError::Combine(given, error)),
+        },
     }
 }
 
@@ -140,33 +193,16 @@ pub fn run<D: Disk, R: Read, W: Write + Drop, M: Write>(
     ensures usage { ReadsTwice command.entry → result ≡ BadUsage }
     ensures unread { LeavesInput command.entry result → input.new ≡ input.old }
 {
-    match command {
-        Command::Build(plan) => match build(alloc, plan, files, input, output, messages) {
-            Ok(()) => Status::Done,
-            Err(error) => {
-                let status = end_of(error.refusal(), files, input, output);
-                end(messages, status, build_text(alloc, plan, &error))
-            }
-        },
-        Command::Ask(file, question) => {
-            if reads_twice(file.place, question) {
-                tell_two_inputs(messages);
-                return Status::BadUsage;
-            }
-            match ask(alloc, file, question, files, input, output, messages) {
-                Ok(true) => Status::Done,
-                Ok(false) => Status::Absent,
-                Err(error) => {
-                    let status = end_of(error.refusal(), files, input, output);
-                    end(
-                        messages,
-                        status,
-                        question_text(alloc, file, question, &error),
-                    )
-                }
-            }
+    if reads_twice(command) {
+        tell(messages, twice_line(command));
+        return Status::BadUsage;
+    }
+    match carry_out(alloc, command, files, input, output, messages) {
+        Ok(true) => Status::Done,
+        Ok(false) => Status::Absent,
+        Err(error) => {
+            let status = end_of(error.refusal(), files, input, output);
+            end(messages, status, error.text(alloc))
         }
-        Command::Diff(diff) => run_diff(alloc, diff, files, input, output, messages),
-        Command::Combine(given) => run_combine(alloc, given, files, input, output, messages),
     }
 }

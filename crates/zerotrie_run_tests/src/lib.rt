@@ -3,8 +3,10 @@
 //! of `zerotrie_files` and `zerotrie_run` say something of them.
 #![tactic(auto)]
 
+mod laws;
 mod memory;
 
+pub use laws::{asks, builds, combines};
 pub use memory::{MemoryDisk, replaced};
 
 #[cfg(test)]

@@ -18,7 +18,7 @@ use zerotrie_files::{Disk, Noted, Store};
 use zerotrie_lines::{Format, Header, LineEnd};
 use zerotrie_making::{Duplicates, FileForm, FilePlan, Plan, ReadPlan, Source};
 use zerotrie_queries::{
-    Asked, Choice, Form, Language, Order, Query, ReportForm, Spelling, Style, View,
+    Asked, Choice, Form, Language, ListQuery, Order, Query, ReportForm, Spelling, Style, View,
 };
 use zerotrie_run::{Build, Check, Command, Keys, Place, Question, Status, Summary, TrieFile, run};
 use zerotrie_search::KeyRange;
@@ -123,6 +123,13 @@ const ALL: Choice<'static> = Choice {
     sought: None,
 };
 
+/// All pairs, in the order of the trie.
+const LISTED: ListQuery<'static> = ListQuery {
+    choice: ALL,
+    order: Order::Stored,
+    limit: None,
+};
+
 const THERE: &[&[u8]] = &[b"bar"];
 
 const ABSENT: &[&[u8]] = &[b"bar", b"unknown"];
@@ -202,12 +209,13 @@ const SHOWN: [Row; 6] = [
             FILE,
             Question::List(
                 Form::Lines(Style::Tsv),
-                Choice {
-                    prefix: b"a",
-                    ..ALL
+                ListQuery {
+                    choice: Choice {
+                        prefix: b"a",
+                        ..ALL
+                    },
+                    ..LISTED
                 },
-                Order::Stored,
-                None,
             ),
         ),
         status: Status::Done,
@@ -221,12 +229,13 @@ const SHOWN: [Row; 6] = [
             FILE,
             Question::List(
                 Form::Lines(Style::Tsv),
-                Choice {
-                    prefix: b"b",
-                    ..ALL
+                ListQuery {
+                    choice: Choice {
+                        prefix: b"b",
+                        ..ALL
+                    },
+                    ..LISTED
                 },
-                Order::Stored,
-                None,
             ),
         ),
         status: Status::Absent,
@@ -293,10 +302,7 @@ const READ: ReadPlan = ReadPlan {
 const MADE_AGAIN: [Row; 6] = [
     Row {
         files: &[("names.trie", QUOTED)],
-        command: Command::Ask(
-            FILE,
-            Question::List(Form::Lines(Style::Csv), ALL, Order::Stored, None),
-        ),
+        command: Command::Ask(FILE, Question::List(Form::Lines(Style::Csv), LISTED)),
         status: Status::Done,
         printed: QUOTED_CSV,
         told: b"",
@@ -321,7 +327,7 @@ const MADE_AGAIN: [Row; 6] = [
     },
     Row {
         files: &[("names.trie", QUOTED)],
-        command: Command::Ask(FILE, Question::List(Form::Json, ALL, Order::Stored, None)),
+        command: Command::Ask(FILE, Question::List(Form::Json, LISTED)),
         status: Status::Done,
         printed: QUOTED_JSON,
         told: b"",
@@ -343,10 +349,7 @@ const MADE_AGAIN: [Row; 6] = [
     },
     Row {
         files: &[("names.trie", OF_BYTES)],
-        command: Command::Ask(
-            FILE,
-            Question::List(Form::Lines(Style::JsonLines), ALL, Order::Stored, None),
-        ),
+        command: Command::Ask(FILE, Question::List(Form::Lines(Style::JsonLines), LISTED)),
         status: Status::Done,
         printed: OF_BYTES_JSON,
         told: b"",
@@ -439,12 +442,13 @@ const NOTED: [Row; 1] = [Row {
         BARE,
         Question::List(
             Form::Lines(Style::Values),
-            Choice {
-                prefix: b"\0c",
-                ..ALL
+            ListQuery {
+                choice: Choice {
+                    prefix: b"\0c",
+                    ..ALL
+                },
+                ..LISTED
             },
-            Order::Stored,
-            None,
         ),
     ),
     status: Status::Absent,
@@ -666,10 +670,7 @@ fn a_beginning_is_printed_as_far_as_there_is_room(rt: HostRuntime) -> Result<(),
     let mut messages = Noted::new(Vec::new(alloc));
     let status = run(
         alloc,
-        Command::Ask(
-            FILE,
-            Question::List(Form::Lines(Style::Tsv), ALL, Order::Stored, None),
-        ),
+        Command::Ask(FILE, Question::List(Form::Lines(Style::Tsv), LISTED)),
         &mut files,
         &mut Noted::new(b"".as_slice()),
         &mut output,

@@ -18,7 +18,7 @@ use Rattle.zerotrie_search.specs.declared.any.AnyAutomaton.TheVariants as any
 use Rattle.zerotrie_search.specs.declared.any.SearchBy.{SearchBy}
 use Rattle.zerotrie_search.specs.declared.any.SearchBy.TheVariants as by
 use Rattle.zerotrie_search.specs.declared.any.WordError.{WordError}
-use Rattle.zerotrie_search.specs.declared.any.WordError.TheVariants.{Malformed, TooLong}
+use Rattle.zerotrie_search.specs.declared.any.WordError.TheVariants.{Malformed, TooLong, TooManyEdits}
 
 -- the keys that an automaton accepts
 abbrev pub any_accepts : AnyAutomaton → List ℕ → Bool
@@ -129,26 +129,30 @@ IsMalformedWord (by.FuzzyChars edits) word = IsUtf8 word → ⊥
 IsMalformedWord (by.Swaps edits) word = ⊥
 IsMalformedWord (by.SwapsChars edits) word = IsUtf8 word → ⊥
 
--- more letters, or more edits, than a fuzzy search takes
-abbrev pub IsOver : ℕ → List ℕ → Type 0
-IsOver edits letters = (WORD_LIMIT < length letters) ⊎ (254 < edits)
-
--- more of them than one takes in which neighbours may change places
-abbrev pub IsOverSwaps : ℕ → List ℕ → Type 0
-IsOverSwaps edits letters = (WORD_LIMIT < length letters) ⊎ (7 < edits)
-
--- a pattern has too many items, or a word too many letters or edits
+-- a pattern has too many items, or a word too many letters
 abbrev pub IsLongWord : SearchBy → List ℕ → Type 0
 IsLongWord by.Prefix word = ⊥
 IsLongWord by.Glob word = WORD_LIMIT < length (globs.items word)
 IsLongWord by.GlobChars word = WORD_LIMIT < length (globs.items (chars word))
 IsLongWord by.Subsequence word = ⊥
-IsLongWord (by.Fuzzy edits) word = IsOver edits word
-IsLongWord (by.FuzzyChars edits) word = IsOver edits (chars word)
-IsLongWord (by.Swaps edits) word = IsOverSwaps edits word
-IsLongWord (by.SwapsChars edits) word = IsOverSwaps edits (chars word)
+IsLongWord (by.Fuzzy edits) word = WORD_LIMIT < length word
+IsLongWord (by.FuzzyChars edits) word = WORD_LIMIT < length (chars word)
+IsLongWord (by.Swaps edits) word = WORD_LIMIT < length word
+IsLongWord (by.SwapsChars edits) word = WORD_LIMIT < length (chars word)
+
+-- more edits are asked for than a search takes: those in which neighbours may change places take fewer
+abbrev pub HasManyEdits : SearchBy → Type 0
+HasManyEdits by.Prefix = ⊥
+HasManyEdits by.Glob = ⊥
+HasManyEdits by.GlobChars = ⊥
+HasManyEdits by.Subsequence = ⊥
+HasManyEdits (by.Fuzzy edits) = 254 < edits
+HasManyEdits (by.FuzzyChars edits) = 254 < edits
+HasManyEdits (by.Swaps edits) = 7 < edits
+HasManyEdits (by.SwapsChars edits) = 7 < edits
 
 -- why a word is an error
 abbrev pub IsWordError : SearchBy → List ℕ → WordError → Type 0
 IsWordError by word Malformed = IsMalformedWord by word
 IsWordError by word TooLong = IsLongWord by word
+IsWordError by word TooManyEdits = HasManyEdits by

@@ -193,8 +193,11 @@ impl<'a, T: Fuzzy, A: Allocator + Copy> TrieListing for ZeroTrieNearest<'a, T, A
 /// choice of more is one of these whose third is one again.
 #[derive(Drop)]
 pub enum AnyOf<A: TrieListing, B: TrieListing, C: TrieListing> {
+    /// One of the first type.
     First(A),
+    /// One of the second type.
     Second(B),
+    /// One of the third type.
     Third(C),
 }
 

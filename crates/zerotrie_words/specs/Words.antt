@@ -36,6 +36,7 @@ use Rattle.zerotrie_queries.specs.declared.reports.ReportForm.TheVariants as rep
 use Rattle.zerotrie_queries.specs.declared.question.Choice.{Choice}
 use Rattle.zerotrie_queries.specs.declared.question.Pattern.{Pattern}
 use Rattle.zerotrie_queries.specs.declared.question.Sought.{Sought}
+use Rattle.zerotrie_queries.specs.declared.question.ListQuery.{ListQuery}
 use Rattle.zerotrie_queries.specs.declared.question.Order.{Order}
 use Rattle.zerotrie_queries.specs.declared.question.Order.TheVariants as order
 use Rattle.zerotrie_search.specs.Automata.{IsWordError}
@@ -557,11 +558,11 @@ pub record IsSought (matches : ArgMatches) (c : Choice) : Type 0 where
   pub some : SeeksNothing matches → ⊥
 
 -- The pairs that are listed, by the words of a listing or a search: how, and in which order.
-pub record IsListing (matches : ArgMatches) (IsChoice : Choice → Type 0) (IsOrdered : Order → Type 0) (form : Form) (c : Choice) (o : Order) (limit : Option ℕ) : Type 0 where
+pub record IsListing (matches : ArgMatches) (IsChoice : Choice → Type 0) (IsOrdered : Order → Type 0) (form : Form) (s : ListQuery) : Type 0 where
   pub format : IsListForm matches form
-  pub chosen : IsChoice c
-  pub ordered : IsOrdered o
-  pub most : IsMost matches limit
+  pub chosen : IsChoice s.choice
+  pub ordered : IsOrdered s.order
+  pub most : IsMost matches s.limit
 
 -- Keys are near a word, and nothing says otherwise how they are listed than with how many edits make each.
 pub record AreMeasured (matches : ArgMatches) : Type 0 where
@@ -575,7 +576,7 @@ pub record AreMeasured (matches : ArgMatches) : Type 0 where
 -- what a search asks for, by whether distances are to be printed
 abbrev pub IsSearch : (distances : Bool) → ArgMatches → Question → Type 0
 IsSearch true matches q = (c : Choice) × (limit : Option ℕ) × AreMeasured matches × IsSought matches c × IsMost matches limit × (q ≡ question.Distances c limit)
-IsSearch false matches q = (f : Form) × (c : Choice) × (o : Order) × (limit : Option ℕ) × IsListing matches (IsSought matches) (IsSearchOrder matches) f c o limit × (q ≡ question.List f c o limit)
+IsSearch false matches q = (f : Form) × (s : ListQuery) × IsListing matches (IsSought matches) (IsSearchOrder matches) f s × (q ≡ question.List f s)
 
 -- a name is none of those in zerotrie.h, if the language is C; of keywords, tests show it
 abbrev pub IsFree : Language → List ℕ → Type 0
@@ -600,7 +601,7 @@ IsQuestion matches topic.Get texts q = (query : Query) × (of : Keys) × IsGet (
 IsQuestion matches topic.Longest texts q = (query : Query) × (of : Keys) × IsLongest matches query.asked × IsSpelling (flag_of matches (codes "escaped")) query.spelling
     × AreKeysOf texts of × (q ≡ question.LookUp query of)
 IsQuestion matches topic.Keys texts q = (of : Keys) × AreKeysOf texts of × (q ≡ question.LookUp (record { asked = asked.KeyOf; spelling = spelling.Plain }) of)
-IsQuestion matches topic.List texts q = (f : Form) × (c : Choice) × (o : Order) × (limit : Option ℕ) × IsListing matches (IsListed matches) (IsOrder (flag_of matches (codes "count")) (flag_of matches (codes "sorted"))) f c o limit × (q ≡ question.List f c o limit)
+IsQuestion matches topic.List texts q = (f : Form) × (s : ListQuery) × IsListing matches (IsListed matches) (IsOrder (flag_of matches (codes "count")) (flag_of matches (codes "sorted"))) f s × (q ≡ question.List f s)
 IsQuestion matches topic.Search texts q = (distances : Bool) × IsFlag (flag_of matches (codes "distance")) distances × IsSearch distances matches q
 IsQuestion matches topic.Verify texts q = q ≡ question.Verify
 IsQuestion matches topic.Stats texts q = (f : ReportForm) × IsReportForm (flag_of matches (codes "json")) f × (q ≡ question.Report f)

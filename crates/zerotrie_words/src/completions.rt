@@ -26,14 +26,6 @@ enum Offer {
     Nothing,
 }
 
-/// Adds texts, one after the other.
-fn add(script: &mut String, texts: &[&str]) -> Result<(), AllocError> {
-    for text in texts {
-        script.push_str(text)?;
-    }
-    Ok(())
-}
-
 /// Adds words with spaces between.
 fn add_words(script: &mut String, words: &[&str]) -> Result<(), AllocError> {
     for (index, word) in words.iter().enumerate() {
@@ -47,21 +39,10 @@ fn add_words(script: &mut String, words: &[&str]) -> Result<(), AllocError> {
 
 /// Adds the names of all commands with spaces between, and at last `help`.
 fn add_commands(script: &mut String, rows: &[&'static [Subcommand]]) -> Result<(), AllocError> {
-    for part in rows {
-        for row in *part {
-            add(script, &[row.name, " "])?;
-        }
+    for row in rows.iter().copied().flatten() {
+        write!(script, "{} ", row.name)?;
     }
     script.push_str("help")
-}
-
-/// Returns what a shell offers for a word that help calls so.
-fn offer_of(value: &str) -> Offer {
-    if FILES.contains(&value) {
-        Offer::Files
-    } else {
-        Offer::Nothing
-    }
 }
 
 impl Argument {
@@ -78,11 +59,7 @@ impl Argument {
 
     /// Returns whether it is an option, which is given by its name.
     pub fn is_option(&self) -> bool {
-        match self.form {
-            Form::Place | Form::Word(_) | Form::Words => false,
-            Form::Flag(_) | Form::Text(_, _, _) | Form::Number(_, _, _) | Form::OneOf(_, _, _, _) =>
-                true,
-        }
+        !matches!(self.form, Form::Place | Form::Word(_) | Form::Words)
     }
 
     /// Returns how help calls the word of an argument. `None` if it is its name alone.
@@ -95,27 +72,32 @@ impl Argument {
         }
     }
 
+    /// Returns the words of which its word is one. There are none if it may be another.
+    pub fn words(&self) -> &'static [&'static str] {
+        match self.form {
+            Form::Word(words) | Form::OneOf(_, _, words, _) => words,
+            Form::Place
+            | Form::Words
+            | Form::Flag(_)
+            | Form::Text(_, _, _)
+            | Form::Number(_, _, _) => &[],
+        }
+    }
+
     /// Returns what a shell offers for the word of an argument.
     fn offer(&self) -> Offer {
-        match self.form {
-            Form::Word(words) | Form::OneOf(_, _, words, _) => Offer::Words(words),
-            Form::Place | Form::Words => offer_of(self.name),
-            Form::Text(value, _, _) => offer_of(value),
-            Form::Flag(_) | Form::Number(_, _, _) => Offer::Nothing,
+        if !self.words().is_empty() {
+            Offer::Words(self.words())
+        } else if FILES.contains(&self.value().unwrap_or("")) {
+            Offer::Files
+        } else {
+            Offer::Nothing
         }
     }
 
     /// Returns whether it may have several words.
     pub fn is_many(&self) -> bool {
-        match self.form {
-            Form::Words => true,
-            Form::Place
-            | Form::Word(_)
-            | Form::Flag(_)
-            | Form::Text(_, _, _)
-            | Form::Number(_, _, _)
-            | Form::OneOf(_, _, _, _) => false,
-        }
+        matches!(self.form, Form::Words)
     }
 
     /// Returns the beginning of its help, as a shell has room for a few words.

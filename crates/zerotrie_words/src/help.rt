@@ -80,15 +80,21 @@ fn takes_text(argument: &Argument, word: &str) -> bool {
     }
 }
 
+/// Returns whether a word is the name or the letter of an option of a command that takes any text.
+fn has_text(row: &Subcommand, word: &str) -> bool {
+    for argument in row.arguments {
+        if takes_text(argument, word) {
+            return true;
+        }
+    }
+    false
+}
+
 /// Returns whether a word asks for any text behind it, in the command of this name.
 fn wants_text(rows: &[&'static [Subcommand]], command: &str, word: &str) -> bool {
-    for part in rows {
-        for row in *part {
-            for argument in row.arguments {
-                if row.name == command && takes_text(argument, word) {
-                    return true;
-                }
-            }
+    for row in rows.iter().copied().flatten() {
+        if row.name == command && has_text(row, word) {
+            return true;
         }
     }
     false

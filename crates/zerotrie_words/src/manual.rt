@@ -58,14 +58,6 @@ impl Argument {
             _ => false,
         }
     }
-
-    /// Returns the words of which its word is one. There are none if it may be another.
-    fn words(&self) -> &'static [&'static str] {
-        match self.form {
-            Form::Word(words) | Form::OneOf(_, _, words, _) => words,
-            _ => &[],
-        }
-    }
 }
 
 /// Adds what has to be there of an argument, with a space in front.
@@ -174,23 +166,17 @@ pub fn manual(alloc: Global, rows: &[&'static [Subcommand]]) -> Result<String, A
     let mut page = String::from_str(alloc, BEGIN)?;
     page.push_str(VERSION)?;
     page.push_str(NAME)?;
-    for part in rows {
-        for row in *part {
-            add_call(&mut page, row)?;
-            page.push_str(".br\n")?;
-        }
+    for row in rows.iter().copied().flatten() {
+        add_call(&mut page, row)?;
+        page.push_str(".br\n")?;
     }
     page.push_str(DESCRIPTION)?;
-    for part in rows {
-        for row in *part {
-            add_command(&mut page, row)?;
-        }
+    for row in rows.iter().copied().flatten() {
+        add_command(&mut page, row)?;
     }
     page.push_str(".SH EXAMPLES\n")?;
-    for part in rows {
-        for row in *part {
-            add_examples(&mut page, row)?;
-        }
+    for row in rows.iter().copied().flatten() {
+        add_examples(&mut page, row)?;
     }
     page.push_str(OPTIONS)?;
     add_lines(&mut page, STATUSES)?;

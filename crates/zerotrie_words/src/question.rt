@@ -15,7 +15,7 @@ use crate::names::{kind_in, source_in, source_of};
 use crate::search::{choice_in, listed_in};
 use crate::task::Topic;
 use clap::ArgMatches;
-use zerotrie_queries::{Asked, Query, ReportForm, Spelling, View};
+use zerotrie_queries::{Asked, ListQuery, Query, ReportForm, Spelling, View};
 use zerotrie_run::{Check, Command, Place, Question, TrieFile};
 
 /// How many nodes are drawn if `--limit` is left out.
@@ -239,12 +239,13 @@ fn found_in<'a>(matches: &ArgMatches<'a>) -> Result<Question<'a>, &'static str>
     ensures refused { IfErr result (λ _. IsNoSearchOf false matches.now) }
     ensures said { IfErr result IsSaid }
 {
-    Ok(Question::List(
-        form_in(matches)?,
-        choice_in(matches)?,
-        search_order_in(matches),
-        most_in(matches)?,
-    ))
+    let form = form_in(matches)?;
+    let selection = ListQuery {
+        choice: choice_in(matches)?,
+        order: search_order_in(matches),
+        limit: most_in(matches)?,
+    };
+    Ok(Question::List(form, selection))
 }
 
 /// Returns what a search asks for. It is an error, with the message, if an option has a wrong word, or
@@ -288,12 +289,15 @@ fn question_in<'w, 'a: 'w>(
             };
             Ok(Question::LookUp(query, keys_of(words)?))
         }
-        Topic::List => Ok(Question::List(
-            form_in(matches)?,
-            listed_in(matches),
-            order_in(matches),
-            most_in(matches)?,
-        )),
+        Topic::List => {
+            let form = form_in(matches)?;
+            let selection = ListQuery {
+                choice: listed_in(matches),
+                order: order_in(matches),
+                limit: most_in(matches)?,
+            };
+            Ok(Question::List(form, selection))
+        }
         Topic::Search => search_in(matches),
         Topic::Verify => Ok(Question::Verify),
         Topic::Stats => Ok(Question::Report(report_in(matches))),

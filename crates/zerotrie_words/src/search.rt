@@ -27,18 +27,18 @@ fn word_refused(by: SearchBy, error: WordError) -> &'static str
         (SearchBy::Glob | SearchBy::GlobChars, WordError::Malformed) => {
             "--glob and --not ask for a pattern: a class or braces lack their end, a class its letters, braces their beginning, braces are inside braces, a range ends before it begins, or a backslash escapes nothing"
         }
-        (SearchBy::Glob | SearchBy::GlobChars, WordError::TooLong) => {
+        (SearchBy::Glob | SearchBy::GlobChars, _) => {
             "--glob and --not ask for a pattern of at most 63 parts"
         }
-        (SearchBy::SwapsChars(_), _) => {
-            "--fuzzy asks for at most 63 characters and 7 edits; --no-transpose allows 254 edits"
+        (SearchBy::Swaps(_) | SearchBy::SwapsChars(_), WordError::TooManyEdits) => {
+            "--fuzzy allows at most 7 edits, and 254 with --no-transpose"
         }
-        (SearchBy::Swaps(_), _) => {
-            "--fuzzy --bytes asks for at most 63 bytes and 7 edits; --no-transpose allows 254 edits"
+        (_, WordError::TooManyEdits) => "--fuzzy --no-transpose allows at most 254 edits",
+        (SearchBy::SwapsChars(_) | SearchBy::FuzzyChars(_), _) => {
+            "--fuzzy asks for at most 63 characters"
         }
-        (SearchBy::FuzzyChars(_), _) => "--fuzzy asks for at most 63 characters and 254 edits",
-        (SearchBy::Fuzzy(_) | SearchBy::Prefix | SearchBy::Subsequence, _) => {
-            "--fuzzy --bytes asks for at most 63 bytes and 254 edits"
+        (SearchBy::Swaps(_) | SearchBy::Fuzzy(_) | SearchBy::Prefix | SearchBy::Subsequence, _) => {
+            "--fuzzy --bytes asks for at most 63 bytes"
         }
     }
 }

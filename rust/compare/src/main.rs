@@ -8,6 +8,8 @@
 //! With the feature `proved` it asks the proved library the same, and ends at the first answer that
 //! differs.
 
+#[cfg(feature = "proved")]
+mod functions;
 mod library;
 mod plain;
 #[cfg(feature = "proved")]

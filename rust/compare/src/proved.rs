@@ -1,93 +1,12 @@
 //! The proved library, by its functions for C.
 
+use crate::functions::*;
 use crate::library::{Entry, Found, Library, Move, Moved, Pair, Search, Status};
 use std::ops::Bound;
 use std::ptr::null;
 use zerotrie::sets::{Rule, Selection};
 
-#[repr(C)]
-struct Bytes(*const u8, usize);
-
-#[repr(C)]
-struct KeyAndValue(Bytes, usize);
-
-#[repr(C)]
-struct Trie(u32, Bytes);
-
-#[repr(C)]
-struct Cursor(usize, usize, usize);
-
-#[repr(C)]
-struct SearchBy {
-    by: u32,
-    edits: u32,
-    from_bound: u32,
-    to_bound: u32,
-    text: Bytes,
-    to: Bytes,
-    beginnings: bool,
-}
-
-#[rustfmt::skip]
-#[link(name = "zerotrie", kind = "static")]
-unsafe extern "C" {
-    fn zerotrie_build(kind: u32, pairs: *const KeyAndValue, count: usize, out: *mut u8, room: usize, len: &mut usize) -> u32;
-    fn zerotrie_build_sorted(kind: u32, pairs: *const KeyAndValue, count: usize, out: *mut u8, room: usize, len: &mut usize) -> u32;
-    fn zerotrie_build_many(kind: u32, keys: *const u8, keys_len: usize, ends: *const usize, ends_len: usize, values: *const usize, values_len: usize, out: *mut u8, room: usize, len: &mut usize) -> u32;
-    fn zerotrie_build_bound(count: usize, key_bytes: usize) -> usize;
-    fn zerotrie_encoded_len(kind: u32, pairs: *const KeyAndValue, count: usize, len: &mut usize) -> u32;
-    fn zerotrie_why_refused(kind: u32, pairs: *const KeyAndValue, count: usize, first: &mut usize, second: &mut usize) -> u32;
-    fn zerotrie_get(kind: u32, bytes: *const u8, len: usize, key: *const u8, key_len: usize, value: &mut usize) -> bool;
-    fn zerotrie_get_many(kind: u32, bytes: *const u8, len: usize, keys: *const u8, keys_len: usize, ends: *const usize, ends_len: usize, missing: usize, values: *mut usize, values_len: usize) -> u32;
-    fn zerotrie_longest_prefix(kind: u32, bytes: *const u8, len: usize, text: *const u8, text_len: usize, key_len: &mut usize, value: &mut usize) -> bool;
-    fn zerotrie_longest_prefix_at(kind: u32, bytes: *const u8, len: usize, text: *const u8, text_len: usize, delimiters: *const u8, delimiters_len: usize, key_len: &mut usize, value: &mut usize) -> bool;
-    fn zerotrie_common_prefixes(kind: u32, bytes: *const u8, len: usize, text: *const u8, text_len: usize, lens: *mut usize, lens_room: usize, values: *mut usize, values_room: usize) -> usize;
-    fn zerotrie_is_well_formed(kind: u32, bytes: *const u8, len: usize) -> bool;
-    fn zerotrie_first_fault(kind: u32, bytes: *const u8, len: usize, at: &mut usize) -> u32;
-    fn zerotrie_list(kind: u32, bytes: *const u8, len: usize, prefix: *const u8, prefix_len: usize, keys: *mut u8, keys_room: usize, ends: *mut usize, ends_room: usize, values: *mut usize, values_room: usize, key_bytes: &mut usize, count: &mut usize) -> u32;
-    fn zerotrie_list_some(kind: u32, bytes: *const u8, len: usize, prefix: *const u8, prefix_len: usize, goes_on: bool, last: *const u8, last_len: usize, keys: *mut u8, keys_room: usize, ends: *mut usize, ends_room: usize, values: *mut usize, values_room: usize, count: &mut usize, next_len: &mut usize) -> u32;
-    fn zerotrie_sorted_some(kind: u32, bytes: *const u8, len: usize, from_bound: u32, from: *const u8, from_len: usize, to_bound: u32, to: *const u8, to_len: usize, keys: *mut u8, keys_room: usize, ends: *mut usize, ends_room: usize, values: *mut usize, values_room: usize, count: &mut usize, next_len: &mut usize) -> u32;
-    fn zerotrie_last_within(kind: u32, bytes: *const u8, len: usize, from_bound: u32, from: *const u8, from_len: usize, to_bound: u32, to: *const u8, to_len: usize, key: *mut u8, key_room: usize, key_len: &mut usize, value: &mut usize) -> u32;
-    fn zerotrie_first_key_of(kind: u32, bytes: *const u8, len: usize, value: usize, key: *mut u8, key_room: usize, key_len: &mut usize) -> u32;
-    fn zerotrie_combine(selection: u32, rule: u32, tries: *const Trie, count: usize, kind: u32, out: *mut u8, room: usize, len: &mut usize) -> u32;
-    fn zerotrie_search_some(kind: u32, bytes: *const u8, len: usize, prefix: *const u8, prefix_len: usize, search: &SearchBy, goes_on: bool, last: *const u8, last_len: usize, keys: *mut u8, keys_room: usize, ends: *mut usize, ends_room: usize, values: *mut usize, values_room: usize, count: &mut usize, next_len: &mut usize) -> u32;
-    fn zerotrie_cursor_new(bytes: *const u8, len: usize) -> Cursor;
-    fn zerotrie_with_prefix(kind: u32, bytes: *const u8, len: usize, prefix: *const u8, prefix_len: usize) -> Cursor;
-    fn zerotrie_cursor_step(kind: u32, bytes: *const u8, len: usize, cursor: &mut Cursor, byte: u8, edge: &mut u8) -> bool;
-    fn zerotrie_cursor_probe(kind: u32, bytes: *const u8, len: usize, cursor: &mut Cursor, index: usize, edge: &mut u8, siblings: &mut u16) -> bool;
-    fn zerotrie_cursor_take_value(bytes: *const u8, len: usize, cursor: &mut Cursor, value: &mut usize) -> bool;
-    fn zerotrie_auto_kind(pairs: *const KeyAndValue, count: usize) -> u32;
-    fn zerotrie_tagged(kind: u32, bytes: *const u8, len: usize, out: *mut u8, room: usize, tagged: &mut usize) -> u32;
-    fn zerotrie_tagged_kind(tagged: *const u8, len: usize, kind: &mut u32) -> u32;
-    fn zerotrie_seal(kind: u32, bytes: *const u8, len: usize, out: *mut u8, room: usize, sealed: &mut usize) -> u32;
-    fn zerotrie_open(file: *const u8, len: usize, kind: &mut u32, at: &mut usize, trie_len: &mut usize) -> u32;
-    fn zerotrie_dense_build(prefixes: *const u8, prefixes_len: usize, prefix_ends: *const usize, prefix_count: usize, suffixes: *const u8, suffixes_len: usize, suffix_ends: *const usize, suffix_count: usize, values: *const usize, value_count: usize, delimiter: u8, out: *mut u8, room: usize, len: &mut usize) -> u32;
-    fn zerotrie_dense_get(record: *const u8, len: usize, prefix: *const u8, prefix_len: usize, suffix: *const u8, suffix_len: usize, value: &mut usize) -> u32;
-    fn zerotrie_index_build_many(seed: u64, keys: *const u8, keys_len: usize, ends: *const usize, ends_len: usize, values: *const usize, values_len: usize, out: *mut u8, room: usize, len: &mut usize) -> u32;
-    fn zerotrie_index_build(seed: u64, pairs: *const KeyAndValue, count: usize, out: *mut u8, room: usize, len: &mut usize) -> u32;
-    fn zerotrie_index_get(bytes: *const u8, len: usize, key: *const u8, key_len: usize, value: &mut usize) -> bool;
-    fn zerotrie_index_is_valid(bytes: *const u8, len: usize) -> bool;
-    fn zerotrie_seal_index(index: *const u8, len: usize, out: *mut u8, room: usize, sealed: &mut usize) -> u32;
-    fn zerotrie_open_index(file: *const u8, len: usize, at: &mut usize, index_len: &mut usize) -> u32;
-}
-
 pub struct Proved;
-
-fn all(bytes: &[u8]) -> Bytes {
-    Bytes(bytes.as_ptr(), bytes.len())
-}
-
-fn lent(pairs: &[Pair]) -> Vec<KeyAndValue> {
-    pairs.iter().map(|(key, value)| KeyAndValue(all(key), *value)).collect()
-}
-
-fn bound<'a>(bound: Bound<&'a [u8]>) -> (u32, &'a [u8]) {
-    match bound {
-        Bound::Unbounded => (0, b""),
-        Bound::Included(key) => (1, key),
-        Bound::Excluded(key) => (2, key),
-    }
-}
 
 // SAFETY of all below: each pointer is that of a slice, with its length.
 

@@ -3,6 +3,8 @@
 #![deny(missing_docs, unsafe_code)]
 
 extern crate alloc;
+#[cfg(feature = "__std")]
+extern crate std;
 
 #[cfg(not(any(target_pointer_width = "64", target_pointer_width = "32")))]
 compile_error!("zerotrie needs a `usize` of 64 or 32 bits");

@@ -24,7 +24,7 @@ use crate::first_pairs::FirstPairs;
 use crate::folding::FoldedWords;
 use crate::found::Found;
 use crate::kept::{Conditions, conditions};
-use crate::question::{Choice, Order, Selection, Sought};
+use crate::question::{Choice, ListQuery, Order, Sought};
 use std::alloc::{AllocError, Global};
 use std::ops::Bound;
 use zerotrie_core::{Trie, TrieKind, TrieRef, ZeroTrieStream};
@@ -582,7 +582,7 @@ pub(crate) fn listed<'t, 'q>(
     alloc: Global,
     trie: &'t TrieRef<'_>,
     words: &'q FoldedWords,
-    selection: Selection<'q>,
+    selection: ListQuery<'q>,
 ) -> Result<FirstPairs<ChosenPairs<'t, 'q>>, AllocError>
     requires { AreWordsOf trie.now.kind selection.choice words.now }
     ensures { IfOk result (Gives AreFirstValid left_of_first

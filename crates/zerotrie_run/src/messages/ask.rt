@@ -1,11 +1,11 @@
 //! Messages on a file that is asked.
 
-ghost use Rattle.std.specs.Prelude.{◌≡◌, List, ℕ, true, false, IfOk, IfSome, IfNone, OnOk, codes};
+ghost use Rattle.std.specs.Prelude.{◌≡◌, List, ℕ, false, IfOk, IfSome, IfNone, OnOk, codes};
 ghost use Rattle.std.specs.Io.KnownBytes.{Appends};
 ghost use Rattle.zerotrie_core.specs.Faults.{rule_text};
-ghost use Rattle.zerotrie_run.specs.Messages.{BeginsWithNoDigit, IsLine, IsLineOn, Names, Says, TellsAsk, TellsNoTrie, source_name, tag_words, told_key};
+ghost use Rattle.zerotrie_run.specs.Messages.{BeginsWithNoDigit, IsLineOn, Names, Says, TellsAsk, TellsNoTrie, source_name, tag_words, told_key};
 ghost use Rattle.zerotrie_run.specs.Runs.{HasNumberToo};
-ghost use Rattle.zerotrie_run.specs.Told.{LineTold, TellsMore};
+ghost use Rattle.zerotrie_run.specs.Told.{TellsMore};
 
 use crate::ask::AskError;
 use crate::command::{Question, TrieFile};
@@ -24,8 +24,6 @@ use zerotrie_core::{Fault, TrieKind};
 use zerotrie_files::Noted;
 use zerotrie_queries::{OpenError, of_tagged};
 use zerotrie_sealed::{SealError, is_index_number};
-
-const TWO_INPUTS: &str = "zerotrie: standard input can't be both the file and the keys";
 
 /// Returns what the places in a file are counted from.
 fn counted_from(file: TrieFile<'_>) -> &'static str
@@ -180,26 +178,6 @@ pub fn tell_number<M: Write>(
     }
 }
 
-/// Says that standard input can't be both the file and the keys. Takes no memory.
-pub fn tell_two_inputs<M: Write>(messages: &mut Noted<M>)
-    ensures { messages.new.failed ≡ false → (messages.old.failed ≡ false)
-        × LineTold (M.contents messages.old.inner) (M.contents messages.new.inner) }
-{
-    let words = TWO_INPUTS.as_bytes();
-    tell(messages, words);
-    tell(messages, b"\n");
-}
-
-/// Returns a line that says that standard input can't be both the file and the keys.
-fn two_inputs(alloc: Global) -> Result<Vec<u8>, AllocError>
-    ensures { IfOk result (λ text. IsLine text.items) }
-{
-    let mut text = Vec::new(alloc);
-    add(&mut text, TWO_INPUTS)?;
-    end_line(&mut text)?;
-    Ok(text)
-}
-
 /// Returns a line that says that pairs can't be one JSON value, with the key that shows it.
 #[tactic(auto, using(crate::proofs::MessageLemmas::extends_both, crate::proofs::MessageLemmas::line_here, crate::proofs::MessageLemmas::says_on))]
 fn not_text(alloc: Global, place: &str, key: &[u8]) -> Result<Vec<u8>, AllocError>
@@ -219,7 +197,6 @@ pub fn ask_text(alloc: Global, file: TrieFile<'_>, error: &AskError) -> Result<V
 {
     let path = source_name(file.place);
     match error {
-        AskError::TwoInputs => two_inputs(alloc),
         AskError::Unread(error) => fault_on(alloc, path, error),
         AskError::NoTrie(why, hint) => no_trie(alloc, file, why, *hint),
         AskError::NotText(key) => not_text(alloc, path, key.as_slice()),

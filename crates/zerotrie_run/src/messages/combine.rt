@@ -1,10 +1,10 @@
 //! Messages on a trie file that is made of others.
 
-ghost use Rattle.std.specs.Prelude.{◌≡◌, ◌<◌, ◌&&◌, length, false, IfOk};
+ghost use Rattle.std.specs.Prelude.{◌≡◌, ◌<◌, ◌&&◌, length, IfOk};
 ghost use Rattle.zerotrie_run.specs.Combined.{IsNumbered, NamesFile, file_of};
 ghost use Rattle.zerotrie_run.specs.Commands.{may_tell};
 ghost use Rattle.zerotrie_run.specs.Messages.{IsLineOn, Says, TellsCombine, told_key, value_words};
-ghost use Rattle.zerotrie_run.specs.Told.{LineTold, combined_lines, has_kind, told_kind};
+ghost use Rattle.zerotrie_run.specs.Told.{combined_lines, has_kind, told_kind};
 
 use crate::build::is_told;
 use crate::combine::CombineError;
@@ -22,17 +22,6 @@ use zerotrie_core::TrieKind;
 use zerotrie_files::Noted;
 use zerotrie_making::{FileForm, Made};
 use zerotrie_sets::RuleError;
-
-/// Says that standard input can't be two of the files. Takes no memory.
-pub fn tell_two_streams<M: Write>(messages: &mut Noted<M>)
-    ensures { messages.new.failed ≡ false → (messages.old.failed ≡ false)
-        × LineTold (M.contents messages.old.inner) (M.contents messages.new.inner) }
-{
-    tell(
-        messages,
-        b"zerotrie: standard input can't be two of the files\n",
-    );
-}
 
 /// Returns the file with this number, from 0 on.
 fn numbered<'a>(combine: Combine<'a>, number: usize) -> Place<'a>

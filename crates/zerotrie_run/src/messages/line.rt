@@ -2,10 +2,9 @@
 
 ghost use Rattle.std.specs.Prelude.{◌≡◌, ◌++◌, ◌∷◌, [], false, IfOk, OnOk, codes};
 ghost use Rattle.std.specs.Io.KnownBytes.{Appends};
-ghost use Rattle.zerotrie_run.specs.Messages.{BeginsWithNoDigit, Extends, IsLineOn, Names, Says, line_front, source_name, target_name};
-ghost use Rattle.zerotrie_run.specs.Told.{LineTold};
+ghost use Rattle.zerotrie_run.specs.Messages.{BeginsWithNoDigit, Extends, IsLine, IsLineOn, Names, Says, line_front, source_name, target_name};
 
-use crate::command::Place;
+use crate::command::{Command, Place};
 use std::alloc::{AllocError, Global};
 use std::io;
 use std::io::{ErrorKind, Write};
@@ -47,12 +46,17 @@ pub fn tell<M: Write>(messages: &mut Noted<M>, text: &[u8])
     }
 }
 
-/// Says that standard input can't be both of two files. Takes no memory.
-pub fn tell_one_stream<M: Write>(messages: &mut Noted<M>)
-    ensures { messages.new.failed ≡ false → (messages.old.failed ≡ false)
-        × LineTold (M.contents messages.old.inner) (M.contents messages.new.inner) }
+/// Returns the line that says that a command would read standard input twice.
+pub fn twice_line(command: Command<'_>) -> &'static [u8]
+    ensures { IsLine result.now }
 {
-    tell(messages, b"zerotrie: standard input can't be both files\n");
+    match command {
+        Command::Ask(_, _) => b"zerotrie: standard input can't be both the file and the keys\n",
+        Command::Diff(_) => b"zerotrie: standard input can't be both files\n",
+        Command::Build(_) | Command::Combine(_) => {
+            b"zerotrie: standard input can't be two of the files\n"
+        }
+    }
 }
 
 /// Adds words.

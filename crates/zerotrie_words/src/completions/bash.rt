@@ -1,7 +1,7 @@
 //! Completions for bash.
 
 use crate::arguments::{Argument, Subcommand};
-use crate::completions::{Offer, add, add_commands, add_words};
+use crate::completions::{Offer, add_commands, add_words};
 use std::alloc::{AllocError, Global};
 
 const BEGIN: &str = "# Completions of zerotrie for bash.\n\
@@ -28,31 +28,12 @@ const END: &str = "' ;;\n\
     }\n\
     complete -o filenames -F _zerotrie zerotrie\n";
 
-/// Adds the names of an option, with these words in front of each and these between.
-fn add_names(
-    script: &mut String,
-    argument: &Argument,
-    front: &[&str],
-    between: &str,
-) -> Result<(), AllocError> {
-    add(script, front)?;
-    add(script, &["--", argument.name])?;
-    if let Some(letter) = argument.letter() {
-        script.push_str(between)?;
-        add(script, front)?;
-        script.push_str("-")?;
-        script.push(letter)?;
-    }
-    Ok(())
-}
-
 /// Adds the case of an option with a word after its name.
 fn add_value(script: &mut String, command: &str, argument: &Argument) -> Result<(), AllocError> {
-    if !argument.is_option() || argument.value().is_none() {
-        return Ok(());
+    write!(script, "        {command}:--{}", argument.name)?;
+    if let Some(letter) = argument.letter() {
+        write!(script, "|{command}:-{letter}")?;
     }
-    script.push_str("        ")?;
-    add_names(script, argument, &[command, ":"], "|")?;
     match argument.offer() {
         Offer::Words(words) => {
             script.push_str(") COMPREPLY=($(compgen -W '")?;
@@ -67,41 +48,26 @@ fn add_value(script: &mut String, command: &str, argument: &Argument) -> Result<
 /// Adds the cases of the options of a command.
 fn add_values(script: &mut String, row: &Subcommand) -> Result<(), AllocError> {
     for argument in row.arguments {
-        add_value(script, row.name, argument)?;
-    }
-    Ok(())
-}
-
-/// Adds the names of the options of a command.
-fn add_options(script: &mut String, row: &Subcommand) -> Result<(), AllocError> {
-    for argument in row.arguments {
-        if argument.is_option() {
-            add_names(script, argument, &[], " ")?;
-            script.push_str(" ")?;
-        }
-    }
-    script.push_str("--help -h")
-}
-
-/// Adds the words that stand at a place of a command, but no files.
-fn add_places(script: &mut String, row: &Subcommand) -> Result<(), AllocError> {
-    for argument in row.arguments {
-        if !argument.is_option() {
-            match argument.offer() {
-                Offer::Words(words) => add_words(script, words)?,
-                Offer::Files | Offer::Nothing => {}
-            }
+        if argument.is_option() && argument.value().is_some() {
+            add_value(script, row.name, argument)?;
         }
     }
     Ok(())
 }
 
-/// Adds the case of a command.
+/// Adds the case of a command: the names of its options, and the words that stand at its places.
 fn add_command(script: &mut String, row: &Subcommand) -> Result<(), AllocError> {
-    add(script, &["        ", row.name, ") options='"])?;
-    add_options(script, row)?;
-    script.push_str("' words='")?;
-    add_places(script, row)?;
+    write!(script, "        {}) options='", row.name)?;
+    for option in row.arguments.iter().filter(|it| it.is_option()) {
+        write!(script, "--{} ", option.name)?;
+        if let Some(letter) = option.letter() {
+            write!(script, "-{letter} ")?;
+        }
+    }
+    script.push_str("--help -h' words='")?;
+    for place in row.arguments.iter().filter(|it| !it.is_option()) {
+        add_words(script, place.words())?;
+    }
     script.push_str("' ;;\n")
 }
 
@@ -110,16 +76,12 @@ pub fn bash(alloc: Global, rows: &[&'static [Subcommand]]) -> Result<String, All
     let mut script = String::from_str(alloc, BEGIN)?;
     add_commands(&mut script, rows)?;
     script.push_str(AFTER_COMMANDS)?;
-    for part in rows {
-        for row in *part {
-            add_values(&mut script, row)?;
-        }
+    for row in rows.iter().copied().flatten() {
+        add_values(&mut script, row)?;
     }
     script.push_str(AFTER_VALUES)?;
-    for part in rows {
-        for row in *part {
-            add_command(&mut script, row)?;
-        }
+    for row in rows.iter().copied().flatten() {
+        add_command(&mut script, row)?;
     }
     script.push_str("        help) words='")?;
     add_commands(&mut script, rows)?;

@@ -1,7 +1,7 @@
 //! Completions for fish.
 
 use crate::arguments::{Argument, Subcommand};
-use crate::completions::{Offer, add, add_commands, add_words};
+use crate::completions::{Offer, add_commands, add_words};
 use std::alloc::{AllocError, Global};
 
 const BEGIN: &str = "# Completions of zerotrie for fish.\n\
@@ -14,13 +14,10 @@ const BEGIN: &str = "# Completions of zerotrie for fish.\n\
 fn add_quoted(script: &mut String, text: &str) -> Result<(), AllocError> {
     script.push_str("'")?;
     for letter in text.chars() {
-        match letter {
-            '\'' | '\\' => {
-                script.push('\\')?;
-                script.push(letter)?;
-            }
-            _ => script.push(letter)?,
+        if letter == '\'' || letter == '\\' {
+            script.push_str("\\")?;
         }
+        script.push(letter)?;
     }
     script.push_str("'")
 }
@@ -41,60 +38,43 @@ fn add_offer(script: &mut String, argument: &Argument) -> Result<(), AllocError>
 
 /// Adds what all lines of a command begin with.
 fn begin_line(script: &mut String, command: &str) -> Result<(), AllocError> {
-    add(
+    write!(
         script,
-        &[
-            "complete -c zerotrie -n '__fish_seen_subcommand_from ",
-            command,
-            "'",
-        ],
+        "complete -c zerotrie -n '__fish_seen_subcommand_from {command}'"
     )
 }
 
 /// Adds the line of an option.
-fn add_option(script: &mut String, command: &str, argument: &Argument) -> Result<(), AllocError> {
+fn add_option(script: &mut String, command: &str, option: &Argument) -> Result<(), AllocError> {
     begin_line(script, command)?;
-    add(script, &[" -l ", argument.name])?;
-    if let Some(letter) = argument.letter() {
-        script.push_str(" -s ")?;
-        script.push(letter)?;
+    write!(script, " -l {}", option.name)?;
+    if let Some(letter) = option.letter() {
+        write!(script, " -s {letter}")?;
     }
-    add_offer(script, argument)?;
+    add_offer(script, option)?;
     script.push_str(" -d ")?;
-    add_quoted(script, argument.short_help())?;
+    add_quoted(script, option.short_help())?;
     script.push_str("\n")
 }
 
-/// Adds the line of an argument: of one without a name only if it has a list of words.
-fn add_argument(script: &mut String, command: &str, argument: &Argument) -> Result<(), AllocError> {
-    if argument.is_option() {
-        return add_option(script, command, argument);
-    }
-    match argument.offer() {
-        Offer::Words(words) => {
-            begin_line(script, command)?;
-            script.push_str(" -a '")?;
-            add_words(script, words)?;
-            script.push_str("'\n")
-        }
-        Offer::Files | Offer::Nothing => Ok(()),
-    }
-}
-
-/// Adds the lines of a command.
+/// Adds the lines of a command: of a place only if it has a list of words.
 fn add_command(script: &mut String, row: &Subcommand) -> Result<(), AllocError> {
-    add(
+    write!(
         script,
-        &[
-            "complete -c zerotrie -n __fish_use_subcommand -f -a ",
-            row.name,
-            " -d ",
-        ],
+        "complete -c zerotrie -n __fish_use_subcommand -f -a {} -d ",
+        row.name
     )?;
     add_quoted(script, row.about)?;
     script.push_str("\n")?;
     for argument in row.arguments {
-        add_argument(script, row.name, argument)?;
+        if argument.is_option() {
+            add_option(script, row.name, argument)?;
+        } else if !argument.words().is_empty() {
+            begin_line(script, row.name)?;
+            script.push_str(" -a '")?;
+            add_words(script, argument.words())?;
+            script.push_str("'\n")?;
+        }
     }
     begin_line(script, row.name)?;
     script.push_str(" -l help -s h -d 'Print help'\n")
@@ -105,10 +85,8 @@ pub fn fish(alloc: Global, rows: &[&'static [Subcommand]]) -> Result<String, All
     let mut script = String::from_str(alloc, BEGIN)?;
     add_commands(&mut script, rows)?;
     script.push_str("'\n")?;
-    for part in rows {
-        for row in *part {
-            add_command(&mut script, row)?;
-        }
+    for row in rows.iter().copied().flatten() {
+        add_command(&mut script, row)?;
     }
     Ok(script)
 }

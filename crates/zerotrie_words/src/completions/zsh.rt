@@ -1,7 +1,7 @@
 //! Completions for zsh.
 
 use crate::arguments::{Argument, Subcommand};
-use crate::completions::{Offer, add, add_commands, add_words};
+use crate::completions::{Offer, add_commands, add_words};
 use std::alloc::{AllocError, Global};
 
 const BEGIN: &str = "#compdef zerotrie\n\
@@ -47,7 +47,7 @@ fn add_offer(script: &mut String, argument: &Argument) -> Result<(), AllocError>
     let Some(value) = argument.value() else {
         return Ok(());
     };
-    add(script, &[":", value, ":"])?;
+    write!(script, ":{value}:")?;
     match argument.offer() {
         Offer::Words(words) => {
             script.push_str("(")?;
@@ -60,64 +60,46 @@ fn add_offer(script: &mut String, argument: &Argument) -> Result<(), AllocError>
 }
 
 /// Ends a name of an option by its help and what is offered for its word.
-fn end_option(script: &mut String, argument: &Argument) -> Result<(), AllocError> {
+fn end_option(script: &mut String, option: &Argument) -> Result<(), AllocError> {
     script.push_str("[")?;
-    add_literal(script, argument.short_help())?;
+    add_literal(script, option.short_help())?;
     script.push_str("]")?;
-    add_offer(script, argument)?;
+    add_offer(script, option)?;
     script.push_str("' \\\n")
 }
 
 /// Adds an argument, an option by each of its names.
 fn add_argument(script: &mut String, argument: &Argument) -> Result<(), AllocError> {
     if !argument.is_option() {
-        script.push_str(if argument.is_many() {
-            "            '*"
-        } else {
-            "            '"
-        })?;
+        let many = if argument.is_many() { "*" } else { "" };
+        write!(script, "            '{many}")?;
         add_offer(script, argument)?;
         return script.push_str("' \\\n");
     }
-    add(script, &["            '--", argument.name])?;
+    write!(script, "            '--{}", argument.name)?;
     end_option(script, argument)?;
     if let Some(letter) = argument.letter() {
-        script.push_str("            '-")?;
-        script.push(letter)?;
+        write!(script, "            '-{letter}")?;
         end_option(script, argument)?;
     }
     Ok(())
 }
 
-/// Adds the case of a command.
-fn add_command(script: &mut String, row: &Subcommand) -> Result<(), AllocError> {
-    add(script, &["        ", row.name, ") _arguments -s \\\n"])?;
-    for argument in row.arguments {
-        add_argument(script, argument)?;
-    }
-    script.push_str("            '--help[Print help]' ;;\n")
-}
-
-/// Adds the name of a command and what it is for.
-fn add_name(script: &mut String, row: &Subcommand) -> Result<(), AllocError> {
-    add(script, &["        '", row.name, ":"])?;
-    add_literal(script, row.about)?;
-    script.push_str("'\n")
-}
-
 /// Returns the script for zsh.
 pub fn zsh(alloc: Global, rows: &[&'static [Subcommand]]) -> Result<String, AllocError> {
     let mut script = String::from_str(alloc, BEGIN)?;
-    for part in rows {
-        for row in *part {
-            add_name(&mut script, row)?;
-        }
+    for row in rows.iter().copied().flatten() {
+        write!(script, "        '{}:", row.name)?;
+        add_literal(&mut script, row.about)?;
+        script.push_str("'\n")?;
     }
     script.push_str(AFTER_COMMANDS)?;
-    for part in rows {
-        for row in *part {
-            add_command(&mut script, row)?;
+    for row in rows.iter().copied().flatten() {
+        write!(script, "        {}) _arguments -s \\\n", row.name)?;
+        for argument in row.arguments {
+            add_argument(&mut script, argument)?;
         }
+        script.push_str("            '--help[Print help]' ;;\n")?;
     }
     script.push_str("        help) _values command ")?;
     add_commands(&mut script, rows)?;

@@ -20,7 +20,7 @@ fn main() -> ExitCode {
         Ok(status) => ExitCode::from(status),
         Err(error) => {
             let message = error.message();
-            let _ = eprintln!("{message}");
+            let _ = crate::rstd::eprintln!("{message}");
             ExitCode::from(3)
         }
     }

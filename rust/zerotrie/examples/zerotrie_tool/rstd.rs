@@ -29,6 +29,7 @@ impl AllocGlobal for HostRuntime {}
 /// Text that grows, with an error of memory.
 pub trait TryString {
     fn try_push_str(&mut self, text: &str) -> Result<(), alloc::AllocError>;
+    fn try_push(&mut self, letter: char) -> Result<(), alloc::AllocError>;
     fn write_fmt(&mut self, text: std::fmt::Arguments<'_>) -> Result<(), alloc::AllocError>;
 }
 
@@ -39,9 +40,34 @@ impl TryString for String {
         Ok(())
     }
 
+    fn try_push(&mut self, letter: char) -> Result<(), alloc::AllocError> {
+        self.try_push_str(letter.encode_utf8(&mut [0; 4]))
+    }
+
     fn write_fmt(&mut self, text: std::fmt::Arguments<'_>) -> Result<(), alloc::AllocError> {
         std::fmt::Write::write_fmt(self, text).map_err(|_| alloc::AllocError)
     }
+}
+
+/// What prints to a stream, and returns an error if that can't be written: Rust's own macros end the program then.
+macro_rules! prints {
+    ($sign:tt $($name:ident: $own:ident, $stream:ident, $end:literal;)*) => { $(
+        #[allow(unused_macros)]
+        macro_rules! $name {
+            ($sign($text:tt)*) => {{
+                let mut stream = std::io::$stream();
+                std::io::Write::write_all(&mut stream, format!("{}{}", format_args!($sign($text)*), $end).as_bytes())
+                    .and_then(|()| std::io::Write::flush(&mut stream))
+            }};
+        }
+        pub(crate) use $name as $own;
+    )* };
+}
+prints! { $
+    print_in: print, stdout, "";
+    println_in: println, stdout, "\n";
+    eprint_in: eprint, stderr, "";
+    eprintln_in: eprintln, stderr, "\n";
 }
 
 pub mod prelude {

@@ -42,3 +42,17 @@ impl<T> From<AllocFailed<T>> for alloc::boxed::Box<dyn core::error::Error> {
         AllocError.into()
     }
 }
+
+#[cfg(feature = "__std")]
+impl From<AllocError> for std::io::Error {
+    fn from(_: AllocError) -> Self {
+        std::io::ErrorKind::OutOfMemory.into()
+    }
+}
+
+#[cfg(feature = "__std")]
+impl<T> From<AllocFailed<T>> for std::io::Error {
+    fn from(_: AllocFailed<T>) -> Self {
+        AllocError.into()
+    }
+}

@@ -115,7 +115,11 @@ pub mod examples {
     pub type Fail = alloc::boxed::Box<dyn core::error::Error>;
 }
 
+#[cfg(feature = "__std")]
+pub use std::io;
+
 /// What an error of a file is made of: this package reads none.
+#[cfg(not(feature = "__std"))]
 #[allow(dead_code)]
 pub mod io {
     #[derive(Debug)]

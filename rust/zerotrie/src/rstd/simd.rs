@@ -2,7 +2,7 @@
 use super::lanes;
 
 pub mod prelude {
-    pub use super::{u8x16, u8x32, u8x64, u32x16};
+    pub use super::{u8x8, u8x16, u8x32, u8x64, u32x16};
 }
 
 macro_rules! lanes {
@@ -69,6 +69,51 @@ macro_rules! lanes {
 lanes!(u8x16, m8x16, 16);
 lanes!(u8x32, m8x32, 32);
 lanes!(u8x64, m8x64, 64);
+
+/// Half of sixteen lanes.
+#[allow(non_camel_case_types)]
+#[derive(Clone, Copy)]
+pub struct u8x8(u8x16);
+
+impl u8x8 {
+    #[inline(always)]
+    pub fn from_slice(bytes: &[u8]) -> Self {
+        let mut lanes = [0; 16];
+        lanes[..8].copy_from_slice(&bytes[..8]);
+        u8x8(u8x16(lanes))
+    }
+
+    #[inline(always)]
+    pub fn splat(byte: u8) -> Self {
+        u8x8(u8x16::splat(byte))
+    }
+
+    #[inline(always)]
+    pub fn simd_eq(self, other: Self) -> m8x8 {
+        m8x8(self.0.simd_eq(other.0))
+    }
+
+    #[inline(always)]
+    pub fn simd_ge(self, other: Self) -> m8x8 {
+        m8x8(self.0.simd_ge(other.0))
+    }
+
+    #[inline(always)]
+    pub fn simd_lt(self, other: Self) -> m8x8 {
+        m8x8(self.0.simd_lt(other.0))
+    }
+}
+
+#[allow(non_camel_case_types)]
+#[derive(Clone, Copy)]
+pub struct m8x8(m8x16);
+
+impl m8x8 {
+    #[inline(always)]
+    pub fn to_bitmask(self) -> u64 {
+        self.0.to_bitmask() & 0xFF
+    }
+}
 
 #[allow(non_camel_case_types)]
 #[derive(Clone, Copy)]

@@ -42,6 +42,14 @@ impl<T, A: Allocator> Vec<T, A> {
     pub fn reserve(&mut self, more: usize) -> Result<(), AllocError> {
         Ok(self.items.try_reserve(more)?)
     }
+    pub fn reserve_exact(&mut self, more: usize) -> Result<(), AllocError> {
+        Ok(self.items.try_reserve_exact(more)?)
+    }
+    pub fn insert(&mut self, index: usize, item: T) -> Result<(), AllocError> {
+        self.reserve(1)?;
+        self.items.insert(index, item);
+        Ok(())
+    }
     pub fn allocator(&self) -> &A {
         &self.alloc
     }
@@ -123,6 +131,18 @@ impl<T> From<Own<T>> for Vec<T> {
 impl<T> From<Vec<T>> for Own<T> {
     fn from(vec: Vec<T>) -> Self {
         vec.items
+    }
+}
+
+#[cfg(feature = "__std")]
+impl std::io::Write for Vec<u8> {
+    fn write(&mut self, bytes: &[u8]) -> std::io::Result<usize> {
+        self.extend_from_slice(bytes)?;
+        Ok(bytes.len())
+    }
+
+    fn flush(&mut self) -> std::io::Result<()> {
+        Ok(())
     }
 }
 

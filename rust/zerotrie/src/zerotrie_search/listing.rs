@@ -131,8 +131,11 @@ impl<'a, T: Fuzzy, A: Allocator + Copy> TrieListing for ZeroTrieNearest<'a, T, A
 /// One of three listings. Which one it is is decided once, and what reads it has one type to name. A
 /// choice of more is one of these whose third is one again.
 pub enum AnyOf<A: TrieListing, B: TrieListing, C: TrieListing> {
+    /// One of the first type.
     First(A),
+    /// One of the second type.
     Second(B),
+    /// One of the third type.
     Third(C),
 }
 

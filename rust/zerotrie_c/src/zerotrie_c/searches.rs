@@ -4,7 +4,8 @@
 use crate::zerotrie_c::folding;
 use crate::zerotrie_c::folding::FoldedTexts;
 use crate::zerotrie_c::numbers::{
-    DONE, MALFORMED_SEARCH, OUT_OF_MEMORY, SEARCH_TOO_LONG, UNKNOWN_KIND, UNKNOWN_SEARCH, trie_of,
+    DONE, MALFORMED_SEARCH, OUT_OF_MEMORY, SEARCH_TOO_LONG, TOO_MANY_EDITS, UNKNOWN_KIND,
+    UNKNOWN_SEARCH, trie_of,
 };
 use crate::zerotrie_c::parts::{Page, fill, left_of};
 use crate::rstd::alloc::Global;
@@ -60,6 +61,7 @@ pub fn word_of(kind: TrieKind, by: SearchBy, word: &[u8]) -> Result<AnyAutomaton
         Ok(any) => Ok(any),
         Err(WordError::Malformed) => Err(MALFORMED_SEARCH),
         Err(WordError::TooLong) => Err(SEARCH_TOO_LONG),
+        Err(WordError::TooManyEdits) => Err(TOO_MANY_EDITS),
     }
 }
 

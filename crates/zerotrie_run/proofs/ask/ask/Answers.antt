@@ -3,7 +3,7 @@ use Rattle.std.proofs.lemmas.Result.{err_from_is_err_and}
 use Rattle.std.specs.Io.Buffered.{writer_contents}
 use Rattle.zerotrie_run.specs.Runs.{HasNumberToo, IsAsked, IsRefusedUnread, asks_index}
 use Rattle.zerotrie_run.proofs.FrontLemmas.{ends_refused, reason_refused}
-use Rattle.zerotrie_run.proofs.AskLemmas.{kept_content, same_answer, answer_in_part, same_keys, same_part, is_not, ends_unanswered, reason_unanswered, left_alone, not_misused}
+use Rattle.zerotrie_run.proofs.AskLemmas.{kept_content, same_answer, answer_in_part, same_keys, same_part, ends_unanswered, reason_unanswered, left_alone, not_misused}
 use Rattle.zerotrie_run.proofs.ask.ask.Goals as goal
 
 pub returns-in-Ok-hand_on-clause-ok : goal.returns-in-Ok-hand_on-clause-ok
@@ -20,7 +20,7 @@ returns-in-Ok-hand_on-clause-ok g c =
       content = answered.0;
       opens = inl answered.1;
       answers = same_answer c.args.file.place remaining c.args.input.now c.read_place.new.input answered.0 c.args.question old (contents c.hand_on.new.self.inner) c.in_ok-all.all
-          (λ both. is_not c.reads_twice.result c.if-reads_twice.false (c.reads_twice.ensures.1 both)) c.read_place.ensures.untouched kept;
+          c.requires c.read_place.ensures.untouched kept;
     }
 
 pub returns-in-Ok-hand_on-clause-quiet : goal.returns-in-Ok-hand_on-clause-quiet
@@ -44,7 +44,7 @@ returns-clause-err g c =
       content = answered.0;
       opens = inl answered.1;
       begun = same_part c.args.file.place remaining c.args.input.now c.read_place.new.input answered.0 c.args.question old (contents c.hand_on.new.self.inner)
-          (λ both. is_not c.reads_twice.result c.if-reads_twice.false (c.reads_twice.ensures.1 both)) c.read_place.ensures.untouched
+          c.requires c.read_place.ensures.untouched
           (answer_in_part answered.0 c.args.question (remaining c.read_place.new.input.inner) old (contents c.hand_on.new.self.inner) c.in_ok-all.all kept);
     })
 
@@ -58,9 +58,9 @@ returns-in_err-all-clause-err g c =
     rw (same.1, same.2) (ends_unanswered c.args.file c.args.question (remaining c.args.input.now.inner) (remaining c.read_place.new.input.inner) (g.D.Disk.story c.args.files.now.disk) c.as_slice-held.result.now old new
     c.in_err-all.field-0.0 (rw c.as_slice-held.ensures.value c.in-Ok.ensures.read)
     (λ x h. same_part c.args.file.place remaining c.args.input.now c.read_place.new.input x c.args.question old new
-    (λ both. is_not c.reads_twice.result c.if-reads_twice.false (c.reads_twice.ensures.1 both)) c.read_place.ensures.untouched h)
+    c.requires c.read_place.ensures.untouched h)
     (λ e h. same_keys c.args.file.place remaining c.args.input.now c.read_place.new.input c.args.question old new e
-    (λ both. is_not c.reads_twice.result c.if-reads_twice.false (c.reads_twice.ensures.1 both)) c.read_place.ensures.untouched h)
+    c.requires c.read_place.ensures.untouched h)
     c.in_err-all.ensures.err)
 
 pub returns-in_err-all-clause-quiet : goal.returns-in_err-all-clause-quiet
@@ -69,11 +69,9 @@ returns-in_err-all-clause-quiet g c = λ none.
 
 pub returns-in_err-all-clause-unread : goal.returns-in_err-all-clause-unread
 returns-in_err-all-clause-unread g c =
-    let contents = writer_contents g.W.Write.contents in
     let same = err_from_is_err_and c.from_residual-in_err-all.result c.from_residual-in_err-all.ensures.1 in
     rw (same.1, same.2) (left_alone c.args.file c.args.question c.args.input.now c.read_place.new.input c.answer_held.new.input c.in_err-all.field-0.0
-    (not_misused c.args.file c.args.question (g.R.Read.remaining c.read_place.new.input.inner) c.as_slice-held.result.now (contents c.args.output.now.inner) (contents c.answer_held.new.output.inner) c.in_err-all.field-0.0
-    c.in_err-all.ensures.err) c.read_place.ensures.untouched c.in_err-all.ensures.unread)
+    (not_misused c.in_err-all.field-0.0) c.read_place.ensures.untouched c.in_err-all.ensures.unread)
 
 pub returns-in_err-all-clause-why : goal.returns-in_err-all-clause-why
 returns-in_err-all-clause-why g c =
@@ -83,7 +81,7 @@ returns-in_err-all-clause-why g c =
     rw (same.1, same.2) (reason_unanswered c.args.file c.args.question (remaining c.args.input.now.inner) (remaining c.read_place.new.input.inner) (g.D.Disk.story c.args.files.now.disk) c.as_slice-held.result.now
     (contents c.args.output.now.inner) (contents c.answer_held.new.output.inner) c.in_err-all.field-0.0 (rw c.as_slice-held.ensures.value c.in-Ok.ensures.read)
     (λ e h. same_keys c.args.file.place remaining c.args.input.now c.read_place.new.input c.args.question (contents c.args.output.now.inner) (contents c.answer_held.new.output.inner) e
-    (λ both. is_not c.reads_twice.result c.if-reads_twice.false (c.reads_twice.ensures.1 both)) c.read_place.ensures.untouched h)
+    c.requires c.read_place.ensures.untouched h)
     c.in_err-all.ensures.err)
 
 pub returns-in-Some-clause-notes : goal.returns-in-Some-clause-notes

@@ -1,0 +1,363 @@
+//! Times searches in the words of benches/data, or the lines of a file, beside a scan of the sorted keys and fst with the same automata; sorted
+//! listings beside plain ones; and intersections beside look-ups.
+
+use benches::asked::Asked;
+use benches::library::{self, Found, Question, Rooms};
+use benches::peers::fst_of;
+use benches::sets::Set;
+use benches::table::{Contestants, Table, agreed, best, turned};
+use benches::{Kind, by_type, kinds_of};
+use fst::{IntoStreamer, Streamer};
+use std::ops::Bound;
+use zerotrie::search::{Glob, KeyRange, KeysOf, Levenshtein, StartsWith, Subsequence};
+use zerotrie::sets::PairStream;
+use zerotrie::{Pairs, ZeroTriePerfectHash, ZeroTrieSimpleAscii};
+
+/// How often an intersection is made in a round.
+const TURNS: usize = 5_000;
+
+/// What is listed in order: all keys, and some hundred and some thousand.
+const RANGES: [(&str, &str); 3] = [("", ""), ("interc", "interl"), ("mm", "mp")];
+
+const QUESTIONS: [Question; 16] = [
+    Question::Prefix("inter"),
+    Question::Range("interc", "interl"),
+    Question::Range("mm", "mp"),
+    Question::Glob("inter*al"),
+    Question::Glob("s*ing"),
+    Question::Glob("?a?e?"),
+    Question::Glob("*ing"),
+    Question::Subsequence("zzx"),
+    Question::Subsequence("trie"),
+    Question::Near("exampel", 1),
+    Question::Near("example", 1),
+    Question::Near("example", 2),
+    Question::Near("internationalization", 1),
+    Question::Near("internationalization", 2),
+    Question::Near("cat", 1),
+    Question::Near("cat", 2),
+];
+
+fn name_of(question: &Question) -> String {
+    match question {
+        Question::Prefix(text) => format!("begins with {text}"),
+        Question::Range(from, end) => format!("from {from} to below {end}"),
+        Question::Subsequence(text) => format!("subsequence {text}"),
+        Question::Glob(pattern) => format!("pattern `{pattern}`"),
+        Question::Near(word, edits) => format!("distance {edits} of {word}"),
+    }
+}
+
+/// The automaton of a question for a scan and for fst.
+fn automaton_of(question: &Question) -> Automaton {
+    match *question {
+        Question::Prefix(text) => Automaton::Glob(items(text).chain([Item::Any]).collect()),
+        Question::Range(from, end) => Automaton::Range(from.as_bytes(), end.as_bytes()),
+        Question::Subsequence(text) => Automaton::Glob(items(text).flat_map(|item| [Item::Any, item]).chain([Item::Any]).collect()),
+        Question::Glob(pattern) => Automaton::Glob(items(pattern).collect()),
+        Question::Near(word, edits) => Automaton::Near(word.as_bytes(), edits),
+    }
+}
+
+/// A part of a pattern.
+#[derive(Clone, Copy)]
+enum Item {
+    Any,
+    One,
+    Byte(u8),
+}
+
+fn items(pattern: &'static str) -> impl Iterator<Item = Item> {
+    pattern.bytes().map(|byte| match byte {
+        b'*' => Item::Any,
+        b'?' => Item::One,
+        _ => Item::Byte(byte),
+    })
+}
+
+/// An automaton whose state is a set of places in a pattern, a row of distances, or what is left of two bounds.
+enum Automaton {
+    Glob(Vec<Item>),
+    Range(&'static [u8], &'static [u8]),
+    Near(&'static [u8], u8),
+}
+
+#[derive(Clone)]
+enum State {
+    Places(u64),
+    Row([u8; 32]),
+    Bounds(Option<&'static [u8]>, Option<&'static [u8]>),
+    Dead,
+}
+
+impl Automaton {
+    /// The places of a pattern with those that follow a `*` at once.
+    fn spread(items: &[Item], mut places: u64) -> u64 {
+        for (place, item) in items.iter().enumerate() {
+            if matches!(item, Item::Any) && places >> place & 1 == 1 {
+                places |= 1 << (place + 1);
+            }
+        }
+        places
+    }
+
+    fn start(&self) -> State {
+        match self {
+            Automaton::Glob(items) => State::Places(Automaton::spread(items, 1)),
+            Automaton::Range(from, end) => State::Bounds(Some(from), Some(end)),
+            Automaton::Near(..) => State::Row(std::array::from_fn(|place| place as u8)),
+        }
+    }
+
+    fn is_match(&self, state: &State) -> bool {
+        match (self, state) {
+            (Automaton::Glob(items), State::Places(places)) => places >> items.len() & 1 == 1,
+            (Automaton::Near(word, edits), State::Row(row)) => row[word.len()] <= *edits,
+            (_, State::Bounds(from, end)) => from.is_none_or(<[u8]>::is_empty) && end.is_none_or(|end| !end.is_empty()),
+            _ => false,
+        }
+    }
+
+    fn can_match(&self, state: &State) -> bool {
+        match (self, state) {
+            (_, State::Places(places)) => *places != 0,
+            (Automaton::Near(word, edits), State::Row(row)) => row[..=word.len()].iter().any(|cell| cell <= edits),
+            (_, State::Bounds(..)) => true,
+            _ => false,
+        }
+    }
+
+    fn step(&self, state: &State, byte: u8) -> State {
+        match (self, state) {
+            (Automaton::Glob(items), State::Places(places)) => {
+                let mut next = 0;
+                for (place, item) in items.iter().enumerate() {
+                    if places >> place & 1 == 1 {
+                        next |= match item {
+                            Item::Any => 1 << place,
+                            Item::One => 1 << (place + 1),
+                            Item::Byte(wanted) => u64::from(*wanted == byte) << (place + 1),
+                        };
+                    }
+                }
+                State::Places(Automaton::spread(items, next))
+            }
+            (Automaton::Near(word, _), State::Row(row)) => {
+                let mut next = [row[0] + 1; 32];
+                for (place, wanted) in word.iter().enumerate() {
+                    next[place + 1] = (row[place] + u8::from(*wanted != byte)).min(row[place + 1] + 1).min(next[place] + 1);
+                }
+                State::Row(next)
+            }
+            (_, State::Bounds(from, end)) => {
+                let from = match from.and_then(<[u8]>::split_first) {
+                    Some((first, _)) if byte < *first => return State::Dead,
+                    Some((first, rest)) if byte == *first => Some(rest),
+                    _ => None,
+                };
+                let end = match end.map(<[u8]>::split_first) {
+                    None => None,
+                    Some(Some((first, _))) if byte < *first => None,
+                    Some(Some((first, rest))) if byte == *first => Some(rest),
+                    _ => return State::Dead,
+                };
+                State::Bounds(from, end)
+            }
+            _ => State::Dead,
+        }
+    }
+}
+
+impl fst::Automaton for &Automaton {
+    type State = State;
+    fn start(&self) -> State {
+        Automaton::start(self)
+    }
+    fn is_match(&self, state: &State) -> bool {
+        Automaton::is_match(self, state)
+    }
+    fn can_match(&self, state: &State) -> bool {
+        Automaton::can_match(self, state)
+    }
+    fn accept(&self, state: &State, byte: u8) -> State {
+        Automaton::step(self, state, byte)
+    }
+}
+
+/// The number of pairs times 2^44, and the sum of their values.
+fn summed(values: impl Iterator<Item = usize>) -> usize {
+    values.fold(0, |sum, value| sum + value + (1 << 44))
+}
+
+fn sum_of(found: Found) -> usize {
+    (found.pairs << 44) + found.values
+}
+
+/// The sum by plain Rust.
+fn streamed<S: PairStream>(mut pairs: Pairs<S>) -> usize {
+    summed(std::iter::from_fn(|| pairs.advance().then(|| pairs.value())))
+}
+
+fn range<'p>(from: &'p str, to: &'p str) -> KeyRange<'p> {
+    let to = if to.is_empty() { Bound::Unbounded } else { Bound::Excluded(to.as_bytes()) };
+    KeyRange { from: Bound::Included(from.as_bytes()), to }
+}
+
+fn by_plain_rust(kind: Kind, bytes: &[u8], question: &Question) -> usize {
+    by_type!(kind, zerotrie, Trie => {
+        let trie = Trie::from_bytes(bytes);
+        match *question {
+            Question::Prefix(text) => streamed(trie.search(StartsWith(text.as_bytes()))),
+            Question::Range(from, to) => streamed(trie.search(range(from, to))),
+            Question::Subsequence(letters) => streamed(trie.search(Subsequence(letters.as_bytes()))),
+            Question::Glob(pattern) => streamed(trie.search(Glob::new(pattern.as_bytes()).unwrap())),
+            Question::Near(word, edits) => streamed(trie.search(Levenshtein::new(word.as_bytes(), edits).unwrap())),
+        }
+    })
+}
+
+fn is_accepted(automaton: &Automaton, key: &[u8]) -> bool {
+    let mut state = automaton.start();
+    for byte in key {
+        state = automaton.step(&state, *byte);
+        if !automaton.can_match(&state) {
+            return false;
+        }
+    }
+    automaton.is_match(&state)
+}
+
+fn scanned(set: &Set, automaton: &Automaton) -> usize {
+    summed(set.pairs().filter(|(key, _)| is_accepted(automaton, key)).map(|(_, value)| value))
+}
+
+/// The sum of a search of fst.
+macro_rules! fst_sum {
+    ($found:expr) => {{
+        let mut found = $found.into_stream();
+        let mut sum = 0;
+        while let Some((_, value)) = found.next() {
+            sum += value as usize + (1 << 44);
+        }
+        sum
+    }};
+}
+
+fn fst_range(map: &fst::Map, (from, to): (&str, &str)) -> usize {
+    let range = map.range().ge(from);
+    fst_sum!(if to.is_empty() { range } else { range.lt(to) })
+}
+
+/// What two maps have in common.
+fn fst_common(map: &fst::Map, other: &fst::Map) -> usize {
+    let mut found = map.op().add(other).intersection();
+    let mut sum = 0;
+    while let Some((_, values)) = found.next() {
+        sum += values[0].value as usize + (1 << 44);
+    }
+    sum
+}
+
+/// The tries of a set.
+fn tries_of(set: &Set) -> Vec<(Kind, Vec<u8>)> {
+    let kinds = kinds_of(&set.keys).into_iter().filter(|kind| matches!(kind, Kind::Simple | Kind::Hash));
+    kinds.map(|kind| (kind, library::built(kind, set.pairs()))).collect()
+}
+
+fn searches(set: &Set, rounds: usize) -> Table {
+    let mut table = Table::of_shares(&format!("Microseconds of a search in {}", set.name));
+    let map = fst_of(set);
+    for question in &QUESTIONS {
+        let automaton = automaton_of(question);
+        for (kind, bytes) in &tries_of(set) {
+            let mut rooms = Rooms::default();
+            let mut contestants: Contestants<'_> = vec![
+                ("here", Box::new(|| sum_of(rooms.searched(*kind, bytes, *question)))),
+                ("plain Rust", Box::new(|| by_plain_rust(*kind, bytes, question))),
+                ("a scan", Box::new(|| scanned(set, &automaton))),
+                ("`fst`", Box::new(|| fst_sum!(map.search(&automaton)))),
+            ];
+            let found = agreed(&mut contestants, &name_of(question)) >> 44;
+            table.measure(format!("{}, {}: {found}", name_of(question), kind.name()), rounds, 1000, contestants);
+        }
+    }
+    table
+}
+
+fn sorted_listings(set: &Set, rounds: usize) -> Table {
+    let mut table = Table::of_shares(&format!("Microseconds of a listing in the order of bytes in {}", set.name));
+    let map = fst_of(set);
+    for (from, to) in RANGES {
+        for (kind, bytes) in &tries_of(set) {
+            let (mut rooms, mut others) = (Rooms::default(), Rooms::default());
+            let mut plain = || match to {
+                "" => others.listed(*kind, bytes, b""),
+                _ => others.searched(*kind, bytes, Question::Range(from, to)),
+            };
+            let by_plain_rust = || by_type!(*kind, zerotrie, Trie => streamed(Trie::from_bytes(bytes).stream_sorted(range(from, to))));
+            let mut contestants: Contestants<'_> = vec![
+                ("here", Box::new(|| sum_of(rooms.sorted(*kind, bytes, from.as_bytes(), to.as_bytes())))),
+                ("a plain one", Box::new(|| sum_of(plain()))),
+                ("plain Rust", Box::new(by_plain_rust)),
+                ("`fst`", Box::new(|| fst_range(&map, (from, to)))),
+            ];
+            let row = if to.is_empty() { String::from("all") } else { format!("from {from} to below {to}") };
+            let found = agreed(&mut contestants, &row) >> 44;
+            table.measure(format!("{row}, {}: {found}", kind.name()), rounds, 1000, contestants);
+        }
+    }
+    table
+}
+
+/// What two tries of plain Rust have in common, by a search of the first for the keys of the second.
+fn common(kind: Kind, first: &[u8], second: &[u8]) -> usize {
+    match kind {
+        Kind::Simple => streamed(ZeroTrieSimpleAscii::from_bytes(first).search(KeysOf::new(ZeroTrieSimpleAscii::from_bytes(second)))),
+        _ => streamed(ZeroTriePerfectHash::from_bytes(first).search(KeysOf::new(ZeroTriePerfectHash::from_bytes(second)))),
+    }
+}
+
+/// The same by a look-up of each key of the first.
+fn looked_up(kind: Kind, first: &[u8], second: &[u8]) -> usize {
+    by_type!(kind, zerotrie, Trie => {
+        let (mut pairs, other) = (Trie::from_bytes(first).stream(), Trie::from_bytes(second));
+        let mut sum = 0;
+        while pairs.advance() {
+            sum += other.get(pairs.key()).map_or(0, |value| value + (1 << 44));
+        }
+        sum
+    })
+}
+
+/// What all keys and every thousandth of them have in common, each searched for those of the other. C has no such search.
+fn intersections(set: &Set, rounds: usize) -> Table {
+    let mut table = Table::of_shares(&format!("Microseconds of an intersection of {} and a thousandth", set.name));
+    let (keys, values) = set.pairs().step_by(1000).map(|(key, value)| (key.to_vec(), value)).unzip();
+    let few = Set { name: String::from("a thousandth"), keys, values };
+    let (map, few_map) = (fst_of(set), fst_of(&few));
+    for (kind, bytes) in &tries_of(set) {
+        let thousandth = &library::built(*kind, few.pairs());
+        for (name, first, second) in [("all", bytes, thousandth), ("a thousandth", thousandth, bytes)] {
+            let mut contestants: Contestants<'_> = vec![
+                ("plain Rust", Box::new(|| common(*kind, first, second))),
+                ("look-ups of the thousandth", Box::new(|| looked_up(*kind, thousandth, bytes))),
+                ("`fst`", Box::new(|| fst_common(&map, &few_map))),
+            ];
+            let found = agreed(&mut contestants, name) >> 44;
+            // fst goes over all keys of both, so that one turn of it is enough
+            let mut values = best(rounds, 1000, &mut vec![contestants.pop().unwrap()]);
+            let mut others = contestants.into_iter().map(|(name, work)| (name, turned(TURNS, work))).collect();
+            values.splice(0..0, best(rounds, 1000 * TURNS, &mut others));
+            table.add(format!("{name} searched, {}: {found}", kind.name()), values);
+        }
+    }
+    table
+}
+
+fn main() {
+    let asked = Asked::begin();
+    let (set, rounds) = (&asked.one_set(), asked.rounds);
+    searches(set, rounds).print();
+    sorted_listings(set, rounds).print();
+    intersections(set, rounds).print();
+}

@@ -1,0 +1,112 @@
+// Made from crates/zerotrie_lines/src/fault.rt by rust/make: edit that.
+//! Why an input is no pairs.
+
+use crate::rstd::prelude::*;
+use crate::rstd::alloc::AllocError;
+use crate::rstd::fmt;
+
+/// What is wrong with a field that is no value, which is a number below 2^64 of 1 to 20 decimal
+/// digits.
+#[derive(Clone, Copy, PartialEq, Eq, Debug)]
+pub enum ValueFault {
+    /// It is empty.
+    Empty,
+    /// It begins with a sign.
+    Sign,
+    /// It has a space or a tab.
+    Blank,
+    /// A carriage return is at its end.
+    CarriageReturn,
+    /// It begins with `0x`.
+    Hexadecimal,
+    /// It begins with a digit, and has a dot or an exponent.
+    Fraction,
+    /// It is more than 20 digits.
+    TooLong,
+    /// It is digits, and its number is 2^64 or more.
+    TooGreat,
+    /// It is none of these.
+    Other,
+}
+
+/// A field that is no value.
+#[derive(PartialEq, Eq, Debug)]
+pub struct BadValue {
+    /// What is wrong with it.
+    pub fault: ValueFault,
+    /// The first 40 bytes of it, or all if it has fewer.
+    pub front: Vec<u8>,
+}
+
+/// What is bad in a line.
+#[derive(PartialEq, Eq, Debug)]
+pub enum BadLine {
+    /// It is empty.
+    Empty,
+    /// It has no tab, but something else.
+    NoTab,
+    /// What is before its tab spells no key.
+    Escape,
+    /// Its value is none.
+    Value(BadValue),
+    /// The record has not two fields.
+    Fields,
+}
+
+impl ValueFault {
+    /// Returns what a message says of it.
+    pub fn text(self) -> &'static str {
+        match self {
+            ValueFault::Empty => "the value is missing",
+            ValueFault::Sign => "the value has a sign",
+            ValueFault::Blank => "a blank is in the value",
+            ValueFault::CarriageReturn => "a carriage return is at the end of the value",
+            ValueFault::Hexadecimal => "the value is hexadecimal, not decimal",
+            ValueFault::Fraction => "the value is a fraction or has an exponent",
+            ValueFault::TooLong => "the value has more than 20 digits",
+            ValueFault::TooGreat => "the value is 2^64 or more",
+            ValueFault::Other => "the value is no decimal number",
+        }
+    }
+}
+
+impl BadLine {
+    /// Returns what a message says of it.
+    pub fn text(&self) -> &'static str {
+        match self {
+            BadLine::Empty => "an empty line",
+            BadLine::NoTab => "no tab between a key and its value",
+            BadLine::Escape => {
+                "a backslash that begins no escape; the escapes are \\t \\n \\r \\\\ \\xHH"
+            }
+            BadLine::Value(bad) => bad.fault.text(),
+            BadLine::Fields => "not two fields, a key and its value",
+        }
+    }
+}
+
+impl fmt::Display for BadLine {
+    fn fmt(&self, f: &mut fmt::Formatter<'_>) -> fmt::Result {
+        f.write_str(self.text())
+    }
+}
+
+/// Why an input is no pairs.
+#[derive(PartialEq, Eq, Debug)]
+pub enum ReadError {
+    /// The line, or record of comma-separated fields, with this number is no pair, and why.
+    Line(usize, BadLine),
+    /// An allocation failed.
+    OutOfMemory,
+}
+
+impl From<AllocError> for ReadError {
+    fn from(_: AllocError) -> Self {
+        ReadError::OutOfMemory
+    }
+}
+
+/// Returns the error of the line with this number.
+pub(in crate::zerotrie_lines) fn at_line(number: usize, bad: BadLine) -> ReadError {
+    ReadError::Line(number, bad)
+}

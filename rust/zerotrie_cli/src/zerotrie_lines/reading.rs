@@ -1,0 +1,138 @@
+// Made from crates/zerotrie_lines/src/reading.rt by rust/make: edit that.
+//! Pairs that are read from an input.
+
+use crate::rstd::prelude::*;
+use crate::zerotrie_lines::escapes::without_mark;
+use crate::zerotrie_lines::fault::{ReadError, at_line};
+use crate::zerotrie_lines::lines::{read_pair, take_ended, take_line};
+use crate::zerotrie_lines::records::read_records;
+use crate::zerotrie_lines::table::Table;
+use crate::rstd::alloc::Global;
+
+/// How an input is pairs. A byte order mark in front of it is left out.
+#[derive(Clone, Copy, PartialEq, Eq, Debug)]
+pub enum Format {
+    /// A line is a key, and its number, from 1 on, the value.
+    Lines,
+    /// A line is a key with escapes, a tab and the value.
+    Tsv,
+    /// A line is a key as it is, a tab and the value: a backslash is a byte of the key.
+    TsvRaw,
+    /// A record is two fields with a comma between them, the key and the value. A field may be
+    /// quoted.
+    Csv,
+}
+
+/// What ends a line.
+#[derive(Clone, Copy, PartialEq, Eq, Debug)]
+pub enum LineEnd {
+    /// A line feed, with or without a carriage return before it. One at the end of the input
+    /// belongs to the end of the last line.
+    CrLf,
+    /// A line feed alone: a carriage return is a byte of the line.
+    Lf,
+}
+
+/// Whether a header is in front of the pairs.
+#[derive(Clone, Copy, PartialEq, Eq, Debug)]
+pub enum Header {
+    /// The first line or record is a pair.
+    Absent,
+    /// The first line or record is a header, and no pair. It is counted in the numbers of the others.
+    Present,
+}
+
+impl Header {
+    /// Returns how many lines or records it is.
+    pub fn rows(self) -> usize {
+        match self {
+            Header::Absent => 0,
+            Header::Present => 1,
+        }
+    }
+}
+
+/// Returns the text of the lines that are to be pairs: without a byte order mark and the header.
+pub(in crate::zerotrie_lines) fn pair_text(header: Header, input: &[u8]) -> &[u8] {
+    let mut rest = without_mark(input);
+    match header {
+        Header::Absent => rest,
+        Header::Present => {
+            take_line(&mut rest);
+            rest
+        }
+    }
+}
+
+/// Reads lines with a tab, whose keys are raw or may have escapes. So many lines were before them.
+fn read_tsv(
+    alloc: Global,
+    raw: bool,
+    end: LineEnd,
+    before: usize,
+    text: &[u8],
+) -> Result<Table, ReadError> {
+    let mut table = Table::new(alloc);
+    let mut key = Vec::new(alloc);
+    let mut rest = text;
+    let mut number = before;
+    while !rest.is_empty() {
+        let line = take_ended(end, &mut rest);
+        number += 1;
+        if let Some(bad) = read_pair(alloc, raw, line, &mut key, &mut table)? {
+            return Err(at_line(number, bad));
+        }
+    }
+    Ok(table)
+}
+
+/// Reads lines that are keys. So many lines were before them.
+fn read_keys(alloc: Global, end: LineEnd, before: usize, text: &[u8]) -> Result<Table, ReadError> {
+    let mut table = Table::new(alloc);
+    let mut rest = text;
+    let mut number = before;
+    while !rest.is_empty() {
+        let line = take_ended(end, &mut rest);
+        number += 1;
+        table.push(line, number)?;
+    }
+    Ok(table)
+}
+
+/// Reads the pairs of an input, one a line or record, in their order. With `lower_case` the ASCII
+/// letters of their keys become lower case.
+///
+/// ```
+/// let (tsv, end) = (Format::Tsv, LineEnd::CrLf);
+/// let text = b"ad\t22\na\\td\t33\r\n";
+/// let table = read_pairs(rt.alloc(), tsv, end, Header::Absent, false, text);
+/// assert_eq!(rt; table.map(|t| t.len()), Ok(2));
+/// let table = read_pairs(rt.alloc(), tsv, end, Header::Present, false, text);
+/// assert_eq!(rt; table.map(|t| t.len()), Ok(1));
+/// let table = read_pairs(rt.alloc(), tsv, end, Header::Present, false, b"key\tvalue\nad 33\n");
+/// assert_eq!(rt; table.map(|t| t.len()), Err(ReadError::Line(2, BadLine::NoTab)));
+/// ```
+///
+/// It allocates nothing for a line alone. Input without a line or record has no header. An error names the first line or record that is no pair,
+/// and why.
+pub fn read_pairs(
+    alloc: Global,
+    format: Format,
+    end: LineEnd,
+    header: Header,
+    lower_case: bool,
+    input: &[u8],
+) -> Result<Table, ReadError> {
+    let before = header.rows();
+    let text = pair_text(header, input);
+    let mut table = match format {
+        Format::Lines => read_keys(alloc, end, before, text)?,
+        Format::Tsv => read_tsv(alloc, false, end, before, text)?,
+        Format::TsvRaw => read_tsv(alloc, true, end, before, text)?,
+        Format::Csv => read_records(alloc, end, header, input)?,
+    };
+    if lower_case {
+        table.lower_case();
+    }
+    Ok(table)
+}

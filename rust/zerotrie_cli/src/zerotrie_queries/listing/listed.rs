@@ -1,0 +1,445 @@
+// Made from crates/zerotrie_queries/src/listing/listed.rt by rust/make: edit that.
+//! Which pairs are listed: the choice, made once, and returned as a listing.
+
+use crate::zerotrie_queries::filtered::next_accepted;
+use crate::zerotrie_queries::first_pairs::FirstPairs;
+use crate::zerotrie_queries::folding::FoldedWords;
+use crate::zerotrie_queries::found::Found;
+use crate::zerotrie_queries::kept::{Conditions, conditions};
+use crate::zerotrie_queries::question::{Choice, ListQuery, Order, Sought};
+use crate::rstd::alloc::{AllocError, Global};
+use crate::rstd::ops::Bound;
+use crate::zerotrie_core::{Trie, TrieKind, TrieRef, ZeroTrieStream};
+use crate::zerotrie_search::{
+    AnyAutomaton, AnyOf, Automaton, BeginsWith, ByKind, Fuzzy, Glob, GlobChars, KeyRange,
+    Levenshtein, LevenshteinChars, Osa, OsaChars, Search, StartsWith, Subsequence, TrieListing,
+    ZeroTrieNearest, ZeroTrieSearch, ZeroTrieSortedSearch,
+};
+
+/// How a trie is read.
+#[derive(Clone, Copy, Debug)]
+pub(in crate::zerotrie_queries) enum Reading<'q> {
+    /// In its own order.
+    Stored,
+    /// In the order of bytes, between two bounds.
+    Between(Bound<&'q [u8]>, Bound<&'q [u8]>),
+}
+
+/// The pairs that a word finds: in the order of the trie, in that of bytes, or otherwise.
+type Searches<'t, 'q, W, C> = AnyOf<
+    ZeroTrieSearch<'t, ByKind<Found<W>>>,
+    ZeroTrieSortedSearch<'t, 'q, ByKind<Found<W>>>,
+    C,
+>;
+
+/// The pairs that a word finds in either order. There is no third.
+type WordPairs<'t, 'q, W> = Searches<'t, 'q, W, ZeroTrieStream<'t>>;
+
+/// The pairs that edits of a word find in either order, or the nearest first.
+type EditsPairs<'t, 'q, W> = Searches<'t, 'q, W, ZeroTrieNearest<'t, ByKind<W>>>;
+
+/// The pairs with a prefix, those of which the conditions of a choice hold, or those that a word finds.
+pub(in crate::zerotrie_queries) enum ListedPairs<'t, 'q> {
+    Plain(ZeroTrieStream<'t>),
+    Kept(ZeroTrieSearch<'t, Conditions<'q>>),
+    Prefix(WordPairs<'t, 'q, StartsWith<'q>>),
+    Range(WordPairs<'t, 'q, KeyRange<'q>>),
+    Glob(WordPairs<'t, 'q, Glob<'q>>),
+    GlobChars(WordPairs<'t, 'q, GlobChars<'q>>),
+    Subsequence(WordPairs<'t, 'q, Subsequence<'q>>),
+    Fuzzy(EditsPairs<'t, 'q, Levenshtein>),
+    FuzzyChars(EditsPairs<'t, 'q, LevenshteinChars>),
+    Swaps(EditsPairs<'t, 'q, Osa>),
+    SwapsChars(EditsPairs<'t, 'q, OsaChars>),
+}
+
+/// Evaluates an expression with the listing that there is, under a name.
+macro_rules! by_pairs {
+    ($any:expr, $pairs:ident => $result:expr) => {
+        match $any {
+            ListedPairs::Plain($pairs) => $result,
+            ListedPairs::Kept($pairs) => $result,
+            ListedPairs::Prefix($pairs) => $result,
+            ListedPairs::Range($pairs) => $result,
+            ListedPairs::Glob($pairs) => $result,
+            ListedPairs::GlobChars($pairs) => $result,
+            ListedPairs::Subsequence($pairs) => $result,
+            ListedPairs::Fuzzy($pairs) => $result,
+            ListedPairs::FuzzyChars($pairs) => $result,
+            ListedPairs::Swaps($pairs) => $result,
+            ListedPairs::SwapsChars($pairs) => $result,
+        }
+    };
+}
+
+impl<'t, 'q> TrieListing for ListedPairs<'t, 'q> {
+    fn advance(&mut self) -> Result<bool, AllocError> {
+        by_pairs!(self, pairs => pairs.advance())
+    }
+
+    fn key(&self) -> &[u8] {
+        by_pairs!(self, pairs => pairs.key())
+    }
+
+    fn value(&self) -> usize {
+        by_pairs!(self, pairs => pairs.value())
+    }
+}
+
+/// The pairs that are chosen: of those that a word finds, those of which the other conditions hold, or all
+/// without any. It reads the others, too.
+pub(in crate::zerotrie_queries) struct ChosenPairs<'t, 'q> {
+    pub(in crate::zerotrie_queries) pairs: ListedPairs<'t, 'q>,
+    pub(in crate::zerotrie_queries) condition: Option<Conditions<'q>>,
+}
+
+impl<'t, 'q> TrieListing for ChosenPairs<'t, 'q> {
+    fn advance(&mut self) -> Result<bool, AllocError> {
+        next_accepted(&mut self.pairs, &self.condition)
+    }
+
+    fn key(&self) -> &[u8] {
+        self.pairs.key()
+    }
+
+    fn value(&self) -> usize {
+        self.pairs.value()
+    }
+}
+
+/// Returns whether keys may begin with one that the word of a choice finds.
+fn begins_of(sought: Option<Sought<'_>>) -> bool {
+    match sought {
+        Some(sought) => sought.begins,
+        None => false,
+    }
+}
+
+/// Lists the pairs that the word of a choice finds, as the trie is read. `word` finds what it does.
+fn by_word<'t, 'q, W: Automaton, C: TrieListing>(
+    alloc: Global,
+    trie: &'t TrieRef<'_>,
+    choice: Choice<'q>,
+    reading: Reading<'q>,
+    word: W,
+) -> Result<Searches<'t, 'q, W, C>, AllocError> {
+    let begins = begins_of(choice.sought);
+    let found = Found {
+        word: BeginsWith(word),
+        begins,
+    };
+    let automaton = ByKind(trie.kind, found);
+    match reading {
+        Reading::Stored => Ok(AnyOf::First(trie.search(alloc, automaton))),
+        Reading::Between(from, to) => {
+            let pairs = trie.search_sorted(alloc, from, to, automaton)?;
+            Ok(AnyOf::Second(pairs))
+        }
+    }
+}
+
+/// Returns the automaton of the word of a choice, as a kind compares keys. Without a word it accepts all
+/// keys, and with a malformed one none.
+fn automaton_of<'q>(kind: TrieKind, choice: Choice<'q>) -> AnyAutomaton<'q> {
+    let Some(sought) = choice.sought else {
+        return AnyAutomaton::Prefix(StartsWith(b""));
+    };
+    match sought.automaton(kind) {
+        Some(any) => any,
+        None => AnyAutomaton::Range(KeyRange {
+            from: Bound::Excluded(b""),
+            to: Bound::Excluded(b""),
+        }),
+    }
+}
+
+/// Lists the pairs that the word of a choice finds, as the trie is read.
+fn found<'t, 'q>(
+    alloc: Global,
+    trie: &'t TrieRef<'_>,
+    choice: Choice<'q>,
+    reading: Reading<'q>,
+) -> Result<ListedPairs<'t, 'q>, AllocError> {
+    match automaton_of(trie.kind, choice) {
+        AnyAutomaton::Prefix(word) => {
+            Ok(ListedPairs::Prefix(by_word(alloc, trie, choice, reading, word)?))
+        }
+        AnyAutomaton::Range(word) => {
+            Ok(ListedPairs::Range(by_word(alloc, trie, choice, reading, word)?))
+        }
+        AnyAutomaton::Glob(word) => {
+            Ok(ListedPairs::Glob(by_word(alloc, trie, choice, reading, word)?))
+        }
+        AnyAutomaton::GlobChars(word) => {
+            Ok(ListedPairs::GlobChars(by_word(alloc, trie, choice, reading, word)?))
+        }
+        AnyAutomaton::Subsequence(word) => {
+            Ok(ListedPairs::Subsequence(by_word(alloc, trie, choice, reading, word)?))
+        }
+        AnyAutomaton::Fuzzy(word) => {
+            Ok(ListedPairs::Fuzzy(by_word(alloc, trie, choice, reading, word)?))
+        }
+        AnyAutomaton::FuzzyChars(word) => {
+            Ok(ListedPairs::FuzzyChars(by_word(alloc, trie, choice, reading, word)?))
+        }
+        AnyAutomaton::Swaps(word) => {
+            Ok(ListedPairs::Swaps(by_word(alloc, trie, choice, reading, word)?))
+        }
+        AnyAutomaton::SwapsChars(word) => {
+            Ok(ListedPairs::SwapsChars(by_word(alloc, trie, choice, reading, word)?))
+        }
+    }
+}
+
+/// Returns whether a range has no bounds.
+fn is_unbounded(range: KeyRange<'_>) -> bool {
+    match (range.from, range.to) {
+        (Bound::Unbounded, Bound::Unbounded) => true,
+        (Bound::Unbounded, Bound::Included(_) | Bound::Excluded(_))
+        | (Bound::Included(_) | Bound::Excluded(_), _) => false,
+    }
+}
+
+/// Returns whether a choice has no condition but a prefix and that of its word.
+fn is_by_prefix(choice: Choice<'_>) -> bool {
+    choice.without.is_none() && is_unbounded(choice.range)
+}
+
+/// Returns whether a choice has no condition but that of its word.
+fn has_no_conditions(choice: Choice<'_>) -> bool {
+    choice.prefix.is_empty() && is_by_prefix(choice)
+}
+
+/// Returns the automaton of the keys of which the conditions of a choice hold but that of its word, or
+/// `None` if they hold of all.
+fn condition_of<'q>(kind: TrieKind, choice: Choice<'q>) -> Option<Conditions<'q>> {
+    if has_no_conditions(choice) {
+        return None;
+    }
+    Some(conditions(kind, choice))
+}
+
+/// Lists the pairs whose keys are chosen, as the trie is read.
+fn chosen<'t, 'q>(
+    alloc: Global,
+    trie: &'t TrieRef<'_>,
+    choice: Choice<'q>,
+    reading: Reading<'q>,
+) -> Result<ChosenPairs<'t, 'q>, AllocError> {
+    let pairs = found(alloc, trie, choice, reading)?;
+    let condition = condition_of(trie.kind, choice);
+    Ok(ChosenPairs { pairs, condition })
+}
+
+/// Lists the pairs whose keys are chosen, in the order of the trie. The choice has no word.
+fn unsought<'t, 'q>(
+    alloc: Global,
+    trie: &'t TrieRef<'_>,
+    choice: Choice<'q>,
+) -> Result<ListedPairs<'t, 'q>, AllocError> {
+    if is_by_prefix(choice) {
+        let pairs = trie.stream_prefix(alloc, choice.prefix)?;
+        return Ok(ListedPairs::Plain(pairs));
+    }
+    let kept = conditions(trie.kind, choice);
+    Ok(ListedPairs::Kept(trie.search(alloc, kept)))
+}
+
+/// Lists the pairs whose keys are chosen, in the order of the trie.
+fn stored<'t, 'q>(
+    alloc: Global,
+    trie: &'t TrieRef<'_>,
+    choice: Choice<'q>,
+) -> Result<ChosenPairs<'t, 'q>, AllocError> {
+    if choice.sought.is_some() {
+        return chosen(alloc, trie, choice, Reading::Stored);
+    }
+    let pairs = unsought(alloc, trie, choice)?;
+    Ok(ChosenPairs {
+        pairs,
+        condition: None,
+    })
+}
+
+/// Returns two bounds between which all keys are that are chosen. `above` is above all keys that begin
+/// with the prefix.
+fn bounds<'q>(
+    kind: TrieKind,
+    choice: Choice<'q>,
+    above: Bound<&'q [u8]>,
+) -> (Bound<&'q [u8]>, Bound<&'q [u8]>) {
+    match (kind, is_unbounded(choice.range)) {
+        (TrieKind::Ignore, _) => (Bound::Unbounded, Bound::Unbounded),
+        (TrieKind::Simple | TrieKind::Hash | TrieKind::Ext, true) => {
+            (Bound::Included(choice.prefix), above)
+        }
+        (TrieKind::Simple | TrieKind::Hash | TrieKind::Ext, false) => {
+            (choice.range.from, choice.range.to)
+        }
+    }
+}
+
+/// Lists the pairs whose keys are chosen, in the order of their bytes.
+fn sorted<'t, 'q>(
+    alloc: Global,
+    trie: &'t TrieRef<'_>,
+    choice: Choice<'q>,
+    above: Bound<&'q [u8]>,
+) -> Result<ChosenPairs<'t, 'q>, AllocError> {
+    let (from, to) = bounds(trie.kind, choice, above);
+    chosen(alloc, trie, choice, Reading::Between(from, to))
+}
+
+/// Returns whether a listing has a pair.
+fn has_pair<P: TrieListing>(mut pairs: P) -> Result<bool, AllocError> {
+    pairs.advance()
+}
+
+/// Returns whether a trie has a pair whose key is chosen.
+fn has_chosen<'q>(
+    alloc: Global,
+    trie: &TrieRef<'_>,
+    choice: Choice<'q>,
+    above: Bound<&'q [u8]>,
+) -> Result<bool, AllocError> {
+    let pairs = sorted(alloc, trie, choice, above)?;
+    has_pair(pairs)
+}
+
+/// Returns the fewest edits of the word of a choice with which a pair is chosen, or as many as it allows if
+/// none is.
+fn fewest_edits<'q>(
+    alloc: Global,
+    trie: &TrieRef<'_>,
+    choice: Choice<'q>,
+    above: Bound<&'q [u8]>,
+) -> Result<u32, AllocError> {
+    for edits in 0..choice.edits() {
+        if has_chosen(alloc, trie, choice.with_edits(edits), above)? {
+            return Ok(edits);
+        }
+    }
+    Ok(choice.edits())
+}
+
+/// Lists the pairs that the fewest edits of the word find, in the order of their bytes.
+fn closest<'t, 'q>(
+    alloc: Global,
+    trie: &'t TrieRef<'_>,
+    choice: Choice<'q>,
+    above: Bound<&'q [u8]>,
+) -> Result<ChosenPairs<'t, 'q>, AllocError> {
+    let edits = fewest_edits(alloc, trie, choice, above)?;
+    sorted(alloc, trie, choice.with_edits(edits), above)
+}
+
+/// Lists the pairs that edits of a word find, the nearest first.
+fn near<'t, 'q, W: Fuzzy>(
+    alloc: Global,
+    trie: &'t TrieRef<'_>,
+    word: W,
+) -> Result<EditsPairs<'t, 'q, W>, AllocError> {
+    Ok(AnyOf::Third(trie.nearest(alloc, ByKind(trie.kind, word))?))
+}
+
+/// Lists the pairs whose keys are chosen, all of them by no edit, in the order of their bytes.
+fn exact<'t, 'q>(
+    alloc: Global,
+    trie: &'t TrieRef<'_>,
+    choice: Choice<'q>,
+    above: Bound<&'q [u8]>,
+) -> Result<ChosenPairs<'t, 'q>, AllocError> {
+    sorted(alloc, trie, choice, above)
+}
+
+/// Lists the pairs whose keys are chosen, the nearest first, by the automaton of a word.
+fn by_edits<'t, 'q>(
+    alloc: Global,
+    trie: &'t TrieRef<'_>,
+    choice: Choice<'q>,
+    above: Bound<&'q [u8]>,
+    any: AnyAutomaton<'q>,
+) -> Result<ChosenPairs<'t, 'q>, AllocError> {
+    let condition = condition_of(trie.kind, choice);
+    match any {
+        AnyAutomaton::Fuzzy(word) => {
+            let pairs = ListedPairs::Fuzzy(near(alloc, trie, word)?);
+            Ok(ChosenPairs { pairs, condition })
+        }
+        AnyAutomaton::FuzzyChars(word) => {
+            let pairs = ListedPairs::FuzzyChars(near(alloc, trie, word)?);
+            Ok(ChosenPairs { pairs, condition })
+        }
+        AnyAutomaton::Swaps(word) => {
+            let pairs = ListedPairs::Swaps(near(alloc, trie, word)?);
+            Ok(ChosenPairs { pairs, condition })
+        }
+        AnyAutomaton::SwapsChars(word) => {
+            let pairs = ListedPairs::SwapsChars(near(alloc, trie, word)?);
+            Ok(ChosenPairs { pairs, condition })
+        }
+        AnyAutomaton::Prefix(_)
+        | AnyAutomaton::Range(_)
+        | AnyAutomaton::Glob(_)
+        | AnyAutomaton::GlobChars(_)
+        | AnyAutomaton::Subsequence(_) => exact(alloc, trie, choice, above),
+    }
+}
+
+/// Lists the pairs whose keys are chosen, the nearest first.
+fn nearest<'t, 'q>(
+    alloc: Global,
+    trie: &'t TrieRef<'_>,
+    choice: Choice<'q>,
+    above: Bound<&'q [u8]>,
+) -> Result<ChosenPairs<'t, 'q>, AllocError> {
+    let Some(sought) = choice.sought else {
+        return exact(alloc, trie, choice, above);
+    };
+    if sought.begins {
+        return exact(alloc, trie, choice, above);
+    }
+    match sought.automaton(trie.kind) {
+        Some(any) => by_edits(alloc, trie, choice, above, any),
+        None => exact(alloc, trie, choice, above),
+    }
+}
+
+/// Lists the pairs whose keys are chosen, in an order. The words of the choice are as the kind compares
+/// them.
+fn ordered<'t, 'q>(
+    alloc: Global,
+    trie: &'t TrieRef<'_>,
+    choice: Choice<'q>,
+    above: Bound<&'q [u8]>,
+    order: Order,
+) -> Result<ChosenPairs<'t, 'q>, AllocError> {
+    match order {
+        Order::Stored => stored(alloc, trie, choice),
+        Order::ByBytes => sorted(alloc, trie, choice, above),
+        Order::Closest => closest(alloc, trie, choice, above),
+        Order::Nearest => nearest(alloc, trie, choice, above),
+    }
+}
+
+/// Lists the pairs of a selection: the first whose keys are chosen, in its order. `words` are those of its
+/// choice.
+///
+/// It validates no bytes. In the order of the trie it reads no part of it in which no such key can be. In
+/// the order of bytes it reads the part between the bounds of the range or, if there are none and the kind
+/// does not ignore case, the part with the prefix, and skips the keys that begin as none of these keys
+/// does.
+pub(in crate::zerotrie_queries) fn listed<'t, 'q>(
+    alloc: Global,
+    trie: &'t TrieRef<'_>,
+    words: &'q FoldedWords,
+    selection: ListQuery<'q>,
+) -> Result<FirstPairs<ChosenPairs<'t, 'q>>, AllocError> {
+    let folded = words.in_place_of(selection.choice);
+    let pairs = ordered(alloc, trie, folded, words.above(), selection.order)?;
+    Ok(FirstPairs {
+        source: pairs,
+        limit: selection.limit,
+        ended: false,
+    })
+}

@@ -1,0 +1,113 @@
+// Made from crates/zerotrie_queries/src/reports/object.rt by rust/make: edit that.
+//! A report as one JSON object.
+
+use crate::rstd::prelude::*;
+use crate::zerotrie_queries::json_text::add_comma;
+use crate::zerotrie_queries::print::add_text;
+use crate::zerotrie_queries::reports::count::Report;
+use crate::rstd::alloc::AllocError;
+use crate::zerotrie_lines::write_number;
+
+fn add_number_member(text: &mut Vec<u8>, name: &str, number: usize) -> Result<(), AllocError> {
+    add_text(text, ",\"")?;
+    add_text(text, name)?;
+    add_text(text, "\":")?;
+    write_number(text, number)
+}
+
+fn add_greatest_member(text: &mut Vec<u8>, greatest: Option<usize>) -> Result<(), AllocError> {
+    match greatest {
+        Some(greatest) => add_number_member(text, "greatest_value", greatest),
+        None => add_text(text, ",\"greatest_value\":null"),
+    }
+}
+
+/// Returns the least number of edges in a group.
+fn least_edges(group: usize) -> usize {
+    match group {
+        0 => 2,
+        1 => 3,
+        2 => 5,
+        3 => 9,
+        4 => 17,
+        5 => 33,
+        6 => 65,
+        _ => 129,
+    }
+}
+
+/// Returns the greatest number of edges in a group.
+fn most_edges(group: usize) -> usize {
+    match group {
+        0 => 2,
+        1 => 4,
+        2 => 8,
+        3 => 16,
+        4 => 32,
+        5 => 64,
+        6 => 128,
+        _ => 256,
+    }
+}
+
+fn add_edge_members(text: &mut Vec<u8>, group: usize) -> Result<(), AllocError> {
+    add_text(text, "{\"least_edges\":")?;
+    write_number(text, least_edges(group))?;
+    add_number_member(text, "most_edges", most_edges(group))
+}
+
+fn add_cell_object(text: &mut Vec<u8>, cell: usize, count: usize) -> Result<(), AllocError> {
+    add_edge_members(text, cell / 8)?;
+    add_number_member(text, "width", cell % 8 + 1)?;
+    add_number_member(text, "count", count)?;
+    add_text(text, "}")
+}
+
+/// Adds the cells that have a branch, with commas between.
+fn add_cell_objects(text: &mut Vec<u8>, cells: &[usize; 64]) -> Result<(), AllocError> {
+    let mut later = false;
+    for cell in 0..64 {
+        let count = cells[cell];
+        if count != 0 {
+            add_comma(text, later)?;
+            add_cell_object(text, cell, count)?;
+            later = true;
+        }
+    }
+    Ok(())
+}
+
+fn add_size_members(text: &mut Vec<u8>, report: &Report) -> Result<(), AllocError> {
+    add_text(text, "{\"kind\":\"")?;
+    add_text(text, report.kind.name())?;
+    add_text(text, "\"")?;
+    add_number_member(text, "bytes", report.bytes)?;
+    add_number_member(text, "pairs", report.pairs)
+}
+
+fn add_key_members(text: &mut Vec<u8>, report: &Report) -> Result<(), AllocError> {
+    add_greatest_member(text, report.greatest)?;
+    add_number_member(text, "depth", report.depth)
+}
+
+fn add_node_members(text: &mut Vec<u8>, report: &Report) -> Result<(), AllocError> {
+    add_number_member(text, "nodes", report.nodes)?;
+    add_number_member(text, "literals", report.literals)?;
+    add_number_member(text, "spans", report.spans)?;
+    add_number_member(text, "branches", report.branches.count)
+}
+
+/// Adds the member of the branches by their size, and the end of the object.
+fn add_branch_member(text: &mut Vec<u8>, report: &Report) -> Result<(), AllocError> {
+    add_text(text, ",\"branch_sizes\":[")?;
+    add_cell_objects(text, &report.branches.cells)?;
+    add_text(text, "]}\n")
+}
+
+/// Adds a report as one JSON object, and a line feed.
+pub(in crate::zerotrie_queries) fn add_report_object(text: &mut Vec<u8>, report: &Report) -> Result<(), AllocError> {
+    add_size_members(text, report)?;
+    add_key_members(text, report)?;
+    add_node_members(text, report)?;
+    add_branch_member(text, report)
+}

@@ -1,0 +1,76 @@
+// Made from crates/zerotrie_run/src/found.rt by rust/make: edit that.
+//! Listings, and whether they have a pair.
+
+use crate::rstd::prelude::*;
+use crate::rstd::alloc::Global;
+use crate::rstd::io;
+use crate::rstd::io::{ErrorKind, Write};
+use crate::zerotrie_core::TrieRef;
+use crate::zerotrie_files::Noted;
+use crate::zerotrie_queries::{
+    Choice, Form, ListError, ListQuery, Order, Style, write_distances, write_list,
+};
+
+/// Returns whether a listing has a pair: it reads up to the first one.
+fn finds_pair(alloc: Global, trie: &TrieRef<'_>, selection: ListQuery<'_>) -> io::Result<bool> {
+    if selection.limit == Some(0) {
+        return Ok(false);
+    }
+    let mut lines = Noted::new(Vec::new(alloc));
+    let first = ListQuery {
+        limit: Some(1),
+        ..selection
+    };
+    match write_list(alloc, trie, Form::Lines(Style::Keys), first, &mut lines) {
+        Ok(()) => Ok(!lines.get_ref().as_slice().is_empty()),
+        // a line can have any key, and only memory can fail
+        Err(ListError::NotText(_) | ListError::Failed(_)) => {
+            Err(io::Error::from(ErrorKind::OutOfMemory))
+        }
+    }
+}
+
+/// Returns the limit of a listing that has a pair or none: one that has none is not searched again.
+fn limit_shown(found: bool, limit: Option<usize>) -> Option<usize> {
+    if found { limit } else { Some(0) }
+}
+
+/// Writes a listing, as `write_list` does, and returns whether it has a pair.
+pub fn write_found<W: Write>(
+    alloc: Global,
+    trie: &TrieRef<'_>,
+    form: Form,
+    selection: ListQuery<'_>,
+    output: &mut Noted<W>,
+) -> Result<bool, ListError> {
+    let has_one = match finds_pair(alloc, trie, selection) {
+        Ok(found) => found,
+        Err(error) => return Err(ListError::Failed(error)),
+    };
+    let shown = ListQuery {
+        limit: limit_shown(has_one, selection.limit),
+        ..selection
+    };
+    match write_list(alloc, trie, form, shown, output) {
+        Ok(()) => Ok(has_one),
+        Err(error) => Err(error),
+    }
+}
+
+/// Writes pairs with their distances, as `write_distances` does, and returns whether there is one.
+pub fn write_measured<W: Write>(
+    alloc: Global,
+    trie: &TrieRef<'_>,
+    choice: Choice<'_>,
+    limit: Option<usize>,
+    output: &mut Noted<W>,
+) -> io::Result<bool> {
+    let nearest = ListQuery {
+        choice,
+        order: Order::Nearest,
+        limit,
+    };
+    let has_one = finds_pair(alloc, trie, nearest)?;
+    write_distances(alloc, trie, choice, limit, output)?;
+    Ok(has_one)
+}

@@ -1,0 +1,198 @@
+// Made from crates/zerotrie_run/src/messages/ask.rt by rust/make: edit that.
+//! Messages on a file that is asked.
+
+use crate::rstd::prelude::*;
+use crate::zerotrie_run::ask::AskError;
+use crate::zerotrie_run::command::{Question, TrieFile};
+use crate::zerotrie_run::front::Hint;
+use crate::zerotrie_run::messages::build::other_words;
+use crate::zerotrie_run::messages::key::add_key;
+use crate::zerotrie_run::messages::line::{
+    STANDARD_INPUT, STANDARD_OUTPUT, add, add_kind, add_number, add_words, begin_line, end_line,
+    fault_on, line_on, source_name, tell, unwritten,
+};
+use crate::zerotrie_run::stdin_lines::AnswerError;
+use crate::rstd::alloc::{AllocError, Global};
+use crate::rstd::io::Write;
+use crate::zerotrie_any::TagError;
+use crate::zerotrie_core::{Fault, TrieKind};
+use crate::zerotrie_files::Noted;
+use crate::zerotrie_queries::{OpenError, of_tagged};
+use crate::zerotrie_sealed::{SealError, is_index_number};
+
+/// Returns what the places in a file are counted from.
+fn counted_from(file: TrieFile<'_>) -> &'static str {
+    match file.bare {
+        Some(_) => " of the file",
+        None => " of the trie in it",
+    }
+}
+
+/// Returns a line on the first fault in the bytes of a file.
+fn malformed(
+    alloc: Global,
+    file: TrieFile<'_>,
+    kind: TrieKind,
+    fault: Fault,
+) -> Result<Vec<u8>, AllocError> {
+    let mut text = begin_line(alloc, source_name(file.place))?;
+    add_kind(&mut text, "no trie of kind ", kind)?;
+    add_words(&mut text, fault.cause.text())?;
+    add(&mut text, ", at ")?;
+    add_number(&mut text, "byte", fault.place, counted_from(file))?;
+    end_line(&mut text)?;
+    Ok(text)
+}
+
+/// Returns what is said of a file whose kind is not known: which other file it is, that it looks like text,
+/// or has no kind.
+fn tag_words(why: &TagError, hint: Hint) -> &'static str {
+    match (hint, why) {
+        (Hint::Text, _) => "it looks like text: build it first",
+        (Hint::Other(other), _) => other_words(other),
+        (Hint::Nothing, TagError::Empty) => "the file is empty",
+        (Hint::Nothing, TagError::InvalidTag) => {
+            "not a file of zerotrie build: its first byte is the number of no kind; if it is bare bytes, name their kind by --bare"
+        }
+    }
+}
+
+/// Returns whether a file is sealed as an index, by why it is no sealed trie.
+pub fn is_sealed_index(why: SealError) -> bool {
+    match why {
+        SealError::UnknownKind(number) => is_index_number(number),
+        _ => false,
+    }
+}
+
+/// Returns a line that says that a sealed file is damaged, or holds an index.
+fn damaged(alloc: Global, place: &str, why: SealError) -> Result<Vec<u8>, AllocError> {
+    if is_sealed_index(why) {
+        return line_on(
+            alloc,
+            place,
+            "it holds an index, which answers get and verify alone",
+        );
+    }
+    let words = format!("{why}");
+    line_on(alloc, place, words.as_str())
+}
+
+/// Returns a line that says why a file has no trie.
+pub fn no_trie(
+    alloc: Global,
+    file: TrieFile<'_>,
+    why: &OpenError,
+    hint: Hint,
+) -> Result<Vec<u8>, AllocError> {
+    let path = source_name(file.place);
+    match why {
+        OpenError::BadTag(why) => line_on(alloc, path, tag_words(why, hint)),
+        OpenError::Damaged(why) => damaged(alloc, path, *why),
+        OpenError::NotWellFormed(kind, fault) => malformed(alloc, file, *kind, *fault),
+        OpenError::OutOfMemory => line_on(alloc, path, "out of memory"),
+    }
+}
+
+/// Returns the kind whose number a file begins with, if it is read as bare bytes of a kind that was
+/// named.
+fn number_too(file: TrieFile<'_>, held: &[u8]) -> Option<TrieKind> {
+    file.bare?;
+    let trie = of_tagged(held).ok()?;
+    Some(trie.kind)
+}
+
+/// Returns a warning if a file that is read as bare bytes begins with the number of a kind. Most often
+/// its kind was named again as for its build, and the number is read as the first byte of every key.
+fn note_on_number(
+    alloc: Global,
+    file: TrieFile<'_>,
+    held: &[u8],
+) -> Result<Option<Vec<u8>>, AllocError> {
+    let Some(kind) = number_too(file, held) else {
+        return Ok(None);
+    };
+    let mut text = begin_line(alloc, source_name(file.place))?;
+    add_kind(
+        &mut text,
+        "read as bare bytes, though its first byte is the number of kind ",
+        kind,
+    )?;
+    add(
+        &mut text,
+        "leave out --bare unless every key begins with that byte",
+    )?;
+    end_line(&mut text)?;
+    Ok(Some(text))
+}
+
+/// Warns if a file that is read as bare bytes begins with the number of a kind. It fails only if it
+/// is out of memory.
+pub fn tell_number<M: Write>(
+    alloc: Global,
+    messages: &mut Noted<M>,
+    file: TrieFile<'_>,
+    held: &[u8],
+) -> Result<(), AllocError> {
+    match note_on_number(alloc, file, held)? {
+        Some(note) => {
+            tell(messages, note.as_slice());
+            Ok(())
+        }
+        None => Ok(()),
+    }
+}
+
+/// Returns a line that says that pairs can't be one JSON value, with the key that shows it.
+fn not_text(alloc: Global, place: &str, key: &[u8]) -> Result<Vec<u8>, AllocError> {
+    let mut text = begin_line(alloc, place)?;
+    add(&mut text, "a key is not UTF-8, so take --format jsonl: ")?;
+    add_key(&mut text, key)?;
+    end_line(&mut text)?;
+    Ok(text)
+}
+
+/// Returns a line that says why a question has no answer.
+pub fn ask_text(alloc: Global, file: TrieFile<'_>, error: &AskError) -> Result<Vec<u8>, AllocError> {
+    let path = source_name(file.place);
+    match error {
+        AskError::Unread(error) => fault_on(alloc, path, error),
+        AskError::NoTrie(why, hint) => no_trie(alloc, file, why, *hint),
+        AskError::NotText(key) => not_text(alloc, path, key.as_slice()),
+        AskError::Unanswered(AnswerError::Input(error)) => fault_on(alloc, STANDARD_INPUT, error),
+        AskError::Unanswered(AnswerError::NoLines(other)) => {
+            line_on(alloc, STANDARD_INPUT, other_words(*other))
+        }
+        AskError::Unanswered(AnswerError::Output(error)) => unwritten(
+            alloc,
+            STANDARD_OUTPUT,
+            error,
+        ),
+    }
+}
+
+/// Returns whether a file that is tested in full holds an index. Only one that is malformed is an
+/// error of the test.
+fn is_index(question: Question<'_>, why: SealError) -> bool {
+    match question {
+        Question::Verify => is_sealed_index(why),
+        _ => false,
+    }
+}
+
+/// Returns a line that says why this question has no answer.
+pub fn question_text(
+    alloc: Global,
+    file: TrieFile<'_>,
+    question: Question<'_>,
+    error: &AskError,
+) -> Result<Vec<u8>, AllocError> {
+    match error {
+        AskError::NoTrie(OpenError::Damaged(why), _) if is_index(question, *why) => line_on(
+            alloc,
+            source_name(file.place),
+            "the index in it is malformed",
+        ),
+        _ => ask_text(alloc, file, error),
+    }
+}

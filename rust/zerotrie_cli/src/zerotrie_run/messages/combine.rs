@@ -1,0 +1,114 @@
+// Made from crates/zerotrie_run/src/messages/combine.rt by rust/make: edit that.
+//! Messages on a trie file that is made of others.
+
+use crate::rstd::prelude::*;
+use crate::zerotrie_run::build::is_told;
+use crate::zerotrie_run::combine::CombineError;
+use crate::zerotrie_run::command::{Check, Combine, Place, Summary, TrieFile};
+use crate::zerotrie_run::messages::ask::no_trie;
+use crate::zerotrie_run::messages::build::{made_text, unbuilt};
+use crate::zerotrie_run::messages::key::add_key;
+use crate::zerotrie_run::messages::line::{
+    add, add_words, begin_line, end_line, fault_on, source_name, target_name, tell,
+};
+use crate::zerotrie_run::messages::pairs::PairUnit;
+use crate::rstd::alloc::{AllocError, Global};
+use crate::rstd::io::Write;
+use crate::zerotrie_core::TrieKind;
+use crate::zerotrie_files::Noted;
+use crate::zerotrie_making::{FileForm, Made};
+use crate::zerotrie_sets::RuleError;
+
+/// Returns the file with this number, from 0 on.
+fn numbered<'a>(combine: Combine<'a>, number: usize) -> Place<'a> {
+    combine.from[number]
+}
+
+/// Returns how one of the files is read.
+pub fn file_of(place: Place<'_>) -> TrieFile<'_> {
+    TrieFile {
+        place,
+        bare: None,
+        check: Check::Full,
+    }
+}
+
+/// Returns why a key that is taken gets no value.
+fn value_words(why: RuleError) -> &'static str {
+    match why {
+        RuleError::SeveralValues => "more than one file has this key: ",
+        RuleError::DifferentValues => "files have different values for this key: ",
+        RuleError::SumTooLarge => "the sum of the values of this key is 2^64 or more: ",
+    }
+}
+
+/// Returns a line that says that a key gets no value, and why.
+fn no_value(alloc: Global, place: &str, why: RuleError, key: &[u8]) -> Result<Vec<u8>, AllocError> {
+    let mut text = begin_line(alloc, place)?;
+    add_words(&mut text, value_words(why))?;
+    add_key(&mut text, key)?;
+    end_line(&mut text)?;
+    Ok(text)
+}
+
+/// Returns a line that says why no file is made of others.
+pub fn combine_text(
+    alloc: Global,
+    combine: Combine<'_>,
+    error: &CombineError,
+) -> Result<Vec<u8>, AllocError> {
+    // no file has the pairs that are taken, so a line on them is on the file that is made
+    let to = target_name(combine.to);
+    match error {
+        CombineError::Unopened(number, error) => {
+            fault_on(alloc, source_name(numbered(combine, *number)), error)
+        }
+        CombineError::NoTrie(number, why, hint) => {
+            no_trie(alloc, file_of(numbered(combine, *number)), why, *hint)
+        }
+        CombineError::NoValue(why, key) => no_value(alloc, to, *why, key.as_slice()),
+        CombineError::NotBuilt(error) => unbuilt(alloc, to, PairUnit::Pair, to, error),
+    }
+}
+
+/// Returns whether it is told of which kind a file is, if no kind is named for it and the tries of the
+/// files have several.
+fn tells_kind(combine: Combine<'_>) -> bool {
+    combine.summary != Summary::Never && combine.combination.form != FileForm::Index
+}
+
+/// Returns a line that says of which kind a file is, and why. It is empty if that is not told.
+fn kind_text(
+    alloc: Global,
+    is_told: bool,
+    place: &str,
+    kind: TrieKind,
+) -> Result<Vec<u8>, AllocError> {
+    if !is_told {
+        return Ok(Vec::new(alloc));
+    }
+    let mut text = begin_line(alloc, place)?;
+    add(
+        &mut text,
+        "the files have tries of several kinds, so it is of kind ",
+    )?;
+    add(&mut text, kind.name())?;
+    end_line(&mut text)?;
+    Ok(text)
+}
+
+/// Returns what is told of a file that was made of others, as its summary says. `several` is whether no
+/// kind is named for it and their tries have several.
+pub fn combined_text(
+    alloc: Global,
+    combine: Combine<'_>,
+    several: bool,
+    made: &Made,
+) -> Result<Vec<u8>, AllocError> {
+    let place = target_name(combine.to);
+    let mut text = kind_text(alloc, several && tells_kind(combine), place, made.kind)?;
+    let is_told = is_told(combine.summary, made.keys);
+    let line = made_text(alloc, is_told, place, made.keys, made.file.len())?;
+    text.extend_from_slice(line.as_slice())?;
+    Ok(text)
+}

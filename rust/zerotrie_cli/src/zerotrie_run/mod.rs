@@ -1,0 +1,27 @@
+// Made from crates/zerotrie_run/src/lib.rt by rust/make: edit that.
+//! The program over files: what each command prints, what it writes to files, and its status.
+#![cfg_attr(rustfmt, rustfmt::skip)]
+#![forbid(unsafe_code)]
+#![deny(unused_must_use)]
+#![allow(dead_code, missing_docs, unused_imports, unused_variables)]
+
+mod ask;
+mod at_places;
+mod build;
+mod combine;
+mod command;
+mod diff;
+mod error;
+mod found;
+mod front;
+pub mod laws;
+mod messages;
+mod open;
+mod place;
+mod program;
+mod status;
+mod stdin_lines;
+
+pub use command::{Build, Check, Combine, Command, Diff, Keys, Place, Question, Summary, TrieFile};
+pub use program::run;
+pub use status::Status;

@@ -1,0 +1,141 @@
+// Made from crates/zerotrie_run/src/program.rt by rust/make: edit that.
+//! The program over files and streams.
+
+use crate::rstd::prelude::*;
+use crate::zerotrie_run::ask::ask;
+use crate::zerotrie_run::build::build;
+use crate::zerotrie_run::combine::combine;
+use crate::zerotrie_run::command::{Command, reads_twice};
+use crate::zerotrie_run::diff::compare;
+use crate::zerotrie_run::error::CommandError;
+use crate::zerotrie_run::messages::line::{NO_MEMORY, tell, twice_line};
+use crate::zerotrie_run::status::Status;
+use crate::rstd::alloc::{AllocError, Global};
+use crate::rstd::io::{BufWriter, Read, Write};
+use crate::zerotrie_files::{Disk, Noted, Store};
+
+/// Returns how a run ends in which something failed: by the notes of the files and streams. If none of
+/// them failed, it is out of memory.
+fn failure<D: Disk, R: Read, W: Write>(
+    files: &Store<D>,
+    input: &Noted<R>,
+    output: &Noted<BufWriter<W>>,
+) -> Status {
+    if input.failed() || files.unread() {
+        Status::Unread
+    } else if output.failed() || files.unwritten() {
+        if output.closed() || files.closed() {
+            Status::Closed
+        } else {
+            Status::Unwritten
+        }
+    } else {
+        Status::OutOfMemory
+    }
+}
+
+/// Returns how a run ends that is refused so, or in which something failed.
+fn end_of<D: Disk, R: Read, W: Write>(
+    refusal: Option<Status>,
+    files: &Store<D>,
+    input: &Noted<R>,
+    output: &Noted<BufWriter<W>>,
+) -> Status {
+    match refusal {
+        Some(status) => status,
+        None => failure(files, input, output),
+    }
+}
+
+/// Says why a run ends so, and returns how it ends: without memory for the message it is out of
+/// memory. Says nothing if whoever reads the output has closed it.
+fn end<M: Write>(
+    messages: &mut Noted<M>,
+    status: Status,
+    message: Result<Vec<u8>, AllocError>,
+) -> Status {
+    match message {
+        Ok(text) => match status {
+            Status::Closed => status,
+            _ => {
+                tell(messages, text.as_slice());
+                status
+            }
+        },
+        Err(_) => {
+            tell(messages, NO_MEMORY);
+            Status::OutOfMemory
+        }
+    }
+}
+
+/// Carries out a command that does not read standard input twice, and returns whether all was found.
+fn carry_out<'a, D: Disk, R: Read, W: Write, M: Write>(
+    alloc: Global,
+    command: Command<'a>,
+    files: &mut Store<D>,
+    input: &mut Noted<R>,
+    output: &mut Noted<BufWriter<W>>,
+    messages: &mut Noted<M>,
+) -> Result<bool, CommandError<'a>> {
+    match command {
+        Command::Build(plan) => match build(alloc, plan, files, input, output, messages) {
+            Ok(()) => Ok(true),
+            Err(error) => Err(CommandError::Build(plan, error)),
+        },
+        Command::Ask(file, question) => {
+            match ask(alloc, file, question, files, input, output, messages) {
+                Ok(all) => Ok(all),
+                Err(error) => Err(CommandError::Ask(file, question, error)),
+            }
+        }
+        Command::Diff(diff) => match compare(alloc, diff, files, input, output, messages) {
+            Ok(same) => Ok(same),
+            Err(error) => Err(CommandError::Diff(diff, error)),
+        },
+        Command::Combine(given) => match combine(alloc, given, files, input, output, messages) {
+            Ok(()) => Ok(true),
+            Err(error) => Err(CommandError::Combine(given, error)),
+        },
+    }
+}
+
+/// Runs a command, and returns how it ended. A message says what is wrong, after the name of the file
+/// or stream that it is about.
+///
+/// `Runs` defines what is printed and what files hold then, by the command, the files and the
+/// input. After a fault a beginning of it was printed, or nothing.
+///
+/// It ends in `Unread` only if a read of a file or of standard input failed, and in `Unwritten` or
+/// `Closed` only if a replacement of a file or a write to the output did: in `Closed` if it failed
+/// because the reader has closed the pipe. If nothing failed, it ends by itself or in `OutOfMemory`.
+/// If one of these did, its number is 3 or 4: otherwise nothing failed that the files and streams
+/// note. A message that can't be written changes nothing.
+///
+/// After success, or if a key is absent, no pair is listed or pairs differ, the buffer is flushed if it
+/// was empty before. The only messages are then what a build or a combination made, as its summary says,
+/// how many files it removed that killed builds of its file left, unless it is to say nothing, and a
+/// warning for a file that is read as bare bytes and begins with the number of a kind. If the file and the
+/// keys, or two of the files, are standard input, the usage is bad. Standard input is not read unless the
+/// command needs it; keys are not read from it if nothing in the file answers.
+pub fn run<D: Disk, R: Read, W: Write, M: Write>(
+    alloc: Global,
+    command: Command<'_>,
+    files: &mut Store<D>,
+    input: &mut Noted<R>,
+    output: &mut Noted<BufWriter<W>>,
+    messages: &mut Noted<M>,
+) -> Status {
+    if reads_twice(command) {
+        tell(messages, twice_line(command));
+        return Status::BadUsage;
+    }
+    match carry_out(alloc, command, files, input, output, messages) {
+        Ok(true) => Status::Done,
+        Ok(false) => Status::Absent,
+        Err(error) => {
+            let status = end_of(error.refusal(), files, input, output);
+            end(messages, status, error.text(alloc))
+        }
+    }
+}

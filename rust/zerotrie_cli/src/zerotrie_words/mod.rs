@@ -1,0 +1,28 @@
+// Made from crates/zerotrie_words/src/lib.rt by rust/make: edit that.
+//! The words of the command line: which command they ask for, or what is said in place of one.
+#![cfg_attr(rustfmt, rustfmt::skip)]
+#![forbid(unsafe_code)]
+#![deny(unused_must_use)]
+#![allow(dead_code, missing_docs, unused_imports, unused_variables)]
+
+mod arguments;
+mod build;
+mod code;
+mod combine;
+mod completions;
+mod diff;
+mod help;
+mod input;
+mod keys;
+mod listing;
+mod manual;
+mod names;
+mod question;
+mod reply;
+mod request;
+mod search;
+mod table;
+mod task;
+
+pub use reply::Reply;
+pub use request::Request;

@@ -1,0 +1,59 @@
+// Made from crates/zerotrie_words/src/reply.rt by rust/make: edit that.
+//! What is said in place of a command.
+
+use crate::rstd::prelude::*;
+use crate::zerotrie_words::help::text_of;
+use crate::rstd::clap::error::ErrorKind;
+use crate::rstd::alloc::{AllocError, Global};
+use crate::zerotrie_run::Status;
+
+/// What is said in place of a command.
+pub enum Reply<'a> {
+    /// This help, or the version, which the words ask for.
+    Help(String),
+    /// This text of several lines: the words are no command.
+    Misuse(String),
+    /// This message: an option has a wrong word, or options exclude each other.
+    Refusal(&'static str),
+    /// These paths are one file, the input of a build and its output.
+    OneFile(&'a str, &'a str),
+    /// It is out of memory.
+    OutOfMemory,
+}
+
+impl<'a> From<AllocError> for Reply<'a> {
+    fn from(_error: AllocError) -> Self {
+        Reply::OutOfMemory
+    }
+}
+
+impl<'a> From<&'static str> for Reply<'a> {
+    fn from(why: &'static str) -> Self {
+        Reply::Refusal(why)
+    }
+}
+
+impl Reply<'_> {
+    /// Returns how the program ends once this is said.
+    pub fn status(&self) -> Status {
+        match self {
+            Reply::Help(_) => Status::Done,
+            Reply::Misuse(_) | Reply::Refusal(_) | Reply::OneFile(_, _) => Status::BadUsage,
+            Reply::OutOfMemory => Status::OutOfMemory,
+        }
+    }
+}
+
+/// Returns what is said where clap finds no command: the help or the version that the words ask
+/// for, or why they are none. `apart` is an option with a word that belongs to it.
+pub fn reply_to<'a>(alloc: Global, said: &crate::rstd::clap::Error, apart: Option<(&str, &str)>) -> Reply<'a> {
+    let Ok(text) = text_of(alloc, said, apart) else {
+        return Reply::OutOfMemory;
+    };
+    match said.kind() {
+        ErrorKind::OutOfMemory => Reply::OutOfMemory,
+        ErrorKind::DisplayHelp | ErrorKind::DisplayVersion => Reply::Help(text),
+        _ if text.is_empty() => Reply::Refusal("give a command, or --help"),
+        _ => Reply::Misuse(text),
+    }
+}
