@@ -32,7 +32,7 @@ library-plain:  ## makes it of plain Rust, by cargo
 	rust/zerotrie_c/make
 bench:          ## how long calls take, beside the crate, std's maps and others
 	benches/data
-	benches/run
+	benches/run calls
 speed:          ## docs/SPEED.md anew
 	benches/speed
 docs:           ## the reference, and what else is made of the sources; then quotes, links and words

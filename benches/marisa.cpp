@@ -1,4 +1,4 @@
-// What benches/marisa.rs calls of marisa-trie. A trie is kept with an agent, which a look-up needs, so it is for one thread at a time.
+// What src/bin/marisa.rs calls of marisa-trie. A trie is kept with an agent, which a look-up needs, so it is for one thread at a time.
 #include <cstddef>
 #include <cstdint>
 #include <marisa.h>
