@@ -8,4 +8,4 @@ use Rattle.zerotrie_words.specs.Words.{IsKind, IsSource, word_of}
 pub record IsDiff (matches : ArgMatches) (diff : Diff) : Type 0 where
   pub old : IsSource (word_of matches (codes "OLD")) diff.old
   pub new : IsSource (word_of matches (codes "NEW")) diff.new
-  pub bare : IsKind (word_of matches (codes "bare")) diff.bare
+  pub bare : IsKind (word_of matches (codes "bare-kind")) diff.bare

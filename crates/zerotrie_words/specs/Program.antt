@@ -43,8 +43,8 @@ file = place (codes "FILE")
 abbrev pub files : Rule
 files = words (codes "FILE")
 
-abbrev pub bare : Rule
-bare = one_of kinds (option (codes "bare") (letter (codes "b")))
+abbrev pub bare_kind : Rule
+bare_kind = one_of kinds (option (codes "bare-kind") None)
 
 abbrev pub no_check : Rule
 no_check = flag (codes "no-check") None
@@ -69,7 +69,7 @@ listing = option (codes "prefix") (letter (codes "p"))
     ∷ flag (codes "count") (letter (codes "c"))
     ∷ flag (codes "sorted") (letter (codes "S"))
     ∷ quiet
-    ∷ bare
+    ∷ bare_kind
     ∷ no_check
     ∷ []
 
@@ -78,7 +78,7 @@ abbrev pub output : Rule
 output = as_required (option (codes "output") (letter (codes "o")))
 
 abbrev pub no_clobber : Rule
-no_clobber = flag (codes "no-clobber") (letter (codes "n"))
+no_clobber = flag (codes "no-clobber") None
 
 -- what is made, and what is reported of it
 abbrev pub making : List Rule
@@ -86,7 +86,7 @@ making = as_default (codes "auto") (one_of (codes "auto" ∷ kinds) (option (cod
     ∷ flag (codes "tagged") (letter (codes "t"))
     ∷ flag (codes "bare") (letter (codes "b"))
     ∷ flag (codes "index") (letter (codes "i"))
-    ∷ flag (codes "progress") (letter (codes "p"))
+    ∷ flag (codes "summary") None
     ∷ quiet
     ∷ []
 
@@ -109,11 +109,11 @@ build = command (codes "build") (place (codes "IN")
     ∷ one_of (codes "crlf" ∷ codes "lf" ∷ []) (option (codes "eol") None)
     ∷ as_default (codes "refuse") (one_of choices (option (codes "duplicates") (letter (codes "d"))))
     ∷ flag (codes "lower-case") (letter (codes "l"))
-    ∷ flag (codes "sorted") (letter (codes "s"))
+    ∷ flag (codes "sorted") (letter (codes "S"))
     ∷ making)
 
 abbrev pub get : Shape
-get = command (codes "get") (file ∷ words (codes "KEY") ∷ flag (codes "keys") (letter (codes "k")) ∷ escaped ∷ bare ∷ no_check ∷ [])
+get = command (codes "get") (file ∷ words (codes "KEY") ∷ flag (codes "keys") (letter (codes "k")) ∷ escaped ∷ bare_kind ∷ no_check ∷ [])
 
 abbrev pub longest : Shape
 longest = command (codes "longest") (file
@@ -121,12 +121,12 @@ longest = command (codes "longest") (file
     ∷ flag (codes "all") (letter (codes "a"))
     ∷ option (codes "at") None
     ∷ escaped
-    ∷ bare
+    ∷ bare_kind
     ∷ no_check
     ∷ [])
 
-abbrev pub keys : Shape
-keys = command (codes "keys") (file ∷ words (codes "VALUE") ∷ bare ∷ no_check ∷ [])
+abbrev pub reverse : Shape
+reverse = command (codes "reverse") (file ∷ words (codes "VALUE") ∷ bare_kind ∷ no_check ∷ [])
 
 abbrev pub list : Shape
 list = command (codes "list") (file ∷ listing)
@@ -140,28 +140,28 @@ search = command (codes "search") (file
     ∷ flag (codes "bytes") None
     ∷ flag (codes "beginnings") None
     ∷ flag (codes "distance") None
-    ∷ option (codes "subsequence") (letter (codes "s"))
+    ∷ option (codes "subsequence") None
     ∷ option (codes "not") None
     ∷ listing)
 
 abbrev pub diff : Shape
-diff = command (codes "diff") (place (codes "OLD") ∷ place (codes "NEW") ∷ bare ∷ quiet ∷ [])
+diff = command (codes "diff") (place (codes "OLD") ∷ place (codes "NEW") ∷ bare_kind ∷ quiet ∷ [])
 
 abbrev pub verify : Shape
-verify = command (codes "verify") (files ∷ bare ∷ [])
+verify = command (codes "verify") (files ∷ bare_kind ∷ [])
 
 abbrev pub stats : Shape
-stats = command (codes "stats") (files ∷ flag (codes "json") (letter (codes "j")) ∷ bare ∷ no_check ∷ [])
+stats = command (codes "stats") (files ∷ one_of (codes "text" ∷ codes "json" ∷ []) (option (codes "format") (letter (codes "f"))) ∷ bare_kind ∷ no_check ∷ [])
 
 abbrev pub inspect : Shape
-inspect = command (codes "inspect") (one_of (codes "dump" ∷ codes "dot" ∷ []) (place (codes "VIEW")) ∷ file ∷ limit ∷ bare ∷ no_check ∷ [])
+inspect = command (codes "inspect") (one_of (codes "dump" ∷ codes "dot" ∷ []) (place (codes "VIEW")) ∷ file ∷ limit ∷ bare_kind ∷ no_check ∷ [])
 
 abbrev pub code : Shape
 code = command (codes "code") (file
-    ∷ as_required (one_of (codes "rust" ∷ codes "c" ∷ codes "rattle" ∷ codes "js" ∷ []) (option (codes "lang") (letter (codes "l"))))
+    ∷ as_required (one_of (codes "rust" ∷ codes "c" ∷ codes "rattle" ∷ codes "js" ∷ []) (option (codes "lang") None))
     ∷ option (codes "name") None
-    ∷ flag (codes "alone") (letter (codes "a"))
-    ∷ bare
+    ∷ flag (codes "alone") None
+    ∷ bare_kind
     ∷ no_check
     ∷ [])
 
@@ -184,7 +184,7 @@ man = command (codes "man") []
 
 -- the commands in the order of the help, in parts
 abbrev pub look_ups : List Shape
-look_ups = build ∷ get ∷ longest ∷ keys ∷ []
+look_ups = build ∷ get ∷ longest ∷ reverse ∷ []
 
 abbrev pub listings : List Shape
 listings = list ∷ search ∷ diff ∷ []

@@ -103,7 +103,7 @@ abbrev pub IsNoProgress : Option (List ℕ) → Option (List ℕ) → Type 0
 IsNoProgress progress quiet = IsFlag progress true × IsFlag quiet true
 
 abbrev pub IsNoBuild : ArgMatches → Type 0
-IsNoBuild matches = IsNoPlan matches ⊎ IsNoProgress (flag_of matches (codes "progress")) (flag_of matches (codes "quiet"))
+IsNoBuild matches = IsNoPlan matches ⊎ IsNoProgress (flag_of matches (codes "summary")) (flag_of matches (codes "quiet"))
 
 -- a format is named, or `--raw`, of pairs that are only to be counted; `--raw` of another format than `tsv`; or the word is no format
 abbrev pub IsNoFormOf : (count raw : Bool) → Option (List ℕ) → Type 0
@@ -198,7 +198,7 @@ IsNoCode matches = IsNoLanguage matches ⊎ ((language : Language) × (word_of m
 abbrev pub IsNoQuestion : ArgMatches → Topic → Option (List (List ℕ)) → Type 0
 IsNoQuestion matches topic.Get texts = AreNoKeys texts
 IsNoQuestion matches topic.Longest texts = IsNoLongest matches ⊎ AreNoKeys texts
-IsNoQuestion matches topic.Keys texts = AreNoKeys texts
+IsNoQuestion matches topic.Reverse texts = AreNoKeys texts
 IsNoQuestion matches topic.List texts = IsNoForm matches ⊎ HasNoNumber 64 (word_of matches (codes "limit"))
 IsNoQuestion matches topic.Search texts = (distances : Bool) × IsFlag (flag_of matches (codes "distance")) distances × IsNoSearchOf distances matches
 IsNoQuestion matches topic.Verify texts = ⊥

@@ -16,7 +16,9 @@ use Rattle.zerotrie_run.specs.declared.command.Place.{Place}
 use Rattle.zerotrie_run.specs.declared.command.Place.TheVariants.{File, Stream}
 use Rattle.zerotrie_words.specs.Diffs.{IsDiff}
 use Rattle.zerotrie_words.specs.Refusals.{IsNoBuild, IsNoContent, IsNoKind, IsNoProgress, IsNoQuestion, IsSaid, NamesNone}
-use Rattle.zerotrie_words.specs.Words.{AreTogether, IsAsk, IsFlag, IsForm, IsKind, IsPlan, IsSource, IsSummary, IsTarget, files_of, flag_of, given_words, word_of}
+use Rattle.zerotrie_queries.specs.declared.reports.ReportForm.{ReportForm}
+use Rattle.zerotrie_queries.specs.declared.reports.ReportForm.TheVariants as report
+use Rattle.zerotrie_words.specs.Words.{AreTogether, IsReportForm, IsAsk, IsFlag, IsForm, IsKind, IsPlan, IsSource, IsSummary, IsTarget, files_of, flag_of, given_words, word_of}
 use Rattle.zerotrie_words.specs.declared.reply.Reply.{Reply}
 use Rattle.zerotrie_words.specs.declared.reply.Reply.TheVariants as reply
 use Rattle.zerotrie_words.specs.declared.task.Task.{Task}
@@ -29,7 +31,7 @@ pub record IsBuild (matches : ArgMatches) (to_terminal : Bool) (build : Build) :
   pub to : IsTarget (word_of matches (codes "output")) build.to
   pub plan : IsPlan matches build.plan
   pub no_clobber : IsFlag (flag_of matches (codes "no-clobber")) build.no_clobber
-  pub summary : IsSummary to_terminal (flag_of matches (codes "progress")) (flag_of matches (codes "quiet")) build.summary
+  pub summary : IsSummary to_terminal (flag_of matches (codes "summary")) (flag_of matches (codes "quiet")) build.summary
 
 -- which value a key gets that several tries have, by its word
 abbrev pub rule_word : Rule → List ℕ
@@ -56,7 +58,7 @@ pub record IsCombination (matches : ArgMatches) (which : Selection) (places : Li
   pub form : IsForm (flag_of matches (codes "tagged")) (flag_of matches (codes "bare")) (flag_of matches (codes "index")) c.combination.form
   pub together : AreTogether c.combination.form c.combination.kind
   pub no_clobber : IsFlag (flag_of matches (codes "no-clobber")) c.no_clobber
-  pub summary : IsSummary to_terminal (flag_of matches (codes "progress")) (flag_of matches (codes "quiet")) c.summary
+  pub summary : IsSummary to_terminal (flag_of matches (codes "summary")) (flag_of matches (codes "quiet")) c.summary
 
 -- two places are not the file of one path
 abbrev pub AreApart : Place → Place → Type 0
@@ -92,7 +94,7 @@ abbrev pub file_count : ArgMatches → Task → ℕ
 file_count matches task.Build = 1
 file_count matches (task.Ask topic.Get) = 1
 file_count matches (task.Ask topic.Longest) = 1
-file_count matches (task.Ask topic.Keys) = 1
+file_count matches (task.Ask topic.Reverse) = 1
 file_count matches (task.Ask topic.List) = 1
 file_count matches (task.Ask topic.Search) = 1
 file_count matches (task.Ask topic.Verify) = length (files_of matches)
@@ -110,19 +112,19 @@ IsCommand matches texts places to_terminal n task.Diff c = (diff : Diff) × IsDi
 IsCommand matches texts places to_terminal n (task.Combine selection) c = (of : Combine) × IsCombination matches selection places to_terminal of × (c ≡ command.Combine of)
 
 -- the name in front of what is printed of one of several files, unless that is JSON
-abbrev pub heading : (json : Bool) → List (List ℕ) → ℕ → Option (List ℕ)
-heading true files n = None
-heading false files n = if nat_lt 1 (length files) then slice_get files n else None
+abbrev pub heading : ReportForm → List (List ℕ) → ℕ → Option (List ℕ)
+heading report.Json files n = None
+heading report.Lines files n = if nat_lt 1 (length files) then slice_get files n else None
 
 abbrev pub IsReportHeading : ArgMatches → ℕ → Option (Bor (List ℕ)) → Type 0
-IsReportHeading matches n name = (json : Bool) × IsFlag (flag_of matches (codes "json")) json × (option_map (λ w. w.now) name ≡ heading json (files_of matches) n)
+IsReportHeading matches n name = (form : ReportForm) × IsReportForm (word_of matches (codes "format")) form × (option_map (λ w. w.now) name ≡ heading form (files_of matches) n)
 
 -- a task has it in front: a report has, and no other
 abbrev pub IsHeading : Task → ArgMatches → ℕ → Option (Bor (List ℕ)) → Type 0
 IsHeading task.Build matches n name = name ≡ None
 IsHeading (task.Ask topic.Get) matches n name = name ≡ None
 IsHeading (task.Ask topic.Longest) matches n name = name ≡ None
-IsHeading (task.Ask topic.Keys) matches n name = name ≡ None
+IsHeading (task.Ask topic.Reverse) matches n name = name ≡ None
 IsHeading (task.Ask topic.List) matches n name = name ≡ None
 IsHeading (task.Ask topic.Search) matches n name = name ≡ None
 IsHeading (task.Ask topic.Verify) matches n name = name ≡ None
@@ -137,7 +139,7 @@ abbrev pub IsQuiet : Task → ArgMatches → Bool → Type 0
 IsQuiet task.Build matches quiet = quiet ≡ false
 IsQuiet (task.Ask topic.Get) matches quiet = quiet ≡ false
 IsQuiet (task.Ask topic.Longest) matches quiet = quiet ≡ false
-IsQuiet (task.Ask topic.Keys) matches quiet = quiet ≡ false
+IsQuiet (task.Ask topic.Reverse) matches quiet = quiet ≡ false
 IsQuiet (task.Ask topic.List) matches quiet = IsFlag (flag_of matches (codes "quiet")) quiet
 IsQuiet (task.Ask topic.Search) matches quiet = IsFlag (flag_of matches (codes "quiet")) quiet
 IsQuiet (task.Ask topic.Verify) matches quiet = quiet ≡ false
@@ -149,13 +151,13 @@ IsQuiet (task.Combine selection) matches quiet = quiet ≡ false
 
 -- the words are no combination
 abbrev pub IsNoCombination : ArgMatches → Type 0
-IsNoCombination matches = IsNoContent matches ⊎ (NamesNone rule_word (word_of matches (codes "values")) ⊎ IsNoProgress (flag_of matches (codes "progress")) (flag_of matches (codes "quiet")))
+IsNoCombination matches = IsNoContent matches ⊎ (NamesNone rule_word (word_of matches (codes "values")) ⊎ IsNoProgress (flag_of matches (codes "summary")) (flag_of matches (codes "quiet")))
 
 -- the words of a task are no command, or a build would replace its own input
 abbrev pub IsNoCommand : ArgMatches → Option (List (List ℕ)) → Task → Type 0
 IsNoCommand matches texts task.Build = IsNoBuild matches ⊎ ((from : Place) × (to : Place) × IsSource (word_of matches (codes "IN")) from × IsTarget (word_of matches (codes "output")) to × AreOneFile from to)
-IsNoCommand matches texts (task.Ask topic) = IsNoKind (word_of matches (codes "bare")) ⊎ IsNoQuestion matches topic texts
-IsNoCommand matches texts task.Diff = IsNoKind (word_of matches (codes "bare"))
+IsNoCommand matches texts (task.Ask topic) = IsNoKind (word_of matches (codes "bare-kind")) ⊎ IsNoQuestion matches topic texts
+IsNoCommand matches texts task.Diff = IsNoKind (word_of matches (codes "bare-kind"))
 IsNoCommand matches texts (task.Combine selection) = IsNoCombination matches
 
 -- a reply names the path that two places have in common

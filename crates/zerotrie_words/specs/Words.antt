@@ -298,13 +298,10 @@ spelling_by false = spelling.Plain
 abbrev pub IsSpelling : Option (List ℕ) → Spelling → Type 0
 IsSpelling word s = (flag : Bool) × IsFlag word flag × (s ≡ spelling_by flag)
 
--- how a report is printed: as JSON by the flag
-abbrev pub report_by : Bool → ReportForm
-report_by true = report.Json
-report_by false = report.Lines
-
+-- how a report is printed: as JSON by its word, and else as text
 abbrev pub IsReportForm : Option (List ℕ) → ReportForm → Type 0
-IsReportForm word form = (flag : Bool) × IsFlag word flag × (form ≡ report_by flag)
+IsReportForm word report.Json = word ≡ Some (codes "json")
+IsReportForm word report.Lines = word ≢ Some (codes "json")
 
 -- how many nodes are drawn: the number of the word, or a hundred
 abbrev pub IsDrawn : Option (List ℕ) → ℕ → Type 0
@@ -382,7 +379,7 @@ words_of matches name = option_map raw_values (matched_of (found_of matches) nam
 abbrev pub given_words : ArgMatches → Topic → Option (List (List ℕ))
 given_words matches topic.Get = words_of matches (codes "KEY")
 given_words matches topic.Longest = words_of matches (codes "TEXT")
-given_words matches topic.Keys = words_of matches (codes "VALUE")
+given_words matches topic.Reverse = words_of matches (codes "VALUE")
 given_words matches topic.List = None
 given_words matches topic.Search = None
 given_words matches topic.Verify = None
@@ -417,7 +414,7 @@ IsChecked word by = (flag : Bool) × IsFlag word flag × (by ≡ by_flag flag)
 abbrev pub IsCheck : Topic → Option (List ℕ) → Check → Type 0
 IsCheck topic.Get word by = IsChecked word by
 IsCheck topic.Longest word by = IsChecked word by
-IsCheck topic.Keys word by = IsChecked word by
+IsCheck topic.Reverse word by = IsChecked word by
 IsCheck topic.List word by = IsChecked word by
 IsCheck topic.Search word by = IsChecked word by
 IsCheck topic.Verify word by = by ≡ check.Full
@@ -433,7 +430,7 @@ files_of matches = unwrap_or (words_of matches (codes "FILE")) []
 abbrev pub file_word : ArgMatches → Topic → ℕ → Option (List ℕ)
 file_word matches topic.Get n = word_of matches (codes "FILE")
 file_word matches topic.Longest n = word_of matches (codes "FILE")
-file_word matches topic.Keys n = word_of matches (codes "FILE")
+file_word matches topic.Reverse n = word_of matches (codes "FILE")
 file_word matches topic.List n = word_of matches (codes "FILE")
 file_word matches topic.Search n = word_of matches (codes "FILE")
 file_word matches topic.Verify n = slice_get (files_of matches) n
@@ -444,7 +441,7 @@ file_word matches topic.Code n = word_of matches (codes "FILE")
 -- The file with this number that is asked, by the words of a question.
 pub record IsFile (matches : ArgMatches) (about : Topic) (n : ℕ) (file : TrieFile) : Type 0 where
   pub place : IsSource (file_word matches about n) file.place
-  pub bare : IsKind (word_of matches (codes "bare")) file.bare
+  pub bare : IsKind (word_of matches (codes "bare-kind")) file.bare
   pub check : IsCheck about (flag_of matches (codes "no-check")) file.check
 
 -- how many edits a word allows, or two
@@ -600,11 +597,11 @@ IsQuestion matches topic.Get texts q = (query : Query) × (of : Keys) × IsGet (
     × AreKeysOf texts of × (q ≡ question.LookUp query of)
 IsQuestion matches topic.Longest texts q = (query : Query) × (of : Keys) × IsLongest matches query.asked × IsSpelling (flag_of matches (codes "escaped")) query.spelling
     × AreKeysOf texts of × (q ≡ question.LookUp query of)
-IsQuestion matches topic.Keys texts q = (of : Keys) × AreKeysOf texts of × (q ≡ question.LookUp (record { asked = asked.KeyOf; spelling = spelling.Plain }) of)
+IsQuestion matches topic.Reverse texts q = (of : Keys) × AreKeysOf texts of × (q ≡ question.LookUp (record { asked = asked.KeyOf; spelling = spelling.Plain }) of)
 IsQuestion matches topic.List texts q = (f : Form) × (s : ListQuery) × IsListing matches (IsListed matches) (IsOrder (flag_of matches (codes "count")) (flag_of matches (codes "sorted"))) f s × (q ≡ question.List f s)
 IsQuestion matches topic.Search texts q = (distances : Bool) × IsFlag (flag_of matches (codes "distance")) distances × IsSearch distances matches q
 IsQuestion matches topic.Verify texts q = q ≡ question.Verify
-IsQuestion matches topic.Stats texts q = (f : ReportForm) × IsReportForm (flag_of matches (codes "json")) f × (q ≡ question.Report f)
+IsQuestion matches topic.Stats texts q = (f : ReportForm) × IsReportForm (word_of matches (codes "format")) f × (q ≡ question.Report f)
 IsQuestion matches topic.Inspect texts q = (v : View) × IsView (word_of matches (codes "VIEW")) (word_of matches (codes "limit")) v × (q ≡ question.View v)
 IsQuestion matches topic.Code texts q = (language : Language) × (name : Bor (List ℕ)) × IsCode matches language name.now × (q ≡ question.Code language name)
 

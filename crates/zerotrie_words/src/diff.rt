@@ -13,12 +13,12 @@ use zerotrie_run::Diff;
 /// wrong word.
 pub fn diff_in<'a>(matches: &ArgMatches<'a>) -> Result<Diff<'a>, &'static str>
     ensures diff { IfOk result (IsDiff matches.now) }
-    ensures refused { IfErr result (λ _. IsNoKind (word_of matches.now (codes "bare"))) }
+    ensures refused { IfErr result (λ _. IsNoKind (word_of matches.now (codes "bare-kind"))) }
     ensures said { IfErr result IsSaid }
 {
     Ok(Diff {
         old: source_in(matches, "OLD"),
         new: source_in(matches, "NEW"),
-        bare: kind_in(matches, "bare")?,
+        bare: kind_in(matches, "bare-kind")?,
     })
 }

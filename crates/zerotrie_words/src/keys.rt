@@ -36,7 +36,7 @@ pub fn words_in<'a>(
     let given = match topic {
         Topic::Get => matches.get_strs("KEY"),
         Topic::Longest => matches.get_strs("TEXT"),
-        Topic::Keys => matches.get_strs("VALUE"),
+        Topic::Reverse => matches.get_strs("VALUE"),
         Topic::List | Topic::Search | Topic::Verify | Topic::Stats | Topic::Inspect | Topic::Code =>
             None,
     };

@@ -13,6 +13,7 @@ mod keys;
 mod listing;
 mod manual;
 mod names;
+mod notes;
 mod question;
 mod reply;
 mod request;

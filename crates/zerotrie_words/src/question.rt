@@ -30,7 +30,7 @@ fn check_in(matches: &ArgMatches<'_>, topic: Topic) -> Check
         Topic::Verify => Check::Full,
         Topic::Get
         | Topic::Longest
-        | Topic::Keys
+        | Topic::Reverse
         | Topic::List
         | Topic::Search
         | Topic::Stats
@@ -68,13 +68,10 @@ fn nth_file<'a>(matches: &ArgMatches<'a>, number: usize) -> Option<&'a str>
 pub fn heading_in<'a>(matches: &ArgMatches<'a>, number: usize) -> Option<&'a str>
     ensures { IsReportHeading matches.now number result }
 {
-    if matches.get_flag("json") {
-        return None;
+    match report_in(matches) {
+        ReportForm::Lines if file_count(matches) > 1 => nth_file(matches, number),
+        ReportForm::Lines | ReportForm::Json => None,
     }
-    if file_count(matches) <= 1 {
-        return None;
-    }
-    nth_file(matches, number)
 }
 
 /// Returns the place of the file with this number. Only `verify` and `stats` have several.
@@ -85,7 +82,7 @@ fn file_place<'a>(matches: &ArgMatches<'a>, topic: Topic, number: usize) -> Plac
         Topic::Verify | Topic::Stats => source_of(nth_file(matches, number)),
         Topic::Get
         | Topic::Longest
-        | Topic::Keys
+        | Topic::Reverse
         | Topic::List
         | Topic::Search
         | Topic::Inspect
@@ -100,12 +97,12 @@ fn file_in<'a>(
     number: usize,
 ) -> Result<TrieFile<'a>, &'static str>
     ensures file { IfOk result (IsFile matches.now topic number) }
-    ensures refused { IfErr result (λ _. IsNoKind (word_of matches.now (codes "bare"))) }
+    ensures refused { IfErr result (λ _. IsNoKind (word_of matches.now (codes "bare-kind"))) }
     ensures said { IfErr result IsSaid }
 {
     Ok(TrieFile {
         place: file_place(matches, topic, number),
-        bare: kind_in(matches, "bare")?,
+        bare: kind_in(matches, "bare-kind")?,
         check: check_in(matches, topic),
     })
 }
@@ -159,12 +156,11 @@ fn longest_in(matches: &ArgMatches<'_>) -> Result<Asked, &'static str>
 
 /// Returns how a report is printed.
 fn report_in(matches: &ArgMatches<'_>) -> ReportForm
-    ensures { IsReportForm (flag_of matches.now (codes "json")) result }
+    ensures { IsReportForm (word_of matches.now (codes "format")) result }
 {
-    if matches.get_flag("json") {
-        ReportForm::Json
-    } else {
-        ReportForm::Lines
+    match matches.get_str("format") {
+        Some("json") => ReportForm::Json,
+        _ => ReportForm::Lines,
     }
 }
 
@@ -282,7 +278,7 @@ fn question_in<'w, 'a: 'w>(
             let asked = longest_in(matches)?;
             Ok(Question::LookUp(query_in(matches, asked), keys_of(words)?))
         }
-        Topic::Keys => {
+        Topic::Reverse => {
             let query = Query {
                 asked: Asked::KeyOf,
                 spelling: Spelling::Plain,
@@ -315,7 +311,7 @@ pub fn ask_in<'w, 'a: 'w>(
     words: &'w Option<Vec<&'a [u8]>>,
 ) -> Result<Command<'w>, &'static str>
     ensures ask { IfOk result (IsAsk matches.now topic number (texts_of words.now)) }
-    ensures refused { IfErr result (λ _. IsNoKind (word_of matches.now (codes "bare"))
+    ensures refused { IfErr result (λ _. IsNoKind (word_of matches.now (codes "bare-kind"))
         ⊎ IsNoQuestion matches.now topic (texts_of words.now)) }
     ensures said { IfErr result IsSaid }
 {

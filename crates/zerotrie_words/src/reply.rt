@@ -5,6 +5,7 @@ ghost use Rattle.clap.specs.Values.{kind_of};
 ghost use Rattle.zerotrie_words.specs.Replies.{IsReply, status_of};
 ghost use Rattle.zerotrie_words.specs.declared.reply.Reply.TheVariants as reply;
 
+use crate::arguments::Subcommand;
 use crate::help::text_of;
 use clap::error::ErrorKind;
 use std::alloc::{AllocError, Global};
@@ -55,11 +56,16 @@ impl Reply<'_> {
 }
 
 /// Returns what is said where clap finds no command: the help or the version that the words ask
-/// for, or why they are none. `apart` is an option with a word that belongs to it.
-pub fn reply_to<'a>(alloc: Global, said: &clap::Error, apart: Option<(&str, &str)>) -> Reply<'a>
+/// for, or why they are none.
+pub fn reply_to<'a>(
+    alloc: Global,
+    said: &clap::Error,
+    rows: &[&'static [Subcommand]],
+    words: &[String],
+) -> Reply<'a>
     ensures { IsReply (kind_of said.now) result }
 {
-    let Ok(text) = text_of(alloc, said, apart) else {
+    let Ok(text) = text_of(alloc, said, rows, words) else {
         return Reply::OutOfMemory;
     };
     match said.kind() {

@@ -13,7 +13,6 @@ use crate::build::build_in;
 use crate::combine::{combine_in, places_in};
 use crate::completions::script_for;
 use crate::diff::diff_in;
-use crate::help::text_apart;
 use crate::keys::words_in;
 use crate::manual::manual;
 use crate::question::{ask_in, file_count, heading_in};
@@ -44,7 +43,7 @@ fn matches_in<'a>(alloc: Global, words: &'a [String]) -> Result<ArgMatches<'a>, 
     let known = program(alloc, &rows)?;
     match known.try_get_matches_from(words) {
         Ok(matches) => Ok(matches),
-        Err(error) => Err(reply_to(alloc, &error, text_apart(&rows, words))),
+        Err(error) => Err(reply_to(alloc, &error, &rows, words)),
     }
 }
 
@@ -120,7 +119,7 @@ impl<'a> Request<'a> {
             | Task::Ask(
                 Topic::Get
                 | Topic::Longest
-                | Topic::Keys
+                | Topic::Reverse
                 | Topic::Verify
                 | Topic::Stats
                 | Topic::Inspect

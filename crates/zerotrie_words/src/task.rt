@@ -12,7 +12,7 @@ use zerotrie_sets::Selection;
 pub enum Topic {
     Get,
     Longest,
-    Keys,
+    Reverse,
     List,
     Search,
     Verify,
@@ -44,7 +44,7 @@ impl Task {
             "build" => Some(Task::Build),
             "get" => Some(Task::Ask(Topic::Get)),
             "longest" => Some(Task::Ask(Topic::Longest)),
-            "keys" => Some(Task::Ask(Topic::Keys)),
+            "reverse" => Some(Task::Ask(Topic::Reverse)),
             "list" => Some(Task::Ask(Topic::List)),
             "search" => Some(Task::Ask(Topic::Search)),
             "diff" => Some(Task::Diff),

@@ -148,12 +148,12 @@ pub fn target_in<'a>(matches: &ArgMatches<'a>) -> Place<'a> {
 /// Returns when it is reported what was made: always if that is asked for or messages go to a
 /// terminal, never if the command is to be quiet, and else if there are no keys.
 pub fn summary_in(matches: &ArgMatches<'_>, to_terminal: bool) -> Result<Summary, &'static str> {
-    match (matches.get_flag("progress"), matches.get_flag("quiet")) {
+    match (matches.get_flag("summary"), matches.get_flag("quiet")) {
         (false, false) if to_terminal => Ok(Summary::Always),
         (false, false) => Ok(Summary::IfEmpty),
         (true, false) => Ok(Summary::Always),
         (false, true) => Ok(Summary::Never),
-        (true, true) => Err("--progress and --quiet exclude each other"),
+        (true, true) => Err("--summary and --quiet exclude each other"),
     }
 }
 

@@ -11,6 +11,6 @@ pub fn diff_in<'a>(matches: &ArgMatches<'a>) -> Result<Diff<'a>, &'static str> {
     Ok(Diff {
         old: source_in(matches, "OLD"),
         new: source_in(matches, "NEW"),
-        bare: kind_in(matches, "bare")?,
+        bare: kind_in(matches, "bare-kind")?,
     })
 }

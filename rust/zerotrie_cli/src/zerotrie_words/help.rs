@@ -60,9 +60,14 @@ fn wrapped(alloc: Global, text: &str) -> Result<String, AllocError> {
 }
 
 /// Returns whether a line of an error is said: not the tip to pass an option as a value, which is
-/// wrong where no value is asked for, nor where help is.
+/// wrong where no value is asked for, nor where help is, which the last line says.
 fn is_said(line: &str) -> bool {
     !line.starts_with("  tip: to pass") && !line.starts_with("For more information")
+}
+
+/// Returns the row of the command with this name.
+fn row_of(rows: &[&'static [Subcommand]], name: &str) -> Option<&'static Subcommand> {
+    rows.iter().copied().flatten().find(|row| row.name == name)
 }
 
 /// Returns whether a word is the name or the letter of an option that takes any text.
@@ -92,33 +97,45 @@ fn has_text(row: &Subcommand, word: &str) -> bool {
     false
 }
 
-/// Returns whether a word asks for any text behind it, in the command of this name.
-fn wants_text(rows: &[&'static [Subcommand]], command: &str, word: &str) -> bool {
-    for row in rows.iter().copied().flatten() {
-        if row.name == command && has_text(row, word) {
-            return true;
-        }
-    }
-    false
-}
-
-/// Returns an option that wants a text, and the word behind it, if that begins with a hyphen: clap
-/// takes it for an option. `None` if there is none.
-pub fn text_apart<'a>(
-    rows: &[&'static [Subcommand]],
-    words: &'a [String],
-) -> Option<(&'a str, &'a str)> {
-    let command = words.get(1)?.as_str();
+/// Returns an option of a command that wants a text, and the word behind it, if that begins with a
+/// hyphen: clap takes it for an option. `None` if there is none.
+fn text_apart<'a>(row: &Subcommand, words: &'a [String]) -> Option<(&'a str, &'a str)> {
     let mut before = "";
     for word in words {
         let word = word.as_str();
         if before == "--" {
             return None;
         }
-        if word.starts_with("-") && word != "-" && wants_text(rows, command, before) {
+        if word.starts_with("-") && word != "-" && has_text(row, before) {
             return Some((before, word));
         }
         before = word;
+    }
+    None
+}
+
+/// Returns whether a command has an option of this name.
+fn has_option(row: &Subcommand, name: &str) -> bool {
+    let mut options = row.arguments.iter().filter(|it| it.is_option());
+    options.any(|it| it.name == name)
+}
+
+/// Returns the first option among words that a command lacks, and another command that has it. `None`
+/// if there is none.
+fn option_elsewhere<'a>(
+    rows: &[&'static [Subcommand]],
+    row: &Subcommand,
+    words: &'a [String],
+) -> Option<(&'a str, &'static str)> {
+    for word in words {
+        let (option, _) = word.as_str().split_once('=').unwrap_or((word.as_str(), ""));
+        let name = option.strip_prefix("--").unwrap_or("");
+        if !name.is_empty() && !has_option(row, name) {
+            let mut all = rows.iter().copied().flatten();
+            return all
+                .find(|it| has_option(it, name))
+                .map(|it| (option, it.name));
+        }
     }
     None
 }
@@ -131,25 +148,45 @@ fn add_escaped(text: &mut String, words: &str, bytes: &mut Vec<u8>) -> Result<()
     text.try_push_str(crate::rstd::str::from_utf8(bytes.as_slice()).unwrap_or(""))
 }
 
-/// Adds how to write an option with a text that begins with a hyphen, if there is one.
+/// Adds how to write an option with a text that begins with a hyphen.
 fn add_tip(
     text: &mut String,
-    apart: Option<(&str, &str)>,
+    option: &str,
+    word: &str,
     bytes: &mut Vec<u8>,
 ) -> Result<(), AllocError> {
-    let Some((option, word)) = apart else {
-        return Ok(());
-    };
-    text.try_push_str("  tip: write ")?;
-    text.try_push_str(option)?;
-    text.try_push_str(if option.starts_with("--") { "=" } else { "" })?;
+    let joint = if option.starts_with("--") { "=" } else { "" };
+    write!(text, "  tip: write {option}{joint}")?;
     add_escaped(text, word, bytes)?;
     text.try_push_str(" for a text that begins with a hyphen\n")
 }
 
-/// Returns an error of clap as the program says it, of words with such an option. Words that are
-/// lacking may be `-`.
-fn error_of(alloc: Global, error: &str, apart: Option<(&str, &str)>) -> Result<String, AllocError> {
+/// Adds what helps with words that are no command: a tip, if there is one, and where help is.
+fn add_help(
+    text: &mut String,
+    rows: &[&'static [Subcommand]],
+    words: &[String],
+    bytes: &mut Vec<u8>,
+) -> Result<(), AllocError> {
+    let command = words.get(1).map_or("", |word| word.as_str());
+    let Some(row) = row_of(rows, command) else {
+        return text.try_push_str("zerotrie --help shows the commands\n");
+    };
+    if let Some((option, word)) = text_apart(row, words) {
+        add_tip(text, option, word, bytes)?;
+    } else if let Some((option, name)) = option_elsewhere(rows, row, words) {
+        write!(text, "  tip: {option} is an option of {name}\n")?;
+    }
+    write!(text, "zerotrie {command} --help shows the options\n")
+}
+
+/// Returns an error of clap as the program says it. Words that are lacking may be `-`.
+fn error_of(
+    alloc: Global,
+    error: &str,
+    rows: &[&'static [Subcommand]],
+    words: &[String],
+) -> Result<String, AllocError> {
     let mut text = crate::rstd::string::new(alloc);
     let mut bytes = Vec::new(alloc);
     text.try_push_str("zerotrie: ")?;
@@ -165,20 +202,21 @@ fn error_of(alloc: Global, error: &str, apart: Option<(&str, &str)>) -> Result<S
             was_empty = is_empty;
         }
     }
-    add_tip(&mut text, apart, &mut bytes)?;
+    add_help(&mut text, rows, words, &mut bytes)?;
     Ok(text)
 }
 
-/// Returns what clap says as the program says it: an error as its other messages, help with short
-/// lines.
+/// Returns what clap says of words as the program says it: an error as its other messages, help with
+/// short lines.
 pub fn text_of(
     alloc: Global,
     said: &crate::rstd::clap::Error,
-    apart: Option<(&str, &str)>,
+    rows: &[&'static [Subcommand]],
+    words: &[String],
 ) -> Result<String, AllocError> {
     let text = format!("{said}");
     match text.as_str().strip_prefix("error: ") {
-        Some(error) => error_of(alloc, error, apart),
+        Some(error) => error_of(alloc, error, rows, words),
         None => wrapped(alloc, text.as_str()),
     }
 }

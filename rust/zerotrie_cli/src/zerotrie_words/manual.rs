@@ -3,6 +3,7 @@
 
 use crate::rstd::prelude::*;
 use crate::zerotrie_words::arguments::{Argument, Form, Otherwise, Subcommand};
+use crate::zerotrie_words::notes::NOTES;
 use crate::zerotrie_words::table::{STATUSES, VERSION};
 use crate::rstd::alloc::{AllocError, Global};
 
@@ -17,16 +18,14 @@ const DESCRIPTION: &str = ".SH DESCRIPTION\n\
     A trie is a read\\-only map from byte strings, the keys, to numbers below 2^64, as one list of\n\
     bytes. A file of one has a header with its kind, its length and a checksum in front.\n\
     Every function of the program's library is proved to meet its contract.\n\
-    .SH COMMANDS\n";
-
-const OPTIONS: &str = ".SH OPTIONS\n\
+    .SH OPTIONS\n\
     .TP\n\
     \\fB\\-h\\fR, \\fB\\-\\-help\\fR\n\
     Print help, also of a command\n\
     .TP\n\
     \\fB\\-V\\fR, \\fB\\-\\-version\\fR\n\
     Print the version\n\
-    .SH EXIT STATUS\n";
+    .SH COMMANDS\n";
 
 const END: &str = ".SH SEE ALSO\n\
     The file FORMAT.md describes the bytes, and zerotrie.h the library for C.\n";
@@ -60,6 +59,15 @@ impl Argument {
             _ => false,
         }
     }
+
+    /// Returns its word if it is left out. `None` if it has none then.
+    fn default(&self) -> Option<&'static str> {
+        match self.form {
+            Form::Text(_, _, Otherwise::Is(word)) | Form::OneOf(_, _, _, Otherwise::Is(word)) =>
+                Some(word),
+            _ => None,
+        }
+    }
 }
 
 /// Adds what has to be there of an argument, with a space in front.
@@ -80,14 +88,17 @@ fn add_usage(page: &mut String, argument: &Argument) -> Result<(), AllocError> {
 
 /// Adds how a command is called.
 fn add_call(page: &mut String, row: &Subcommand) -> Result<(), AllocError> {
-    add_in(page, "\\fBzerotrie ", row.name, "\\fR [OPTIONS]")?;
+    add_in(page, "\\fBzerotrie ", row.name, "\\fR")?;
+    if row.arguments.iter().any(|it| it.is_option()) {
+        page.try_push_str(" [OPTIONS]")?;
+    }
     for argument in row.arguments {
         add_usage(page, argument)?;
     }
     page.try_push_str("\n")
 }
 
-/// Adds the words of which the word of an argument is one.
+/// Adds the words of which the word of an argument is one, and its default.
 fn add_words(page: &mut String, argument: &Argument) -> Result<(), AllocError> {
     for (index, word) in argument.words().iter().enumerate() {
         page.try_push_str(if index == 0 { " (" } else { ", " })?;
@@ -96,7 +107,10 @@ fn add_words(page: &mut String, argument: &Argument) -> Result<(), AllocError> {
     if !argument.words().is_empty() {
         page.try_push_str(")")?;
     }
-    Ok(())
+    match argument.default() {
+        Some(word) => add_in(page, " [default: ", word, "]"),
+        None => Ok(()),
+    }
 }
 
 /// Adds the names of an argument.
@@ -163,6 +177,17 @@ fn add_examples(page: &mut String, row: &Subcommand) -> Result<(), AllocError> {
     Ok(())
 }
 
+/// Adds the sections of the notes.
+fn add_notes(page: &mut String) -> Result<(), AllocError> {
+    for (title, text) in NOTES {
+        add_in(page, ".SH ", title, "\n")?;
+        for paragraph in text.split("\n\n") {
+            add_in(page, ".PP\n", paragraph, "\n")?;
+        }
+    }
+    Ok(())
+}
+
 /// Returns the page.
 pub fn manual(alloc: Global, rows: &[&'static [Subcommand]]) -> Result<String, AllocError> {
     let mut page = crate::rstd::string::from_str(alloc, BEGIN)?;
@@ -176,12 +201,12 @@ pub fn manual(alloc: Global, rows: &[&'static [Subcommand]]) -> Result<String, A
     for row in rows.iter().copied().flatten() {
         add_command(&mut page, row)?;
     }
+    add_in(&mut page, ".SH EXIT STATUS\n", STATUSES, "\n")?;
+    add_notes(&mut page)?;
     page.try_push_str(".SH EXAMPLES\n")?;
     for row in rows.iter().copied().flatten() {
         add_examples(&mut page, row)?;
     }
-    page.try_push_str(OPTIONS)?;
-    add_lines(&mut page, STATUSES)?;
     page.try_push_str(END)?;
     Ok(page)
 }

@@ -17,6 +17,7 @@ mod keys;
 mod listing;
 mod manual;
 mod names;
+mod notes;
 mod question;
 mod reply;
 mod request;

@@ -22,7 +22,7 @@ fn check_in(matches: &ArgMatches<'_>, topic: Topic) -> Check {
         Topic::Verify => Check::Full,
         Topic::Get
         | Topic::Longest
-        | Topic::Keys
+        | Topic::Reverse
         | Topic::List
         | Topic::Search
         | Topic::Stats
@@ -54,13 +54,10 @@ fn nth_file<'a>(matches: &ArgMatches<'a>, number: usize) -> Option<&'a str> {
 /// Returns the name of the file with this number, if it has to be in front of a report on it: of
 /// several files, unless the report is JSON.
 pub fn heading_in<'a>(matches: &ArgMatches<'a>, number: usize) -> Option<&'a str> {
-    if matches.get_flag("json") {
-        return None;
+    match report_in(matches) {
+        ReportForm::Lines if file_count(matches) > 1 => nth_file(matches, number),
+        ReportForm::Lines | ReportForm::Json => None,
     }
-    if file_count(matches) <= 1 {
-        return None;
-    }
-    nth_file(matches, number)
 }
 
 /// Returns the place of the file with this number. Only `verify` and `stats` have several.
@@ -69,7 +66,7 @@ fn file_place<'a>(matches: &ArgMatches<'a>, topic: Topic, number: usize) -> Plac
         Topic::Verify | Topic::Stats => source_of(nth_file(matches, number)),
         Topic::Get
         | Topic::Longest
-        | Topic::Keys
+        | Topic::Reverse
         | Topic::List
         | Topic::Search
         | Topic::Inspect
@@ -85,7 +82,7 @@ fn file_in<'a>(
 ) -> Result<TrieFile<'a>, &'static str> {
     Ok(TrieFile {
         place: file_place(matches, topic, number),
-        bare: kind_in(matches, "bare")?,
+        bare: kind_in(matches, "bare-kind")?,
         check: check_in(matches, topic),
     })
 }
@@ -125,10 +122,9 @@ fn longest_in(matches: &ArgMatches<'_>) -> Result<Asked, &'static str> {
 
 /// Returns how a report is printed.
 fn report_in(matches: &ArgMatches<'_>) -> ReportForm {
-    if matches.get_flag("json") {
-        ReportForm::Json
-    } else {
-        ReportForm::Lines
+    match matches.get_str("format") {
+        Some("json") => ReportForm::Json,
+        _ => ReportForm::Lines,
     }
 }
 
@@ -219,7 +215,7 @@ fn question_in<'w, 'a: 'w>(
             let asked = longest_in(matches)?;
             Ok(Question::LookUp(query_in(matches, asked), keys_of(words)?))
         }
-        Topic::Keys => {
+        Topic::Reverse => {
             let query = Query {
                 asked: Asked::KeyOf,
                 spelling: Spelling::Plain,

@@ -2,6 +2,7 @@
 //! What is said in place of a command.
 
 use crate::rstd::prelude::*;
+use crate::zerotrie_words::arguments::Subcommand;
 use crate::zerotrie_words::help::text_of;
 use crate::rstd::clap::error::ErrorKind;
 use crate::rstd::alloc::{AllocError, Global};
@@ -45,9 +46,14 @@ impl Reply<'_> {
 }
 
 /// Returns what is said where clap finds no command: the help or the version that the words ask
-/// for, or why they are none. `apart` is an option with a word that belongs to it.
-pub fn reply_to<'a>(alloc: Global, said: &crate::rstd::clap::Error, apart: Option<(&str, &str)>) -> Reply<'a> {
-    let Ok(text) = text_of(alloc, said, apart) else {
+/// for, or why they are none.
+pub fn reply_to<'a>(
+    alloc: Global,
+    said: &crate::rstd::clap::Error,
+    rows: &[&'static [Subcommand]],
+    words: &[String],
+) -> Reply<'a> {
+    let Ok(text) = text_of(alloc, said, rows, words) else {
         return Reply::OutOfMemory;
     };
     match said.kind() {

@@ -7,7 +7,6 @@ use crate::zerotrie_words::build::build_in;
 use crate::zerotrie_words::combine::{combine_in, places_in};
 use crate::zerotrie_words::completions::script_for;
 use crate::zerotrie_words::diff::diff_in;
-use crate::zerotrie_words::help::text_apart;
 use crate::zerotrie_words::keys::words_in;
 use crate::zerotrie_words::manual::manual;
 use crate::zerotrie_words::question::{ask_in, file_count, heading_in};
@@ -34,7 +33,7 @@ fn matches_in<'a>(alloc: Global, words: &'a [String]) -> Result<ArgMatches<'a>, 
     let known = program(alloc, &rows)?;
     match known.try_get_matches_from(words) {
         Ok(matches) => Ok(matches),
-        Err(error) => Err(reply_to(alloc, &error, text_apart(&rows, words))),
+        Err(error) => Err(reply_to(alloc, &error, &rows, words)),
     }
 }
 
@@ -94,7 +93,7 @@ impl<'a> Request<'a> {
             | Task::Ask(
                 Topic::Get
                 | Topic::Longest
-                | Topic::Keys
+                | Topic::Reverse
                 | Topic::Verify
                 | Topic::Stats
                 | Topic::Inspect

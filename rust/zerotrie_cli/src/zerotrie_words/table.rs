@@ -11,6 +11,9 @@ const KINDS_OR_AUTO: &[&str] = &["auto", "simple", "ignore", "hash", "ext"];
 
 const OUTPUTS: &[&str] = &["tsv", "csv", "keys", "values", "json", "jsonl"];
 
+/// The formats of a report.
+const REPORT_FORMS: &[&str] = &["text", "json"];
+
 const ENDS: &[&str] = &["crlf", "lf"];
 
 /// What can become of a key that several pairs have.
@@ -57,9 +60,9 @@ const FILE: Argument = Argument {
     help: "A trie, or - for standard input",
 };
 
-const BARE: Argument = Argument {
-    name: "bare",
-    form: Form::OneOf("K", Some('b'), KINDS, Otherwise::Nothing),
+const BARE_KIND: Argument = Argument {
+    name: "bare-kind",
+    form: Form::OneOf("K", None, KINDS, Otherwise::Nothing),
     help: "Read FILE as bare bytes of this kind",
 };
 
@@ -134,13 +137,13 @@ const OUTPUT: Argument = Argument {
 
 const NO_CLOBBER: Argument = Argument {
     name: "no-clobber",
-    form: Form::Flag(Some('n')),
+    form: Form::Flag(None),
     help: "Refuse the build if OUT is there already",
 };
 
-const PROGRESS: Argument = Argument {
-    name: "progress",
-    form: Form::Flag(Some('p')),
+const SUMMARY: Argument = Argument {
+    name: "summary",
+    form: Form::Flag(None),
     help: "Report what was made on standard error, even if it is no terminal",
 };
 
@@ -210,7 +213,7 @@ const OF_ANY: &[Argument] = &[
     TAGGED,
     BARE_OUTPUT,
     INDEX,
-    PROGRESS,
+    SUMMARY,
     QUIET,
 ];
 
@@ -223,7 +226,7 @@ const OF_FIRST: &[Argument] = &[
     TAGGED,
     BARE_OUTPUT,
     INDEX,
-    PROGRESS,
+    SUMMARY,
     QUIET,
 ];
 
@@ -284,14 +287,14 @@ const LOOK_UPS: &[Subcommand] = &[
             },
             Argument {
                 name: "sorted",
-                form: Form::Flag(Some('s')),
+                form: Form::Flag(Some('S')),
                 help: "Refuse keys that do not ascend by their bytes, as after LC_ALL=C sort",
             },
             KIND,
             TAGGED,
             BARE_OUTPUT,
             INDEX,
-            PROGRESS,
+            SUMMARY,
             QUIET,
         ],
     },
@@ -313,7 +316,7 @@ const LOOK_UPS: &[Subcommand] = &[
                 help: "Print each key in front of its value",
             },
             ESCAPED,
-            BARE,
+            BARE_KIND,
             NO_CHECK,
         ],
     },
@@ -340,14 +343,14 @@ const LOOK_UPS: &[Subcommand] = &[
                 help: "Take only keys that end with the text or before this byte",
             },
             ESCAPED,
-            BARE,
+            BARE_KIND,
             NO_CHECK,
         ],
     },
     Subcommand {
-        name: "keys",
+        name: "reverse",
         about: "Print the first key of each value, in the order of list",
-        help: "Example: zerotrie keys names.trie 38\n\
+        help: "Example: zerotrie reverse names.trie 38\n\
             Status: 1 if no key has a value, 2 if FILE is no trie.",
         arguments: &[
             FILE,
@@ -356,7 +359,7 @@ const LOOK_UPS: &[Subcommand] = &[
                 form: Form::Words,
                 help: "Values; - alone reads them from standard input, one a line",
             },
-            BARE,
+            BARE_KIND,
             NO_CHECK,
         ],
     },
@@ -370,7 +373,8 @@ const LISTINGS: &[Subcommand] = &[
         help: "Example: zerotrie list names.trie --prefix am\n\
             Status: 1 if no key is listed, 2 if FILE is no trie.",
         arguments: &[
-            FILE, PREFIX, FROM, BELOW, FORMAT, RAW, LIMIT, COUNT, SORTED, ONLY_ASK, BARE, NO_CHECK,
+            FILE, PREFIX, FROM, BELOW, FORMAT, RAW, LIMIT, COUNT, SORTED, ONLY_ASK, BARE_KIND,
+            NO_CHECK,
         ],
     },
     Subcommand {
@@ -424,7 +428,7 @@ const LISTINGS: &[Subcommand] = &[
             },
             Argument {
                 name: "subsequence",
-                form: Form::Text("S", Some('s'), Otherwise::Nothing),
+                form: Form::Text("S", None, Otherwise::Nothing),
                 help: "Keys that have these bytes in this order, with any others between",
             },
             Argument {
@@ -441,7 +445,7 @@ const LISTINGS: &[Subcommand] = &[
             COUNT,
             SORTED,
             ONLY_ASK,
-            BARE,
+            BARE_KIND,
             NO_CHECK,
         ],
     },
@@ -464,8 +468,8 @@ const LISTINGS: &[Subcommand] = &[
                 help: "Another one, of any kind",
             },
             Argument {
-                name: "bare",
-                form: Form::OneOf("K", Some('b'), KINDS, Otherwise::Nothing),
+                name: "bare-kind",
+                form: Form::OneOf("K", None, KINDS, Otherwise::Nothing),
                 help: "Read both as bare bytes of this kind",
             },
             Argument {
@@ -483,22 +487,22 @@ const REPORTS: &[Subcommand] = &[
         name: "verify",
         about: "Test all bytes, and print nothing if they are a trie or an index",
         help: "Example: zerotrie verify *.trie\nStatus: 2 if a FILE is no trie or index.",
-        arguments: &[ALL_FILES, BARE],
+        arguments: &[ALL_FILES, BARE_KIND],
     },
     Subcommand {
         name: "stats",
         about: "Print what the trie is made of",
-        help: "Example: zerotrie stats names.trie --json\n\
+        help: "Example: zerotrie stats names.trie --format json\n\
             Its bytes are those of the trie, without what a file has in front.\n\
             Status: 2 if a FILE is no trie.",
         arguments: &[
             FILES,
             Argument {
-                name: "json",
-                form: Form::Flag(Some('j')),
-                help: "Print one JSON object",
+                name: "format",
+                form: Form::OneOf("F", Some('f'), REPORT_FORMS, Otherwise::Nothing),
+                help: "The format of the output, else text",
             },
-            BARE,
+            BARE_KIND,
             NO_CHECK,
         ],
     },
@@ -518,7 +522,7 @@ const REPORTS: &[Subcommand] = &[
                 form: Form::Number("N", Some('n'), GREATEST),
                 help: "At most this many nodes of a drawing, else 100",
             },
-            BARE,
+            BARE_KIND,
             NO_CHECK,
         ],
     },
@@ -530,7 +534,7 @@ const REPORTS: &[Subcommand] = &[
             FILE,
             Argument {
                 name: "lang",
-                form: Form::OneOf("L", Some('l'), LANGUAGES, Otherwise::Refused),
+                form: Form::OneOf("L", None, LANGUAGES, Otherwise::Refused),
                 help: "The language",
             },
             Argument {
@@ -540,10 +544,10 @@ const REPORTS: &[Subcommand] = &[
             },
             Argument {
                 name: "alone",
-                form: Form::Flag(Some('a')),
+                form: Form::Flag(None),
                 help: "Print a reader in front, so that the code of C needs no library",
             },
-            BARE,
+            BARE_KIND,
             NO_CHECK,
         ],
     },

@@ -9,11 +9,13 @@ use crate::rstd::alloc::{AllocError, Global};
 const BEGIN: &str = "# Completions of zerotrie for bash.\n\
     _zerotrie() {\n\
     \x20   local word=${COMP_WORDS[COMP_CWORD]} before=${COMP_WORDS[COMP_CWORD - 1]}\n\
-    \x20   local command=${COMP_WORDS[1]} options= words=\n\
+    \x20   local command=${COMP_WORDS[1]} options= words= files=\n\
+    \x20   [ \"$before\" = = ] && before=${COMP_WORDS[COMP_CWORD - 2]}\n\
+    \x20   [ \"$word\" = = ] && word=\n\
     \x20   if [ \"$COMP_CWORD\" -eq 1 ]; then\n\
-    \x20       COMPREPLY=($(compgen -W '";
+    \x20       mapfile -t COMPREPLY < <(compgen -W '";
 
-const AFTER_COMMANDS: &str = " -h --help -V --version' -- \"$word\"))\n\
+const AFTER_COMMANDS: &str = " -h --help -V --version' -- \"$word\")\n\
     \x20       return\n\
     \x20   fi\n\
     \x20   case $command:$before in\n";
@@ -23,9 +25,9 @@ const AFTER_VALUES: &str = "    esac\n    case $command in\n";
 const END: &str = "' ;;\n\
     \x20   esac\n\
     \x20   if [[ $word == -* ]]; then\n\
-    \x20       COMPREPLY=($(compgen -W \"$options\" -- \"$word\"))\n\
+    \x20       mapfile -t COMPREPLY < <(compgen -W \"$options\" -- \"$word\")\n\
     \x20   else\n\
-    \x20       COMPREPLY=($(compgen -f -W \"$words\" -- \"$word\"))\n\
+    \x20       mapfile -t COMPREPLY < <(compgen $files -W \"$words\" -- \"$word\")\n\
     \x20   fi\n\
     }\n\
     complete -o filenames -F _zerotrie zerotrie\n";
@@ -38,11 +40,13 @@ fn add_value(script: &mut String, command: &str, argument: &Argument) -> Result<
     }
     match argument.offer() {
         Offer::Words(words) => {
-            script.try_push_str(") COMPREPLY=($(compgen -W '")?;
+            script.try_push_str(") mapfile -t COMPREPLY < <(compgen -W '")?;
             add_words(script, words)?;
-            script.try_push_str("' -- \"$word\")); return ;;\n")
+            script.try_push_str("' -- \"$word\"); return ;;\n")
         }
-        Offer::Files => script.try_push_str(") COMPREPLY=($(compgen -f -- \"$word\")); return ;;\n"),
+        Offer::Files => {
+            script.try_push_str(") mapfile -t COMPREPLY < <(compgen -f -- \"$word\"); return ;;\n")
+        }
         Offer::Nothing => script.try_push_str(") COMPREPLY=(); return ;;\n"),
     }
 }
@@ -67,10 +71,14 @@ fn add_command(script: &mut String, row: &Subcommand) -> Result<(), AllocError> 
         }
     }
     script.try_push_str("--help -h' words='")?;
+    let mut files = "";
     for place in row.arguments.iter().filter(|it| !it.is_option()) {
         add_words(script, place.words())?;
+        if matches!(place.offer(), Offer::Files) {
+            files = "-f";
+        }
     }
-    script.try_push_str("' ;;\n")
+    write!(script, "' files={files} ;;\n")
 }
 
 /// Returns the script for bash.
