@@ -12,15 +12,7 @@ use std::{env, fs, io};
 use zerotrie_files::{Noted, Store, SystemDisk};
 use zerotrie_run::{Command, Place, Status, run};
 use zerotrie_sealed::begins_sealed;
-use zerotrie_words::{Reply, Request};
-
-const NOT_UTF8: &str = "the arguments are not UTF-8; give keys of other bytes as lines of standard \
-    input by -, and a file of such a name as - with <";
-
-const OUTPUT_IS_TERMINAL: &str =
-    "standard output is a terminal: name a file by -o, or redirect the output";
-
-const INPUT_IS_TERMINAL: &str = "standard input is a terminal: name a file, or redirect the input";
+use zerotrie_words::{Misuse, Reply, Request};
 
 /// Prints the help or the version that the words asked for.
 fn show_help(rt: &HostRuntime, text: &str) -> Status {
@@ -42,7 +34,7 @@ fn refuse(rt: &HostRuntime, reply: &Reply<'_>) -> Status
 {
     let _ = match reply {
         Reply::Help(text) | Reply::Misuse(text) => eprint!(rt; "{text}"),
-        Reply::Refusal(why) => eprintln!(rt; "zerotrie: {why}"),
+        Reply::Refusal(why) => eprintln!(rt; "zerotrie: {}", why.text()),
         Reply::OneFile(from, to) => {
             eprintln!(rt; "zerotrie: {from} and {to}: IN and OUT are the same file")
         }
@@ -185,10 +177,10 @@ fn refuse_device(rt: &HostRuntime, path: &str) -> Status {
 /// from there, or replace its input by links.
 fn refusal_here<'a>(rt: &HostRuntime, command: &Command<'a>) -> Option<Reply<'a>> {
     if goes_to_terminal(rt, command) {
-        return Some(Reply::Refusal(OUTPUT_IS_TERMINAL));
+        return Some(Reply::Refusal(Misuse::OutputIsTerminal));
     }
     if comes_from_terminal(rt, command) {
-        return Some(Reply::Refusal(INPUT_IS_TERMINAL));
+        return Some(Reply::Refusal(Misuse::InputIsTerminal));
     }
     let Command::Build(build) = command else {
         return None;
@@ -201,11 +193,18 @@ fn refusal_here<'a>(rt: &HostRuntime, command: &Command<'a>) -> Option<Reply<'a>
     }
 }
 
-/// Does what a request asks, for the file with this number.
-fn obey_for(rt: &HostRuntime, request: &Request<'_>, file: usize) -> Status {
+/// Says why the words of the command of this name are refused, and where its help is.
+fn refuse_words(rt: &HostRuntime, name: &str, reply: &Reply<'_>) -> Status {
+    let status = say(rt, reply);
+    let _ = eprintln!(rt; "zerotrie {name} --help shows the options");
+    status
+}
+
+/// Does what a request of the command of this name asks, for the file with this number.
+fn obey_for(rt: &HostRuntime, request: &Request<'_>, name: &str, file: usize) -> Status {
     let command = match request.command(file, rt.stderr().is_terminal()) {
         Ok(command) => command,
-        Err(reply) => return say(rt, &reply),
+        Err(reply) => return refuse_words(rt, name, &reply),
     };
     if let Some(reply) = refusal_here(rt, &command) {
         return say(rt, &reply);
@@ -227,9 +226,10 @@ fn obey(rt: &HostRuntime, words: &[String]) -> Status {
         Ok(request) => request,
         Err(reply) => return say(rt, &reply),
     };
+    let name = words.get(1).map_or("", |word| word.as_str());
     let mut worst = Status::Done;
     for file in 0..request.files() {
-        let status = obey_for(rt, &request, file);
+        let status = obey_for(rt, &request, name, file);
         if status.number() > worst.number() {
             worst = status;
         }
@@ -249,7 +249,7 @@ fn main(rt: HostRuntime) -> ExitCode {
     let status = match arguments(&rt) {
         Ok(words) => obey(&rt, words.as_slice()),
         Err(error) if error.kind() == io::ErrorKind::InvalidData => {
-            say(&rt, &Reply::Refusal(NOT_UTF8))
+            say(&rt, &Reply::Refusal(Misuse::NotUtf8))
         }
         Err(error) => {
             let _ = eprintln!(&rt; "zerotrie: the arguments can't be read: {error}");

@@ -1,5 +1,9 @@
 pub mod Words
+pub mod Options
 pub mod Refusals
+pub mod Builds
+pub mod Searches
+pub mod Questions
 pub mod Diffs
 pub mod Arguments
 pub mod Program

@@ -10,9 +10,9 @@ use Rattle.clap.specs.declared.error.kind.ErrorKind.{ErrorKind}
 use Rattle.clap.specs.declared.error.kind.ErrorKind.TheVariants.{OutOfMemory}
 use Rattle.clap.specs.declared.parser.matches.ArgMatches.{ArgMatches}
 use Rattle.zerotrie_words.specs.Program.{IsProgram}
-use Rattle.zerotrie_words.specs.Refusals.{IsSaid}
 use Rattle.zerotrie_words.specs.Replies.{IsReply}
 use Rattle.zerotrie_words.specs.Tasks.{AsksForPage, IsTaskOf, NamesNoTask}
+use Rattle.zerotrie_words.specs.declared.misuse.Misuse.TheVariants as misuse
 use Rattle.zerotrie_words.specs.declared.reply.Reply.{Reply}
 use Rattle.zerotrie_words.specs.declared.reply.Reply.TheVariants as reply
 use Rattle.zerotrie_words.specs.declared.task.Task.{Task}
@@ -37,7 +37,7 @@ IsFaultSaid words said = (app : App) × IsProgram app × ((kind : ErrorKind) × 
 abbrev pub IsSaidOfFound : ArgMatches → Reply → Type 0
 IsSaidOfFound matches (reply.Help text) = AsksForPage matches
 IsSaidOfFound matches (reply.Misuse text) = ⊥
-IsSaidOfFound matches (reply.Refusal why) = NamesNoTask matches × IsSaid why
+IsSaidOfFound matches (reply.Refusal why) = NamesNoTask matches × (why ≡ misuse.NoCommand)
 IsSaidOfFound matches (reply.OneFile path other) = ⊥
 IsSaidOfFound matches reply.OutOfMemory = Unit {0}
 

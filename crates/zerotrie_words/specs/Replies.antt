@@ -4,7 +4,7 @@ use Rattle.clap.specs.declared.error.kind.ErrorKind.{ErrorKind}
 use Rattle.clap.specs.declared.error.kind.ErrorKind.TheVariants.{DisplayHelp, DisplayVersion}
 use Rattle.zerotrie_run.specs.declared.status.Status.{Status}
 use Rattle.zerotrie_run.specs.declared.status.Status.TheVariants.{Done, BadUsage, OutOfMemory}
-use Rattle.zerotrie_words.specs.Refusals.{IsSaid}
+use Rattle.zerotrie_words.specs.declared.misuse.Misuse.TheVariants as misuse
 use Rattle.zerotrie_words.specs.declared.reply.Reply.{Reply}
 use Rattle.zerotrie_words.specs.declared.reply.Reply.TheVariants as reply
 
@@ -24,6 +24,6 @@ AsksForHelp kind = (kind ≡ DisplayHelp) ⊎ (kind ≡ DisplayVersion)
 abbrev pub IsReply : ErrorKind → Reply → Type 0
 IsReply kind (reply.Help text) = AsksForHelp kind
 IsReply kind (reply.Misuse text) = (kind ≢ DisplayHelp) × (kind ≢ DisplayVersion) × (string_bytes text ≢ [])
-IsReply kind (reply.Refusal why) = (kind ≢ DisplayHelp) × (kind ≢ DisplayVersion) × IsSaid why
+IsReply kind (reply.Refusal why) = (kind ≢ DisplayHelp) × (kind ≢ DisplayVersion) × (why ≡ misuse.NoCommand)
 IsReply kind (reply.OneFile path other) = ⊥
 IsReply kind reply.OutOfMemory = Unit {0}

@@ -1,12 +1,11 @@
 -- The command that the words of a command line ask for.
-use Rattle.std.specs.Prelude.{◌≡◌, ◌≢◌, ◌⊎◌, ℕ, List, [], Option, Some, None, Bool, true, false, codes, length, nat_lt, if◌then◌else◌}
+use Rattle.std.specs.Prelude.{◌≡◌, ◌≢◌, ℕ, List, [], Option, Some, None, Bool, true, false, codes, length, nat_lt, if◌then◌else◌}
 use Rattle.std.specs.Borrow.{Bor}
 use Rattle.std.specs.List.{AllZip, slice_get}
 use Rattle.std.specs.Option.{option_map}
 use Rattle.clap.specs.declared.parser.matches.ArgMatches.{ArgMatches}
-use Rattle.zerotrie_sets.specs.declared.selection.Rule.{Rule}
-use Rattle.zerotrie_sets.specs.declared.selection.Rule.TheVariants.{First, Last, Sum, Min, Max, Equal, Refuse}
-use Rattle.zerotrie_sets.specs.declared.selection.Selection.{Selection}
+use Rattle.zerotrie_queries.specs.declared.reports.ReportForm.{ReportForm}
+use Rattle.zerotrie_queries.specs.declared.reports.ReportForm.TheVariants as report
 use Rattle.zerotrie_run.specs.declared.command.Build.{Build}
 use Rattle.zerotrie_run.specs.declared.command.Combine.{Combine}
 use Rattle.zerotrie_run.specs.declared.command.Command.{Command}
@@ -14,51 +13,20 @@ use Rattle.zerotrie_run.specs.declared.command.Command.TheVariants as command
 use Rattle.zerotrie_run.specs.declared.command.Diff.{Diff}
 use Rattle.zerotrie_run.specs.declared.command.Place.{Place}
 use Rattle.zerotrie_run.specs.declared.command.Place.TheVariants.{File, Stream}
+use Rattle.zerotrie_words.specs.Builds.{IsBuild, IsBuildMisuse, IsCombination, IsCombinationMisuse}
 use Rattle.zerotrie_words.specs.Diffs.{IsDiff}
-use Rattle.zerotrie_words.specs.Refusals.{IsNoBuild, IsNoContent, IsNoKind, IsNoProgress, IsNoQuestion, IsSaid, NamesNone}
-use Rattle.zerotrie_queries.specs.declared.reports.ReportForm.{ReportForm}
-use Rattle.zerotrie_queries.specs.declared.reports.ReportForm.TheVariants as report
-use Rattle.zerotrie_words.specs.Words.{AreTogether, IsReportForm, IsAsk, IsFlag, IsForm, IsKind, IsPlan, IsSource, IsSummary, IsTarget, files_of, flag_of, given_words, word_of}
+use Rattle.zerotrie_words.specs.Options.{AreBuildOptions, AreMakeOptions}
+use Rattle.zerotrie_words.specs.Questions.{IsAsk, IsAskMisuse}
+use Rattle.zerotrie_words.specs.Refusals.{IsNoKind, IsUnknown}
+use Rattle.zerotrie_words.specs.Words.{IsFlag, IsReportForm, IsSource, files_of, flag_of, given_words, word_of}
+use Rattle.zerotrie_words.specs.declared.misuse.Misuse.{Misuse}
+use Rattle.zerotrie_words.specs.declared.options.BuildOptions.{BuildOptions}
+use Rattle.zerotrie_words.specs.declared.options.MakeOptions.{MakeOptions}
 use Rattle.zerotrie_words.specs.declared.reply.Reply.{Reply}
 use Rattle.zerotrie_words.specs.declared.reply.Reply.TheVariants as reply
 use Rattle.zerotrie_words.specs.declared.task.Task.{Task}
 use Rattle.zerotrie_words.specs.declared.task.Task.TheVariants as task
 use Rattle.zerotrie_words.specs.declared.task.Topic.TheVariants as topic
-
--- The build that the words ask for. What it made is told always if messages go to a terminal.
-pub record IsBuild (matches : ArgMatches) (to_terminal : Bool) (build : Build) : Type 0 where
-  pub from : IsSource (word_of matches (codes "IN")) build.from
-  pub to : IsTarget (word_of matches (codes "output")) build.to
-  pub plan : IsPlan matches build.plan
-  pub no_clobber : IsFlag (flag_of matches (codes "no-clobber")) build.no_clobber
-  pub summary : IsSummary to_terminal (flag_of matches (codes "summary")) (flag_of matches (codes "quiet")) build.summary
-
--- which value a key gets that several tries have, by its word
-abbrev pub rule_word : Rule → List ℕ
-rule_word First = codes "first"
-rule_word Last = codes "last"
-rule_word Sum = codes "sum"
-rule_word Min = codes "min"
-rule_word Max = codes "max"
-rule_word Equal = codes "equal"
-rule_word Refuse = codes "refuse"
-
--- the rule of a word; without one it is that of the first
-abbrev pub IsRule : Option (List ℕ) → Rule → Type 0
-IsRule None rule = rule ≡ First
-IsRule (Some word) rule = word ≡ rule_word rule
-
--- The combination that they ask for, of the tries in these places. What it made is told as by a build.
-pub record IsCombination (matches : ArgMatches) (which : Selection) (places : List Place) (to_terminal : Bool) (c : Combine) : Type 0 where
-  pub from : c.from.now ≡ places
-  pub selection : c.combination.selection ≡ which
-  pub rule : IsRule (word_of matches (codes "values")) c.combination.rule
-  pub to : IsTarget (word_of matches (codes "output")) c.to
-  pub kind : IsKind (word_of matches (codes "kind")) c.combination.kind
-  pub form : IsForm (flag_of matches (codes "tagged")) (flag_of matches (codes "bare")) (flag_of matches (codes "index")) c.combination.form
-  pub together : AreTogether c.combination.form c.combination.kind
-  pub no_clobber : IsFlag (flag_of matches (codes "no-clobber")) c.no_clobber
-  pub summary : IsSummary to_terminal (flag_of matches (codes "summary")) (flag_of matches (codes "quiet")) c.summary
 
 -- two places are not the file of one path
 abbrev pub AreApart : Place → Place → Type 0
@@ -106,10 +74,12 @@ file_count matches (task.Combine selection) = 1
 
 -- the command of a task for the file with this number: a build does not replace its own input
 abbrev pub IsCommand : ArgMatches → Option (List (List ℕ)) → List Place → Bool → ℕ → Task → Command → Type 0
-IsCommand matches texts places to_terminal n task.Build c = (build : Build) × IsBuild matches to_terminal build × AreApart build.from build.to × (c ≡ command.Build build)
+IsCommand matches texts places to_terminal n task.Build c = (o : BuildOptions) × AreBuildOptions matches o
+    × ((build : Build) × IsBuild o to_terminal build × AreApart build.from build.to × (c ≡ command.Build build))
 IsCommand matches texts places to_terminal n (task.Ask topic) c = IsAsk matches topic n texts c
 IsCommand matches texts places to_terminal n task.Diff c = (diff : Diff) × IsDiff matches diff × (c ≡ command.Diff diff)
-IsCommand matches texts places to_terminal n (task.Combine selection) c = (of : Combine) × IsCombination matches selection places to_terminal of × (c ≡ command.Combine of)
+IsCommand matches texts places to_terminal n (task.Combine selection) c = (o : MakeOptions) × AreMakeOptions matches o
+    × ((of : Combine) × IsCombination o (word_of matches (codes "values")) selection places to_terminal of × (c ≡ command.Combine of))
 
 -- the name in front of what is printed of one of several files, unless that is JSON
 abbrev pub heading : ReportForm → List (List ℕ) → ℕ → Option (List ℕ)
@@ -149,25 +119,25 @@ IsQuiet (task.Ask topic.Code) matches quiet = quiet ≡ false
 IsQuiet task.Diff matches quiet = IsFlag (flag_of matches (codes "quiet")) quiet
 IsQuiet (task.Combine selection) matches quiet = quiet ≡ false
 
--- the words are no combination
-abbrev pub IsNoCombination : ArgMatches → Type 0
-IsNoCombination matches = IsNoContent matches ⊎ (NamesNone rule_word (word_of matches (codes "values")) ⊎ IsNoProgress (flag_of matches (codes "summary")) (flag_of matches (codes "quiet")))
-
--- the words of a task are no command, or a build would replace its own input
-abbrev pub IsNoCommand : ArgMatches → Option (List (List ℕ)) → Task → Type 0
-IsNoCommand matches texts task.Build = IsNoBuild matches ⊎ ((from : Place) × (to : Place) × IsSource (word_of matches (codes "IN")) from × IsTarget (word_of matches (codes "output")) to × AreOneFile from to)
-IsNoCommand matches texts (task.Ask topic) = IsNoKind (word_of matches (codes "bare-kind")) ⊎ IsNoQuestion matches topic texts
-IsNoCommand matches texts task.Diff = IsNoKind (word_of matches (codes "bare-kind"))
-IsNoCommand matches texts (task.Combine selection) = IsNoCombination matches
+-- the words of a task are no command
+abbrev pub IsCommandMisuse : ArgMatches → Option (List (List ℕ)) → Task → Misuse → Type 0
+IsCommandMisuse matches texts task.Build why = (o : BuildOptions) × AreBuildOptions matches o × IsBuildMisuse o why
+IsCommandMisuse matches texts (task.Ask topic) why = IsAskMisuse matches topic texts why
+IsCommandMisuse matches texts task.Diff why = IsUnknown (IsNoKind (word_of matches (codes "bare-kind"))) why
+IsCommandMisuse matches texts (task.Combine selection) why = (o : MakeOptions) × AreMakeOptions matches o × IsCombinationMisuse o (word_of matches (codes "values")) why
 
 -- a reply names the path that two places have in common
 abbrev pub NamesOneFile : Place → Place → Reply → Type 0
 NamesOneFile from to said = (path : Bor (List ℕ)) × (other : Bor (List ℕ)) × (from ≡ File path) × (to ≡ File other) × (path.now ≡ other.now) × (said ≡ reply.OneFile path other)
 
--- what is said of words that are no command: a message, or the path of a build's input and its output
-abbrev pub IsRefusal : ArgMatches → Reply → Type 0
-IsRefusal matches (reply.Help text) = ⊥
-IsRefusal matches (reply.Misuse text) = ⊥
-IsRefusal matches (reply.Refusal why) = IsSaid why
-IsRefusal matches (reply.OneFile path other) = (word_of matches (codes "IN") ≡ Some path.now) × (word_of matches (codes "output") ≡ Some other.now) × (path.now ≡ other.now)
-IsRefusal matches reply.OutOfMemory = ⊥
+-- the input of a build is its output, by this path
+abbrev pub ReplacesInput : ArgMatches → Task → (from to : List ℕ) → Type 0
+ReplacesInput matches t from to = (t ≡ task.Build) × (word_of matches (codes "IN") ≡ Some from) × (word_of matches (codes "output") ≡ Some to) × (from ≡ to)
+
+-- what is said of words that are no command: how they are misused, or the path of a build's input and its output
+abbrev pub IsRefusal : ArgMatches → Option (List (List ℕ)) → Task → Reply → Type 0
+IsRefusal matches texts t (reply.Help text) = ⊥
+IsRefusal matches texts t (reply.Misuse text) = ⊥
+IsRefusal matches texts t (reply.Refusal why) = IsCommandMisuse matches texts t why
+IsRefusal matches texts t (reply.OneFile path other) = ReplacesInput matches t path.now other.now
+IsRefusal matches texts t reply.OutOfMemory = ⊥

@@ -82,6 +82,15 @@ flag_of matches name = one_text (found_of matches) name
 abbrev pub IsFlag : Option (List ℕ) → Bool → Type 0
 IsFlag word flag = (word ≡ Some (codes "true") → flag ≡ true) × (word ≡ Some (codes "false") → flag ≡ false) × (word ≡ None → flag ≡ false)
 
+-- a text has a character
+abbrev pub HasText : List ℕ → Type 0
+HasText [] = ⊥
+HasText (c ∷ text) = Unit {0}
+
+-- a message says something
+abbrev pub IsSaid : Bor (List ℕ) → Type 0
+IsSaid why = HasText why.now
+
 -- how a format of input is named
 abbrev pub format_word : Input → List ℕ
 format_word input.Tsv = codes "tsv"
@@ -148,20 +157,6 @@ IsSourceOf input.Lines raw end header source = (raw ≡ false) × (source ≡ Te
 IsSourceOf input.Json raw end header source = (raw ≡ false) × (source ≡ Json)
 IsSourceOf input.JsonLines raw end header source = (raw ≡ false) × (source ≡ JsonLines)
 
--- What the input of a build is, by its words.
-pub record IsInput (matches : ArgMatches) (source : Source) : Type 0 where
-  pub format : Input
-  pub named : IsFormat (word_of matches (codes "format")) (word_of matches (codes "IN")) format
-  pub end : LineEnd
-  pub ended : IsEnd (word_of matches (codes "eol")) end
-  pub lines : MayNameEnd format (word_of matches (codes "eol"))
-  pub header : Header
-  pub headed : IsFlag (flag_of matches (codes "header")) (has_header header)
-  pub columns : MayHaveHeader format header
-  pub raw : Bool
-  pub flag : IsFlag (flag_of matches (codes "raw")) raw
-  pub of : IsSourceOf format raw end header source
-
 -- what becomes of a key that comes again, by its word
 abbrev pub duplicates_word : Duplicates → List ℕ
 duplicates_word again.Refuse = codes "refuse"
@@ -180,10 +175,6 @@ form_by false false true = Some made.Index
 form_by true true false = None
 form_by true bare true = None
 form_by false true true = None
-
--- what it has by the words of these flags
-abbrev pub IsForm : Option (List ℕ) → Option (List ℕ) → Option (List ℕ) → FileForm → Type 0
-IsForm tagged bare index form = (t : Bool) × (b : Bool) × (x : Bool) × IsFlag tagged t × IsFlag bare b × IsFlag index x × (form_by t b x ≡ Some form)
 
 -- a file that has this may have such a kind: an index has none
 abbrev pub AreTogether : FileForm → Option TrieKind → Type 0
@@ -216,18 +207,11 @@ IsFormOf false true word f = IsTsv word × (f ≡ form.Lines style.TsvRaw)
 IsFormOf false false None f = f ≡ form.Lines style.Tsv
 IsFormOf false false (Some word) f = Some word ≡ form_word f
 
-abbrev pub IsListForm : ArgMatches → Form → Type 0
-IsListForm matches f = (count : Bool) × (raw : Bool) × IsFlag (flag_of matches (codes "count")) count × IsFlag (flag_of matches (codes "raw")) raw
-    × IsFormOf count raw (word_of matches (codes "format")) f
-
 -- the order of a list: that of the bytes by a flag, but not if it is only to be counted
 abbrev pub order_by : Bool → Bool → Order
 order_by true sorted = order.Stored
 order_by false true = order.ByBytes
 order_by false false = order.Stored
-
-abbrev pub IsOrder : Option (List ℕ) → Option (List ℕ) → Order → Type 0
-IsOrder count sorted o = (c : Bool) × (s : Bool) × IsFlag count c × IsFlag sorted s × (o ≡ order_by c s)
 
 -- the order of keys that a number of edits make of a word: the nearest first, but in the order of the bytes by a flag, and in
 -- any if they are only to be counted
@@ -237,14 +221,10 @@ near_by false true = order.ByBytes
 near_by false false = order.Nearest
 
 -- the order of a search: of keys that are near a word, and without a number of edits, only those of the fewest edits
-abbrev pub search_order : (fuzzy edits : Option (List ℕ)) → Bool → Bool → Order
+abbrev pub search_order : (fuzzy edits : Option (Bor (List ℕ))) → Bool → Bool → Order
 search_order None edits = order_by
 search_order (Some word) None = λ count sorted. order.Closest
 search_order (Some word) (Some edits) = near_by
-
-abbrev pub IsSearchOrder : ArgMatches → Order → Type 0
-IsSearchOrder matches o = (c : Bool) × (s : Bool) × IsFlag (flag_of matches (codes "count")) c × IsFlag (flag_of matches (codes "sorted")) s
-    × (o ≡ search_order (word_of matches (codes "fuzzy")) (word_of matches (codes "edits")) c s)
 
 -- the decimal number of a word, which may begin with a plus
 abbrev pub IsNumberOf : List ℕ → ℕ → Type 0
@@ -261,11 +241,6 @@ abbrev pub most_of : (quiet : Bool) → Option ℕ → Option ℕ
 most_of false limit = limit
 most_of true (Some limit) = Some (min limit 1)
 most_of true None = Some 1
-
--- the same by the words
-abbrev pub IsMost : ArgMatches → Option ℕ → Type 0
-IsMost matches most = (quiet : Bool) × (limit : Option ℕ) × IsFlag (flag_of matches (codes "quiet")) quiet × IsLimit (word_of matches (codes "limit")) limit
-    × (most ≡ most_of quiet limit)
 
 -- the byte at which a key may end: the one byte of the word
 abbrev pub IsBorder : Option (List ℕ) → Option ℕ → Type 0
@@ -349,16 +324,6 @@ abbrev pub IsTarget : Option (List ℕ) → Place → Type 0
 IsTarget word (File path) = IsPlace word (File path) × (path.now ≢ codes "/dev/stdout") × (path.now ≢ codes "/dev/fd/1")
 IsTarget word Stream = IsPlace word Stream ⊎ (word ≡ Some (codes "/dev/stdout")) ⊎ (word ≡ Some (codes "/dev/fd/1"))
 
--- How a file is to be made, by the words of a build.
-pub record IsPlan (matches : ArgMatches) (plan : Plan) : Type 0 where
-  pub source : IsInput matches plan.read.source
-  pub duplicates : word_of matches (codes "duplicates") ≡ Some (duplicates_word plan.read.duplicates)
-  pub kind : IsKind (word_of matches (codes "kind")) plan.file.kind
-  pub sorted : IsFlag (flag_of matches (codes "sorted")) plan.file.sorted
-  pub lower_case : IsFlag (flag_of matches (codes "lower-case")) plan.read.lower_case
-  pub form : IsForm (flag_of matches (codes "tagged")) (flag_of matches (codes "bare")) (flag_of matches (codes "index")) plan.file.form
-  pub together : AreTogether plan.file.form plan.file.kind
-
 -- when a build reports what it made: always if messages go to a terminal, else if there are no keys; but one flag says always, the
 -- other never
 abbrev pub summary_by : (to_terminal progress quiet : Bool) → Option Summary
@@ -367,9 +332,6 @@ summary_by false false false = Some summary.IfEmpty
 summary_by to_terminal true false = Some summary.Always
 summary_by to_terminal false true = Some summary.Never
 summary_by to_terminal true true = None
-
-abbrev pub IsSummary : Bool → Option (List ℕ) → Option (List ℕ) → Summary → Type 0
-IsSummary to_terminal progress quiet s = (p : Bool) × (q : Bool) × IsFlag progress p × IsFlag quiet q × (summary_by to_terminal p q ≡ Some s)
 
 -- the words of an argument, of all its uses
 abbrev pub words_of : ArgMatches → List ℕ → Option (List (List ℕ))
@@ -460,17 +422,6 @@ IsBelow word (Included key) = ⊥
 IsBelow word (Excluded key) = word ≡ Some key.now
 IsBelow word Unbounded = word ≡ None
 
-abbrev pub IsRange : ArgMatches → KeyRange → Type 0
-IsRange matches r = IsFrom (word_of matches (codes "from")) r.from × IsBelow (word_of matches (codes "below")) r.to
-
--- neither end of a range is there
-abbrev pub HasNoRange : ArgMatches → Type 0
-HasNoRange matches = (word_of matches (codes "from") ≡ None) × (word_of matches (codes "below") ≡ None)
-
--- the bytes that keys begin with, by their word
-abbrev pub IsFront : ArgMatches → List ℕ → Type 0
-IsFront matches prefix = prefix ≡ unwrap_or (word_of matches (codes "prefix")) []
-
 -- how the word of `glob` finds keys: by characters, or by bytes with a flag
 abbrev pub glob_by : Bool → SearchBy
 glob_by false = by.GlobChars
@@ -483,98 +434,6 @@ fuzzy_by false true edits = by.FuzzyChars edits
 fuzzy_by true false edits = by.Swaps edits
 fuzzy_by true true edits = by.Fuzzy edits
 
-abbrev pub IsGlobBy : Option (List ℕ) → SearchBy → Type 0
-IsGlobBy word b = (bytes : Bool) × IsFlag word bytes × (b ≡ glob_by bytes)
-
-abbrev pub IsFuzzyBy : (bytes plain : Option (List ℕ)) → ℕ → SearchBy → Type 0
-IsFuzzyBy bytes plain edits b = (x : Bool) × (y : Bool) × IsFlag bytes x × IsFlag plain y × (b ≡ fuzzy_by x y edits)
-
--- of the words of a search these are there
-abbrev pub AreGiven : ArgMatches → (glob fuzzy subsequence : Option (List ℕ)) → Type 0
-AreGiven matches glob fuzzy subsequence = (word_of matches (codes "glob") ≡ glob) × (word_of matches (codes "fuzzy") ≡ fuzzy) × (word_of matches (codes "subsequence") ≡ subsequence)
-
--- a flag of a word is there only if the word is
-abbrev pub AreSwapsUsed : ArgMatches → Type 0
-AreSwapsUsed matches = (plain : Bool) × IsFlag (flag_of matches (codes "no-transpose")) plain × (plain ≡ true → word_of matches (codes "fuzzy") ≢ None)
-
-abbrev pub AreBytesUsed : ArgMatches → Type 0
-AreBytesUsed matches = (flag : Bool) × IsFlag (flag_of matches (codes "bytes")) flag
-    × (flag ≡ true → word_of matches (codes "glob") ≡ None → word_of matches (codes "not") ≡ None → word_of matches (codes "fuzzy") ≢ None)
-
-abbrev pub AreBeginningsUsed : ArgMatches → Type 0
-AreBeginningsUsed matches = (flag : Bool) × IsFlag (flag_of matches (codes "beginnings")) flag × (flag ≡ true → word_of matches (codes "fuzzy") ≢ None)
-
--- each option of a word is there only if the word is
-pub record AreUsed (matches : ArgMatches) : Type 0 where
-  pub edits : word_of matches (codes "edits") ≢ None → word_of matches (codes "fuzzy") ≢ None
-  pub swaps : AreSwapsUsed matches
-  pub begins : AreBeginningsUsed matches
-  pub bytes : AreBytesUsed matches
-
--- a word finds keys by its option
-abbrev pub IsFoundBy : ArgMatches → List ℕ → SearchBy → Type 0
-IsFoundBy matches word b = (AreGiven matches (Some word) None None × IsGlobBy (flag_of matches (codes "bytes")) b)
-    ⊎ ((AreGiven matches None (Some word) None × ((edits : ℕ) × IsEdits (word_of matches (codes "edits")) edits × IsFuzzyBy (flag_of matches (codes "bytes")) (flag_of matches (codes "no-transpose")) edits b))
-    ⊎ (AreGiven matches None None (Some word) × (b ≡ by.Subsequence)))
-
--- which word keys are sought by, if one is given: one of its sort, by its option, without useless ones; by a flag keys need only begin
--- with what it finds
-abbrev pub IsSoughtBy : ArgMatches → Option Sought → Type 0
-IsSoughtBy matches None = AreGiven matches None None None × AreUsed matches
-IsSoughtBy matches (Some s) = IsFoundBy matches s.word.now s.by × IsFlag (flag_of matches (codes "beginnings")) s.begins
-    × ((e : WordError) → IsWordError s.by s.word.now e → ⊥) × AreUsed matches
-
--- the pattern that no key matches, if one is given: a pattern, of characters, or of bytes with a flag
-abbrev pub IsWithout : ArgMatches → Option Pattern → Type 0
-IsWithout matches None = word_of matches (codes "not") ≡ None
-IsWithout matches (Some p) = (word_of matches (codes "not") ≡ Some p.text.now) × IsGlobBy (flag_of matches (codes "bytes")) (pattern_by p.by_chars)
-    × ((e : WordError) → IsWordError (pattern_by p.by_chars) p.text.now e → ⊥)
-
--- The keys that are listed, by their words.
-pub record IsListed (matches : ArgMatches) (c : Choice) : Type 0 where
-  pub front : IsFront matches c.prefix.now
-  pub range : IsRange matches c.range
-  pub spared : c.without ≡ None
-  pub all : c.sought ≡ None
-
--- neither a prefix nor a range is there
-abbrev pub HasNoPart : ArgMatches → Type 0
-HasNoPart matches = (word_of matches (codes "prefix") ≡ None) × HasNoRange matches
-
--- no word says which keys are looked for
-abbrev pub SeeksNothing : ArgMatches → Type 0
-SeeksNothing matches = (word_of matches (codes "glob") ≡ None) × (word_of matches (codes "fuzzy") ≡ None) × (word_of matches (codes "subsequence") ≡ None)
-    × (word_of matches (codes "not") ≡ None) × HasNoPart matches
-
--- The keys that are looked for.
-pub record IsSought (matches : ArgMatches) (c : Choice) : Type 0 where
-  pub front : IsFront matches c.prefix.now
-  pub range : IsRange matches c.range
-  pub spared : IsWithout matches c.without
-  pub by : IsSoughtBy matches c.sought
-  pub some : SeeksNothing matches → ⊥
-
--- The pairs that are listed, by the words of a listing or a search: how, and in which order.
-pub record IsListing (matches : ArgMatches) (IsChoice : Choice → Type 0) (IsOrdered : Order → Type 0) (form : Form) (s : ListQuery) : Type 0 where
-  pub format : IsListForm matches form
-  pub chosen : IsChoice s.choice
-  pub ordered : IsOrdered s.order
-  pub most : IsMost matches s.limit
-
--- Keys are near a word, and nothing says otherwise how they are listed than with how many edits make each.
-pub record AreMeasured (matches : ArgMatches) : Type 0 where
-  pub near : word_of matches (codes "fuzzy") ≢ None
-  pub whole : IsFlag (flag_of matches (codes "beginnings")) false
-  pub format : word_of matches (codes "format") ≡ None
-  pub spelled : IsFlag (flag_of matches (codes "raw")) false
-  pub printed : IsFlag (flag_of matches (codes "count")) false
-  pub nearest : IsFlag (flag_of matches (codes "sorted")) false
-
--- what a search asks for, by whether distances are to be printed
-abbrev pub IsSearch : (distances : Bool) → ArgMatches → Question → Type 0
-IsSearch true matches q = (c : Choice) × (limit : Option ℕ) × AreMeasured matches × IsSought matches c × IsMost matches limit × (q ≡ question.Distances c limit)
-IsSearch false matches q = (f : Form) × (s : ListQuery) × IsListing matches (IsSought matches) (IsSearchOrder matches) f s × (q ≡ question.List f s)
-
 -- a name is none of those in zerotrie.h, if the language is C; of keywords, tests show it
 abbrev pub IsFree : Language → List ℕ → Type 0
 IsFree lang.Rust name = Unit {0}
@@ -582,29 +441,3 @@ IsFree lang.C name = starts_with eqb name (codes "zerotrie") ≡ false
 IsFree lang.CAlone name = starts_with eqb name (codes "zerotrie") ≡ false
 IsFree lang.Rattle name = Unit {0}
 IsFree lang.JavaScript name = Unit {0}
-
--- The code that is written, by the words of its command.
-pub record IsCode (matches : ArgMatches) (language : Language) (name : List ℕ) : Type 0 where
-  pub lang : word_of matches (codes "lang") ≡ Some (language_word language)
-  pub alone : IsFlag (flag_of matches (codes "alone")) (is_alone language)
-  pub called : name ≡ unwrap_or (word_of matches (codes "name")) (usual_name language)
-  pub word : is_name name ≡ true
-  pub free : IsFree language name
-
--- what a trie is asked, by the words of a command
-abbrev pub IsQuestion : ArgMatches → Topic → Option (List (List ℕ)) → Question → Type 0
-IsQuestion matches topic.Get texts q = (query : Query) × (of : Keys) × IsGet (flag_of matches (codes "keys")) query.asked × IsSpelling (flag_of matches (codes "escaped")) query.spelling
-    × AreKeysOf texts of × (q ≡ question.LookUp query of)
-IsQuestion matches topic.Longest texts q = (query : Query) × (of : Keys) × IsLongest matches query.asked × IsSpelling (flag_of matches (codes "escaped")) query.spelling
-    × AreKeysOf texts of × (q ≡ question.LookUp query of)
-IsQuestion matches topic.Reverse texts q = (of : Keys) × AreKeysOf texts of × (q ≡ question.LookUp (record { asked = asked.KeyOf; spelling = spelling.Plain }) of)
-IsQuestion matches topic.List texts q = (f : Form) × (s : ListQuery) × IsListing matches (IsListed matches) (IsOrder (flag_of matches (codes "count")) (flag_of matches (codes "sorted"))) f s × (q ≡ question.List f s)
-IsQuestion matches topic.Search texts q = (distances : Bool) × IsFlag (flag_of matches (codes "distance")) distances × IsSearch distances matches q
-IsQuestion matches topic.Verify texts q = q ≡ question.Verify
-IsQuestion matches topic.Stats texts q = (f : ReportForm) × IsReportForm (word_of matches (codes "format")) f × (q ≡ question.Report f)
-IsQuestion matches topic.Inspect texts q = (v : View) × IsView (word_of matches (codes "VIEW")) (word_of matches (codes "limit")) v × (q ≡ question.View v)
-IsQuestion matches topic.Code texts q = (language : Language) × (name : Bor (List ℕ)) × IsCode matches language name.now × (q ≡ question.Code language name)
-
--- the command that asks it of the file with this number
-abbrev pub IsAsk : ArgMatches → Topic → ℕ → Option (List (List ℕ)) → Command → Type 0
-IsAsk matches about n texts command = (file : TrieFile) × (q : Question) × IsFile matches about n file × IsQuestion matches about texts q × (command ≡ Ask file q)

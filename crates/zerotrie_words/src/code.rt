@@ -1,13 +1,15 @@
-//! The code of a program that the command line asks for.
+//! The code of a program that the options ask for.
 
-ghost use Rattle.std.specs.Prelude.{◌≡◌, ℕ, List, Some, IfErr, IfOk, IfSome, IfNone, false, true, codes};
+ghost use Rattle.std.specs.Prelude.{◌≡◌, ℕ, List, Some, IfErr, IfNone, IfOk, IfSome};
 ghost use Rattle.std.specs.Borrow.{Bor};
 ghost use Rattle.zerotrie_queries.specs.declared.code.Language.{Language};
-ghost use Rattle.zerotrie_words.specs.Refusals.{IsNoCode, IsNoLanguage, IsSaid, IsTaken};
-ghost use Rattle.zerotrie_words.specs.Words.{IsCode, IsFlag, IsFree, flag_of, is_alone, language_word, word_of};
 ghost use Rattle.zerotrie_run.specs.declared.command.Question.TheVariants as question;
+ghost use Rattle.zerotrie_words.specs.Options.{text_of};
+ghost use Rattle.zerotrie_words.specs.Questions.{IsCode, IsCodeMisuse, IsLanguageMisuse, IsTaken};
+ghost use Rattle.zerotrie_words.specs.Words.{IsFree, is_alone, language_word};
 
-use clap::ArgMatches;
+use crate::misuse::Misuse;
+use crate::options::CodeOptions;
 use zerotrie_queries::{Language, is_name};
 use zerotrie_run::Question;
 
@@ -74,16 +76,24 @@ const JS_KEYWORDS: &[&str] = &[
     "ZeroTrie",
 ];
 
-/// Returns whether the name is a keyword of the language. In C, also whether it begins with
-/// `zerotrie`: the names made from it could then be those of `zerotrie.h`.
-fn is_taken(language: Language, name: &str) -> bool
-    ensures yes { result ≡ true → IsTaken language name.now }
-    ensures no { result ≡ false → IsFree language name.now }
+/// Returns why a name can't be taken, if so: it is a keyword of the language, or in C it begins with
+/// `zerotrie`, as names made from it could then be those of `zerotrie.h`.
+fn taken(language: Language, name: &str) -> Option<Misuse>
+    ensures some { IfSome result (IsTaken language name.now) }
+    ensures none { IfNone result (IsFree language name.now) }
 {
     match language {
-        Language::Rust | Language::Rattle => KEYWORDS.iter().any(|word| *word == name),
-        Language::C | Language::CAlone => name.starts_with("zerotrie"),
-        Language::JavaScript => JS_KEYWORDS.iter().any(|word| *word == name),
+        Language::Rust | Language::Rattle if KEYWORDS.iter().any(|word| *word == name) => {
+            Some(Misuse::NameIsKeyword)
+        }
+        Language::JavaScript if JS_KEYWORDS.iter().any(|word| *word == name) => {
+            Some(Misuse::NameIsKeyword)
+        }
+        Language::C | Language::CAlone if name.starts_with("zerotrie") => {
+            Some(Misuse::NameOfHeader)
+        }
+        Language::Rust | Language::Rattle | Language::JavaScript | Language::C | Language::CAlone =>
+            None,
     }
 }
 
@@ -105,52 +115,38 @@ fn language_named(name: &str, alone: bool) -> Option<Language>
     }
 }
 
-/// Returns the language that is named, or C with the reader in front.
-fn language_in(matches: &ArgMatches<'_>) -> Result<Language, &'static str>
-    ensures word { IfOk result (λ language.
-        word_of matches.now (codes "lang") ≡ Some (language_word language)) }
-    ensures alone { IfOk result (λ language.
-        IsFlag (flag_of matches.now (codes "alone")) (is_alone language)) }
-    ensures refused { IfErr result (λ _. IsNoLanguage matches.now) }
-    ensures said { IfErr result IsSaid }
-{
-    let Some(name) = matches.get_str("lang") else {
-        return Err("--lang asks for a language");
-    };
-    let alone = matches.get_flag("alone");
-    match language_named(name, alone) {
-        Some(language) => Ok(language),
-        None if alone => Err("--alone is for --lang c"),
-        None => Err("--lang asks for a language"),
-    }
-}
-
-/// Returns what is said of a name that is taken.
-fn taken_refused(language: Language) -> &'static str
-    ensures { IsSaid result }
-{
-    match language {
-        Language::C | Language::CAlone => "--name asks for no name that begins with zerotrie",
-        Language::Rust | Language::Rattle | Language::JavaScript => {
-            "--name asks for no keyword of the language"
+impl<'a> CodeOptions<'a> {
+    /// Returns the language that is named, or C with the reader in front.
+    fn language(&self) -> Result<Language, Misuse>
+        ensures word { IfOk result (λ language.
+            text_of self.now.lang ≡ Some (language_word language)) }
+        ensures alone { IfOk result (λ language. is_alone language ≡ self.now.alone) }
+        ensures refused { IfErr result (IsLanguageMisuse self.now) }
+    {
+        let Some(name) = self.lang else {
+            return Err(Misuse::UnknownWord);
+        };
+        match language_named(name, self.alone) {
+            Some(language) => Ok(language),
+            None if self.alone => Err(Misuse::AloneIsC),
+            None => Err(Misuse::UnknownWord),
         }
     }
-}
 
-/// Returns the code that is asked for. It is an error, with the message, if it can't have its name.
-pub fn code_in<'a>(matches: &ArgMatches<'a>) -> Result<Question<'a>, &'static str>
-    ensures code { IfOk result (λ asked. (language : Language) × (name : Bor (List ℕ))
-        × IsCode matches.now language name.now × (asked ≡ question.Code language name)) }
-    ensures refused { IfErr result (λ _. IsNoCode matches.now) }
-    ensures said { IfErr result IsSaid }
-{
-    let language = language_in(matches)?;
-    let name = matches.get_str("name").unwrap_or(language.usual_name());
-    if !is_name(name) {
-        return Err("--name asks for ASCII letters, digits and _, and no digit in front");
+    /// Returns what `code` asks for. It is an error if the code can't have its name.
+    pub fn question(&self) -> Result<Question<'a>, Misuse>
+        ensures code { IfOk result (λ asked. (language : Language) × (name : Bor (List ℕ))
+            × IsCode self.now language name.now × (asked ≡ question.Code language name)) }
+        ensures refused { IfErr result (IsCodeMisuse self.now) }
+    {
+        let language = self.language()?;
+        let name = self.name.unwrap_or(language.usual_name());
+        if !is_name(name) {
+            return Err(Misuse::BadName);
+        }
+        match taken(language, name) {
+            Some(misuse) => Err(misuse),
+            None => Ok(Question::Code(language, name)),
+        }
     }
-    if is_taken(language, name) {
-        return Err(taken_refused(language));
-    }
-    Ok(Question::Code(language, name))
 }

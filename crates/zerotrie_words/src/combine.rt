@@ -2,12 +2,15 @@
 
 ghost use Rattle.std.specs.Prelude.{◌≡◌, IfErr, IfNone, IfOk, IfSome, codes, map};
 ghost use Rattle.zerotrie_sets.specs.declared.selection.Rule.{Rule};
-ghost use Rattle.zerotrie_words.specs.Refusals.{IsSaid, NamesNone};
-ghost use Rattle.zerotrie_words.specs.Requests.{ArePlaces, AreSources, IsCombination, IsNoCombination, IsRule, rule_word};
-ghost use Rattle.zerotrie_words.specs.Words.{files_of, word_of};
+ghost use Rattle.zerotrie_words.specs.Builds.{IsCombination, IsCombinationMisuse, IsRule, rule_word};
+ghost use Rattle.zerotrie_words.specs.Options.{text_of};
+ghost use Rattle.zerotrie_words.specs.Refusals.{IsUnknown, NamesNone};
+ghost use Rattle.zerotrie_words.specs.Requests.{ArePlaces, AreSources};
+ghost use Rattle.zerotrie_words.specs.Words.{files_of};
 
-use crate::build::{content_in, summary_in, target_in};
+use crate::misuse::Misuse;
 use crate::names::source_of;
+use crate::options::MakeOptions;
 use crate::task::Task;
 use clap::ArgMatches;
 use std::alloc::{AllocError, Global};
@@ -68,45 +71,45 @@ fn rule_named(name: &str) -> Option<Rule>
 }
 
 /// Returns which value a key gets that several tries have. `minus` has no such key, and no word for it.
-fn rule_in(matches: &ArgMatches<'_>) -> Result<Rule, &'static str>
-    ensures rule { IfOk result (IsRule (word_of matches.now (codes "values"))) }
-    ensures refused { IfErr result (λ _.
-        NamesNone rule_word (word_of matches.now (codes "values"))) }
-    ensures said { IfErr result IsSaid }
+fn rule_of(values: Option<&str>) -> Result<Rule, Misuse>
+    ensures rule { IfOk result (IsRule (text_of values.entry)) }
+    ensures refused { IfErr result (IsUnknown (NamesNone rule_word (text_of values.entry))) }
 {
-    match matches.get_str("values") {
-        Some(name) => {
-            rule_named(name).ok_or("--values asks for refuse, first, last, sum, min, max or equal")
-        }
+    match values {
+        Some(name) => rule_named(name).ok_or(Misuse::UnknownWord),
         None => Ok(Rule::First),
     }
 }
 
-/// Returns the combination that is asked for, of the tries in these places. It is an error, with the
-/// message, if an option has a wrong word, or options exclude each other.
-pub fn combine_in<'w, 'a: 'w>(
-    matches: &ArgMatches<'a>,
-    selection: Selection,
-    places: &'w [Place<'a>],
-    to_terminal: bool,
-) -> Result<Combine<'w>, &'static str>
-    ensures combination { IfOk result
-        (IsCombination matches.now selection places.now to_terminal) }
-    ensures refused { IfErr result (λ _. IsNoCombination matches.now) }
-    ensures said { IfErr result IsSaid }
-{
-    let (kind, form) = content_in(matches)?;
-    let rule = rule_in(matches)?;
-    Ok(Combine {
-        from: places,
-        to: target_in(matches),
-        combination: Combination {
-            selection,
-            rule,
-            kind,
-            form,
-        },
-        no_clobber: matches.get_flag("no-clobber"),
-        summary: summary_in(matches, to_terminal)?,
-    })
+impl<'a> MakeOptions<'a> {
+    /// Returns the combination that is asked for, of the tries in these places, with the word of its
+    /// rule. What it made is told always if messages go to a terminal.
+    pub fn combination<'w>(
+        &self,
+        values: Option<&str>,
+        selection: Selection,
+        places: &'w [Place<'a>],
+        to_terminal: bool,
+    ) -> Result<Combine<'w>, Misuse>
+    where
+        'a: 'w,
+        ensures combination { IfOk result
+            (IsCombination self.now (text_of values.entry) selection places.now to_terminal) }
+        ensures refused { IfErr result (IsCombinationMisuse self.now (text_of values.entry)) }
+    {
+        let (kind, form) = self.content()?;
+        let rule = rule_of(values)?;
+        Ok(Combine {
+            from: places,
+            to: self.target(),
+            combination: Combination {
+                selection,
+                rule,
+                kind,
+                form,
+            },
+            no_clobber: self.no_clobber,
+            summary: self.told(to_terminal)?,
+        })
+    }
 }

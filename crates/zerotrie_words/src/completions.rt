@@ -17,6 +17,7 @@ pub const SHELLS: &[&str] = &["bash", "zsh", "fish"];
 const FILES: &[&str] = &["FILE", "IN", "OUT", "OLD", "NEW"];
 
 /// What a shell offers for a word.
+#[derive(Drop)]
 enum Offer {
     /// These words.
     Words(&'static [&'static str]),

@@ -1,24 +1,24 @@
 //! The comparison that the command line asks for.
 
 ghost use Rattle.std.specs.Prelude.{IfErr, IfOk, codes};
-ghost use Rattle.zerotrie_words.specs.Refusals.{IsNoKind, IsSaid};
-ghost use Rattle.zerotrie_words.specs.Words.{word_of};
 ghost use Rattle.zerotrie_words.specs.Diffs.{IsDiff};
+ghost use Rattle.zerotrie_words.specs.Refusals.{IsNoKind, IsUnknown};
+ghost use Rattle.zerotrie_words.specs.Words.{word_of};
 
-use crate::names::{kind_in, source_in};
+use crate::misuse::Misuse;
+use crate::names::{kind_of, source_of};
 use clap::ArgMatches;
 use zerotrie_run::Diff;
 
-/// Returns the comparison that is asked for. It is an error, with the message, if an option has a
-/// wrong word.
-pub fn diff_in<'a>(matches: &ArgMatches<'a>) -> Result<Diff<'a>, &'static str>
+/// Returns the comparison that is asked for. It is an error if an option has a wrong word.
+pub fn diff_in<'a>(matches: &ArgMatches<'a>) -> Result<Diff<'a>, Misuse>
     ensures diff { IfOk result (IsDiff matches.now) }
-    ensures refused { IfErr result (λ _. IsNoKind (word_of matches.now (codes "bare-kind"))) }
-    ensures said { IfErr result IsSaid }
+    ensures refused { IfErr result
+        (IsUnknown (IsNoKind (word_of matches.now (codes "bare-kind")))) }
 {
     Ok(Diff {
-        old: source_in(matches, "OLD"),
-        new: source_in(matches, "NEW"),
-        bare: kind_in(matches, "bare-kind")?,
+        old: source_of(matches.get_str("OLD")),
+        new: source_of(matches.get_str("NEW")),
+        bare: kind_of(matches.get_str("bare-kind"))?,
     })
 }

@@ -126,13 +126,15 @@ fn option_elsewhere<'a>(
     words: &'a [String],
 ) -> Option<(&'a str, &'static str)> {
     for word in words {
+        if word.as_str() == "--" {
+            return None;
+        }
         let (option, _) = word.as_str().split_once('=').unwrap_or((word.as_str(), ""));
         let name = option.strip_prefix("--").unwrap_or("");
         if !name.is_empty() && !has_option(row, name) {
             let mut all = rows.iter().copied().flatten();
-            return all
-                .find(|it| has_option(it, name))
-                .map(|it| (option, it.name));
+            let other = all.find(|it| has_option(it, name))?;
+            return Some((option, other.name));
         }
     }
     None
@@ -159,21 +161,25 @@ fn add_tip(
     text.push_str(" for a text that begins with a hyphen\n")
 }
 
-/// Adds what helps with words that are no command: a tip, if there is one, and where help is.
+/// Adds what helps with words that are no command: a tip, if clap gave none and there is one, and where
+/// help is.
 fn add_help(
     text: &mut String,
     rows: &[&'static [Subcommand]],
     words: &[String],
     bytes: &mut Vec<u8>,
 ) -> Result<(), AllocError> {
+    let has_tip = text.as_str().contains("  tip: ");
     let command = words.get(1).map_or("", |word| word.as_str());
     let Some(row) = row_of(rows, command) else {
         return text.push_str("zerotrie --help shows the commands\n");
     };
     if let Some((option, word)) = text_apart(row, words) {
         add_tip(text, option, word, bytes)?;
-    } else if let Some((option, name)) = option_elsewhere(rows, row, words) {
-        write!(text, "  tip: {option} is an option of {name}\n")?;
+    } else if !has_tip {
+        if let Some((option, name)) = option_elsewhere(rows, row, words) {
+            write!(text, "  tip: {option} is an option of {name}\n")?;
+        }
     }
     write!(text, "zerotrie {command} --help shows the options\n")
 }

@@ -1,12 +1,19 @@
-//! How the command line asks for pairs to be listed.
+//! How the options of a listing ask for pairs.
 
-ghost use Rattle.std.specs.Prelude.{◌≡◌, Some, IfErr, IfOk, IfSome, IfNone, codes};
-ghost use Rattle.zerotrie_words.specs.Refusals.{HasNoNumber, IsNoForm, IsSaid};
-ghost use Rattle.zerotrie_words.specs.Words.{IsLimit, IsListForm, IsMost, IsOrder, IsSearchOrder, flag_of, form_word, most_of, near_by, order_by, word_of};
+ghost use Rattle.std.specs.Prelude.{◌≡◌, Some, IfErr, IfNone, IfOk, IfSome};
+ghost use Rattle.std.specs.Option.{option_map};
 ghost use Rattle.zerotrie_queries.specs.declared.print.Form.{Form};
+ghost use Rattle.zerotrie_words.specs.Options.{text_of};
+ghost use Rattle.zerotrie_words.specs.Refusals.{HasNoNumber, IsUnknown};
+ghost use Rattle.zerotrie_words.specs.Searches.{IsFormMisuse, IsFront, IsLimitMisuse, IsList, IsListForm, IsListMisuse, IsListed, IsMost, IsRange};
+ghost use Rattle.zerotrie_words.specs.Words.{IsLimit, form_word, most_of, near_by, order_by, search_order};
 
-use clap::ArgMatches;
-use zerotrie_queries::{Form, Order, Style};
+use crate::misuse::Misuse;
+use crate::options::ListOptions;
+use std::ops::Bound;
+use zerotrie_queries::{Choice, Form, ListQuery, Order, Style};
+use zerotrie_run::Question;
+use zerotrie_search::KeyRange;
 
 /// Returns the form with this name, or `None` if no form of pairs has it.
 fn form_named(name: &str) -> Option<Form>
@@ -24,25 +31,7 @@ fn form_named(name: &str) -> Option<Form>
     }
 }
 
-/// Returns how pairs are to be printed. It is an error, with the message, if they are only to be
-/// counted, and a format is named, or if another format than `tsv` is to be raw.
-pub fn form_in(matches: &ArgMatches<'_>) -> Result<Form, &'static str>
-    ensures form { IfOk result (IsListForm matches.now) }
-    ensures refused { IfErr result (λ _. IsNoForm matches.now) }
-    ensures said { IfErr result IsSaid }
-{
-    let named = matches.get_str("format");
-    match (matches.get_flag("count"), matches.get_flag("raw"), named) {
-        (true, false, None) => Ok(Form::Count),
-        (true, _, _) => Err("--count prints no pairs: leave out --format and --raw"),
-        (false, true, None | Some("tsv")) => Ok(Form::Lines(Style::TsvRaw)),
-        (false, true, Some(_)) => Err("--raw is for tsv"),
-        (false, false, None) => Ok(Form::Lines(Style::Tsv)),
-        (false, false, Some(name)) => form_named(name).ok_or("--format asks for a format"),
-    }
-}
-
-/// Returns the order of pairs by the flags of the command line. What is only to be counted needs none.
+/// Returns the order of pairs by flags. What is only to be counted needs none.
 fn order_by(count: bool, sorted: bool) -> Order
     ensures { result ≡ order_by count sorted }
 {
@@ -52,7 +41,7 @@ fn order_by(count: bool, sorted: bool) -> Order
     }
 }
 
-/// Returns the order of keys that a number of edits make of a word, by the flags of the command line.
+/// Returns the order of keys that a number of edits make of a word, by flags.
 fn near_by(count: bool, sorted: bool) -> Order
     ensures { result ≡ near_by count sorted }
 {
@@ -63,40 +52,18 @@ fn near_by(count: bool, sorted: bool) -> Order
     }
 }
 
-/// Returns the order in which pairs are to be printed.
-pub fn order_in(matches: &ArgMatches<'_>) -> Order
-    ensures { IsOrder (flag_of matches.now (codes "count")) (flag_of matches.now (codes "sorted"))
-        result }
+/// Returns the number that the word of a limit is, or `None` if there is none. It is an error if the
+/// word is no number, which clap refuses.
+pub fn limit_of(word: Option<&str>) -> Result<Option<usize>, Misuse>
+    ensures limit { IfOk result (IsLimit (text_of word.entry)) }
+    ensures refused { IfErr result (IsLimitMisuse word.entry) }
 {
-    order_by(matches.get_flag("count"), matches.get_flag("sorted"))
-}
-
-/// Returns the order in which the pairs of a search are to be printed. If keys are near a word, and no
-/// number of edits is given, only those of the fewest edits are, and else the nearest come first.
-pub fn search_order_in(matches: &ArgMatches<'_>) -> Order
-    ensures { IsSearchOrder matches.now result }
-{
-    let (count, sorted) = (matches.get_flag("count"), matches.get_flag("sorted"));
-    match (matches.get_str("fuzzy"), matches.get_str("edits")) {
-        (Some(_), None) => Order::Closest,
-        (Some(_), Some(_)) => near_by(count, sorted),
-        (None, _) => order_by(count, sorted),
-    }
-}
-
-/// Returns the number that a limit is, or `None` if there is none. It is an error, with the
-/// message, if the word is no number, which clap refuses.
-pub fn limit_in(matches: &ArgMatches<'_>) -> Result<Option<usize>, &'static str>
-    ensures limit { IfOk result (IsLimit (word_of matches.now (codes "limit"))) }
-    ensures refused { IfErr result (λ _. HasNoNumber 64 (word_of matches.now (codes "limit"))) }
-    ensures said { IfErr result IsSaid }
-{
-    let Some(word) = matches.get_str("limit") else {
+    let Some(word) = word else {
         return Ok(None);
     };
     match word.parse() {
         Ok(limit) => Ok(Some(limit)),
-        Err(_) => Err("--limit asks for a number"),
+        Err(_) => Err(Misuse::UnknownWord),
     }
 }
 
@@ -111,13 +78,90 @@ fn most_of(quiet: bool, limit: Option<usize>) -> Option<usize>
     }
 }
 
-/// Returns how many pairs are listed at most, which is one if none is printed. It is an error, with the
-/// message, if the word of the limit is no number, which clap refuses.
-pub fn most_in(matches: &ArgMatches<'_>) -> Result<Option<usize>, &'static str>
-    ensures most { IfOk result (IsMost matches.now) }
-    ensures refused { IfErr result (λ _. HasNoNumber 64 (word_of matches.now (codes "limit"))) }
-    ensures said { IfErr result IsSaid }
-{
-    let limit = limit_in(matches)?;
-    Ok(most_of(matches.get_flag("quiet"), limit))
+impl<'a> ListOptions<'a> {
+    /// Returns how pairs are to be printed.
+    pub fn form(&self) -> Result<Form, Misuse>
+        ensures form { IfOk result (IsListForm self.now) }
+        ensures refused { IfErr result (IsFormMisuse self.now) }
+    {
+        match (self.count, self.raw, self.format) {
+            (true, false, None) => Ok(Form::Count),
+            (true, _, _) => Err(Misuse::CountWithForm),
+            (false, true, None | Some("tsv")) => Ok(Form::Lines(Style::TsvRaw)),
+            (false, true, Some(_)) => Err(Misuse::RawIsTsv),
+            (false, false, None) => Ok(Form::Lines(Style::Tsv)),
+            (false, false, Some(name)) => form_named(name).ok_or(Misuse::UnknownWord),
+        }
+    }
+
+    /// Returns the order in which the pairs of a search are to be printed, by whether it has a word
+    /// that keys are near, and a number of edits. Without this number only keys of the fewest edits
+    /// are, and else the nearest come first.
+    pub fn search_order(&self, fuzzy: Option<&str>, edits: Option<&str>) -> Order
+        ensures { result ≡ search_order fuzzy.entry edits.entry self.now.count self.now.sorted }
+    {
+        match (fuzzy, edits) {
+            (Some(_), None) => Order::Closest,
+            (Some(_), Some(_)) => near_by(self.count, self.sorted),
+            (None, _) => order_by(self.count, self.sorted),
+        }
+    }
+
+    /// Returns how many pairs are listed at most.
+    pub fn most(&self) -> Result<Option<usize>, Misuse>
+        ensures most { IfOk result (IsMost self.now) }
+        ensures refused { IfErr result (IsLimitMisuse self.now.limit) }
+    {
+        let limit = limit_of(self.limit)?;
+        Ok(most_of(self.quiet, limit))
+    }
+
+    /// Returns what keys have to begin with.
+    pub fn front(&self) -> &'a [u8]
+        ensures { IsFront self.now result.now }
+    {
+        self.prefix.unwrap_or("").as_bytes()
+    }
+
+    /// Returns the range that keys have to be in.
+    pub fn range(&self) -> KeyRange<'a>
+        ensures { IsRange self.now result }
+    {
+        KeyRange {
+            from: match self.from {
+                Some(word) => Bound::Included(word.as_bytes()),
+                None => Bound::Unbounded,
+            },
+            to: match self.below {
+                Some(word) => Bound::Excluded(word.as_bytes()),
+                None => Bound::Unbounded,
+            },
+        }
+    }
+
+    /// Returns which keys are listed: those with a prefix, in a range.
+    fn choice(&self) -> Choice<'a>
+        ensures { IsListed self.now result }
+    {
+        Choice {
+            prefix: self.front(),
+            range: self.range(),
+            without: None,
+            sought: None,
+        }
+    }
+
+    /// Returns what `list` asks for.
+    pub fn question(&self) -> Result<Question<'a>, Misuse>
+        ensures question { IfOk result (IsList self.now) }
+        ensures refused { IfErr result (IsListMisuse self.now) }
+    {
+        let form = self.form()?;
+        let query = ListQuery {
+            choice: self.choice(),
+            order: order_by(self.count, self.sorted),
+            limit: self.most()?,
+        };
+        Ok(Question::List(form, query))
+    }
 }

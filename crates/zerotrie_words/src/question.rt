@@ -1,21 +1,22 @@
 //! The questions to a trie that the command line asks.
 
-ghost use Rattle.std.specs.Prelude.{◌≡◌, ◌⊎◌, None, true, false, IfErr, IfNone, IfOk, IfSome, codes, length};
+ghost use Rattle.std.specs.Prelude.{◌≡◌, ◌⊎◌, IfErr, IfOk, codes, length};
 ghost use Rattle.std.specs.List.{slice_get};
 ghost use Rattle.std.specs.Option.{option_map};
-ghost use Rattle.zerotrie_words.specs.Refusals.{IsNoBorder, IsNoKind, IsNoLongest, IsNoMeasuring, IsNoQuestion, IsNoSearchOf, IsNoView, IsSaid};
+ghost use Rattle.zerotrie_words.specs.Questions.{IsAsk, IsAskMisuse, IsLongestMisuse, IsQuestion, IsQuestionMisuse, IsViewMisuse};
+ghost use Rattle.zerotrie_words.specs.Refusals.{IsNoBorder, IsNoKind, IsUnknown};
 ghost use Rattle.zerotrie_words.specs.Requests.{IsReportHeading};
-ghost use Rattle.zerotrie_words.specs.declared.task.Topic.TheVariants.{Search};
-ghost use Rattle.zerotrie_words.specs.Words.{AreMeasured, IsAsk, IsBorder, IsCheck, IsFile, IsGet, IsLongest, IsQuestion, IsReportForm, IsSearch, IsSource, IsSpelling, IsView, file_word, files_of, flag_of, texts_of, word_of};
+ghost use Rattle.zerotrie_words.specs.declared.misuse.Misuse.TheVariants as misuse;
+ghost use Rattle.zerotrie_words.specs.Words.{IsBorder, IsCheck, IsFile, IsGet, IsLongest, IsReportForm, IsSource, IsSpelling, IsView, file_word, files_of, flag_of, texts_of, word_of};
 
-use crate::code::code_in;
 use crate::keys::keys_of;
-use crate::listing::{form_in, limit_in, most_in, order_in, search_order_in};
-use crate::names::{kind_in, source_in, source_of};
-use crate::search::{choice_in, listed_in};
+use crate::listing::limit_of;
+use crate::misuse::Misuse;
+use crate::names::{kind_of, source_of};
+use crate::options::{CodeOptions, ListOptions, SearchOptions};
 use crate::task::Topic;
 use clap::ArgMatches;
-use zerotrie_queries::{Asked, ListQuery, Query, ReportForm, Spelling, View};
+use zerotrie_queries::{Asked, Query, ReportForm, Spelling, View};
 use zerotrie_run::{Check, Command, Place, Question, TrieFile};
 
 /// How many nodes are drawn if `--limit` is left out.
@@ -86,7 +87,7 @@ fn file_place<'a>(matches: &ArgMatches<'a>, topic: Topic, number: usize) -> Plac
         | Topic::List
         | Topic::Search
         | Topic::Inspect
-        | Topic::Code => source_in(matches, "FILE"),
+        | Topic::Code => source_of(matches.get_str("FILE")),
     }
 }
 
@@ -95,62 +96,60 @@ fn file_in<'a>(
     matches: &ArgMatches<'a>,
     topic: Topic,
     number: usize,
-) -> Result<TrieFile<'a>, &'static str>
+) -> Result<TrieFile<'a>, Misuse>
     ensures file { IfOk result (IsFile matches.now topic number) }
-    ensures refused { IfErr result (λ _. IsNoKind (word_of matches.now (codes "bare-kind"))) }
-    ensures said { IfErr result IsSaid }
+    ensures refused { IfErr result
+        (IsUnknown (IsNoKind (word_of matches.now (codes "bare-kind")))) }
 {
     Ok(TrieFile {
         place: file_place(matches, topic, number),
-        bare: kind_in(matches, "bare-kind")?,
+        bare: kind_of(matches.get_str("bare-kind"))?,
         check: check_in(matches, topic),
     })
 }
 
-/// Returns the view of the nodes that is asked for. It is an error, with the message, if a limit is
+/// Returns the view of the nodes that is asked for. It is an error if a limit is
 /// no number, or is not for a drawing.
-fn view_in(matches: &ArgMatches<'_>) -> Result<View, &'static str>
+fn view_in(matches: &ArgMatches<'_>) -> Result<View, Misuse>
     ensures view { IfOk result (IsView (word_of matches.now (codes "VIEW"))
         (word_of matches.now (codes "limit"))) }
-    ensures refused { IfErr result (λ _. IsNoView (word_of matches.now (codes "VIEW"))
+    ensures refused { IfErr result (IsViewMisuse (word_of matches.now (codes "VIEW"))
         (word_of matches.now (codes "limit"))) }
-    ensures said { IfErr result IsSaid }
 {
-    match (matches.get_str("VIEW"), limit_in(matches)?) {
+    match (matches.get_str("VIEW"), limit_of(matches.get_str("limit"))?) {
         (Some("dump"), None) => Ok(View::Dump),
-        (Some("dump"), Some(_)) => Err("--limit is for inspect dot"),
+        (Some("dump"), Some(_)) => Err(Misuse::LimitOfDump),
         (Some("dot"), most) => Ok(View::Dot(most.unwrap_or(DRAWN))),
-        (Some(_) | None, _) => Err("inspect asks for dump or dot"),
+        (Some(_) | None, _) => Err(Misuse::UnknownWord),
     }
 }
 
 /// Returns the byte at which a key may end, or `None` if it may end anywhere. It is an error, with
 /// the message, if the word is not one byte.
-fn border_in(matches: &ArgMatches<'_>) -> Result<Option<u8>, &'static str>
+fn border_in(matches: &ArgMatches<'_>) -> Result<Option<u8>, Misuse>
     ensures border { IfOk result (IsBorder (word_of matches.now (codes "at"))) }
-    ensures refused { IfErr result (λ _. IsNoBorder (word_of matches.now (codes "at"))) }
-    ensures said { IfErr result IsSaid }
+    ensures refused { IfErr result (λ why. IsNoBorder (word_of matches.now (codes "at"))
+        × (why ≡ misuse.NoBorder)) }
 {
     let Some(word) = matches.get_str("at") else {
         return Ok(None);
     };
     match word.as_bytes() {
         [byte] => Ok(Some(*byte)),
-        _ => Err("--at asks for one byte"),
+        _ => Err(Misuse::NoBorder),
     }
 }
 
-/// Returns what is asked of texts. It is an error, with the message, if options exclude each other.
-fn longest_in(matches: &ArgMatches<'_>) -> Result<Asked, &'static str>
+/// Returns what is asked of texts. It is an error if options exclude each other.
+fn longest_in(matches: &ArgMatches<'_>) -> Result<Asked, Misuse>
     ensures asked { IfOk result (IsLongest matches.now) }
-    ensures refused { IfErr result (λ _. IsNoLongest matches.now) }
-    ensures said { IfErr result IsSaid }
+    ensures refused { IfErr result (IsLongestMisuse matches.now) }
 {
     match (matches.get_flag("all"), border_in(matches)?) {
         (false, None) => Ok(Asked::Longest),
         (true, None) => Ok(Asked::Prefixes),
         (false, Some(byte)) => Ok(Asked::LongestAt(byte)),
-        (true, Some(_)) => Err("--all and --at exclude each other"),
+        (true, Some(_)) => Err(Misuse::AllAndAt),
     }
 }
 
@@ -197,77 +196,15 @@ fn query_in(matches: &ArgMatches<'_>, asked: Asked) -> Query
     }
 }
 
-/// Returns what is said of distances that are to be printed where they can't be, if so.
-fn unmeasured_in(matches: &ArgMatches<'_>) -> Option<&'static str>
-    ensures none { IfNone result (AreMeasured matches.now) }
-    ensures some { IfSome result (λ _. IsNoMeasuring matches.now) }
-    ensures said { IfSome result IsSaid }
-{
-    if matches.get_str("fuzzy").is_none() || matches.get_flag("beginnings") {
-        return Some("--distance is for --fuzzy without --beginnings");
-    }
-    if matches.get_str("format").is_some() || matches.get_flag("raw") {
-        return Some("--distance prints tsv: leave out --format and --raw");
-    }
-    if matches.get_flag("count") || matches.get_flag("sorted") {
-        return Some("--distance prints the nearest first: leave out --count and --sorted");
-    }
-    None
-}
-
-/// Returns what a search asks for, whose pairs are printed with their distances. It is an error, with
-/// the message, if an option has a wrong word, or options exclude each other.
-fn distances_in<'a>(matches: &ArgMatches<'a>) -> Result<Question<'a>, &'static str>
-    ensures question { IfOk result (IsSearch true matches.now) }
-    ensures refused { IfErr result (λ _. IsNoSearchOf true matches.now) }
-    ensures said { IfErr result IsSaid }
-{
-    if let Some(why) = unmeasured_in(matches) {
-        return Err(why);
-    }
-    Ok(Question::Distances(choice_in(matches)?, most_in(matches)?))
-}
-
-/// Returns what a search asks for, whose pairs are printed in a format. It is an error, with the
-/// message, if an option has a wrong word, or options exclude each other.
-fn found_in<'a>(matches: &ArgMatches<'a>) -> Result<Question<'a>, &'static str>
-    ensures question { IfOk result (IsSearch false matches.now) }
-    ensures refused { IfErr result (λ _. IsNoSearchOf false matches.now) }
-    ensures said { IfErr result IsSaid }
-{
-    let form = form_in(matches)?;
-    let selection = ListQuery {
-        choice: choice_in(matches)?,
-        order: search_order_in(matches),
-        limit: most_in(matches)?,
-    };
-    Ok(Question::List(form, selection))
-}
-
-/// Returns what a search asks for. It is an error, with the message, if an option has a wrong word, or
-/// options exclude each other.
-fn search_in<'a>(matches: &ArgMatches<'a>) -> Result<Question<'a>, &'static str>
-    ensures question { IfOk result (IsQuestion matches.now Search None) }
-    ensures refused { IfErr result (λ _. IsNoQuestion matches.now Search None) }
-    ensures said { IfErr result IsSaid }
-{
-    if matches.get_flag("distance") {
-        distances_in(matches)
-    } else {
-        found_in(matches)
-    }
-}
-
-/// Returns the question of a command. It is an error, with the message, if an option has a wrong
+/// Returns the question of a command. It is an error if an option has a wrong
 /// word.
 fn question_in<'w, 'a: 'w>(
     matches: &ArgMatches<'a>,
     topic: Topic,
     words: &'w Option<Vec<&'a [u8]>>,
-) -> Result<Question<'w>, &'static str>
+) -> Result<Question<'w>, Misuse>
     ensures question { IfOk result (IsQuestion matches.now topic (texts_of words.now)) }
-    ensures refused { IfErr result (λ _. IsNoQuestion matches.now topic (texts_of words.now)) }
-    ensures said { IfErr result IsSaid }
+    ensures refused { IfErr result (IsQuestionMisuse matches.now topic (texts_of words.now)) }
 {
     match topic {
         Topic::Get => {
@@ -285,20 +222,12 @@ fn question_in<'w, 'a: 'w>(
             };
             Ok(Question::LookUp(query, keys_of(words)?))
         }
-        Topic::List => {
-            let form = form_in(matches)?;
-            let selection = ListQuery {
-                choice: listed_in(matches),
-                order: order_in(matches),
-                limit: most_in(matches)?,
-            };
-            Ok(Question::List(form, selection))
-        }
-        Topic::Search => search_in(matches),
+        Topic::List => ListOptions::of(matches).question(),
+        Topic::Search => SearchOptions::of(matches).question(),
         Topic::Verify => Ok(Question::Verify),
         Topic::Stats => Ok(Question::Report(report_in(matches))),
         Topic::Inspect => Ok(Question::View(view_in(matches)?)),
-        Topic::Code => code_in(matches),
+        Topic::Code => CodeOptions::of(matches).question(),
     }
 }
 
@@ -309,11 +238,9 @@ pub fn ask_in<'w, 'a: 'w>(
     topic: Topic,
     number: usize,
     words: &'w Option<Vec<&'a [u8]>>,
-) -> Result<Command<'w>, &'static str>
+) -> Result<Command<'w>, Misuse>
     ensures ask { IfOk result (IsAsk matches.now topic number (texts_of words.now)) }
-    ensures refused { IfErr result (λ _. IsNoKind (word_of matches.now (codes "bare-kind"))
-        ⊎ IsNoQuestion matches.now topic (texts_of words.now)) }
-    ensures said { IfErr result IsSaid }
+    ensures refused { IfErr result (IsAskMisuse matches.now topic (texts_of words.now)) }
 {
     let file = file_in(matches, topic, number)?;
     let question = question_in(matches, topic, words)?;

@@ -7,6 +7,7 @@ ghost use Rattle.zerotrie_words.specs.declared.reply.Reply.TheVariants as reply;
 
 use crate::arguments::Subcommand;
 use crate::help::text_of;
+use crate::misuse::Misuse;
 use clap::error::ErrorKind;
 use std::alloc::{AllocError, Global};
 use zerotrie_run::Status;
@@ -18,8 +19,8 @@ pub enum Reply<'a> {
     Help(String),
     /// This text of several lines: the words are no command.
     Misuse(String),
-    /// This message: an option has a wrong word, or options exclude each other.
-    Refusal(&'static str),
+    /// The words are misused so: an option has a wrong word, or options exclude each other.
+    Refusal(Misuse),
     /// These paths are one file, the input of a build and its output.
     OneFile(&'a str, &'a str),
     /// It is out of memory.
@@ -34,10 +35,10 @@ impl<'a> From<AllocError> for Reply<'a> {
     }
 }
 
-impl<'a> From<&'static str> for Reply<'a> {
+impl<'a> From<Misuse> for Reply<'a> {
     ghost from_gives = { λ why said. said ≡ reply.Refusal why };
 
-    fn from(why: &'static str) -> Self {
+    fn from(why: Misuse) -> Self {
         Reply::Refusal(why)
     }
 }
@@ -71,7 +72,7 @@ pub fn reply_to<'a>(
     match said.kind() {
         ErrorKind::OutOfMemory => Reply::OutOfMemory,
         ErrorKind::DisplayHelp | ErrorKind::DisplayVersion => Reply::Help(text),
-        _ if text.is_empty() => Reply::Refusal("give a command, or --help"),
+        _ if text.is_empty() => Reply::Refusal(Misuse::NoCommand),
         _ => Reply::Misuse(text),
     }
 }

@@ -4,17 +4,18 @@ ghost use Rattle.std.specs.Prelude.{◌≡◌, IfOk, IfErr, IfSome, map, string_
 ghost use Rattle.zerotrie_run.specs.declared.status.Status.TheVariants.{BadUsage};
 ghost use Rattle.zerotrie_words.specs.Reads.{IsFaultSaid, IsFoundIn, IsNoRequest, IsRequest};
 ghost use Rattle.zerotrie_words.specs.Replies.{status_of};
-ghost use Rattle.zerotrie_words.specs.Requests.{AreApart, AreOneFile, ArePlaces, IsCommand, IsHeading, IsNoCommand, IsQuiet, IsRefusal, NamesOneFile, file_count, keys_by};
+ghost use Rattle.zerotrie_words.specs.Requests.{AreApart, AreOneFile, ArePlaces, IsCommand, IsHeading, IsQuiet, IsRefusal, NamesOneFile, file_count, keys_by};
 ghost use Rattle.zerotrie_words.specs.Tasks.{AsksForPage};
 ghost use Rattle.zerotrie_words.specs.Words.{texts_of};
 
 use crate::arguments::program;
-use crate::build::build_in;
-use crate::combine::{combine_in, places_in};
+use crate::combine::places_in;
 use crate::completions::script_for;
 use crate::diff::diff_in;
 use crate::keys::words_in;
 use crate::manual::manual;
+use crate::misuse::Misuse;
+use crate::options::{BuildOptions, MakeOptions};
 use crate::question::{ask_in, file_count, heading_in};
 use crate::reply::{Reply, reply_to};
 use crate::table::commands;
@@ -93,7 +94,7 @@ impl<'a> Request<'a> {
             return Err(Reply::Help(page));
         }
         let Some((task, matches)) = task_in(&mut matches) else {
-            return Err(Reply::Refusal("give a command, or --help"));
+            return Err(Reply::Refusal(Misuse::NoCommand));
         };
         let keys = match task {
             Task::Ask(topic) => words_in(alloc, &matches, topic)?,
@@ -158,22 +159,22 @@ impl<'a> Request<'a> {
         ensures command { IfOk result
             (IsCommand self.now.matches (texts_of self.now.keys) self.now.places.items to_terminal
             file self.now.task) }
-        ensures refused { IfErr result (λ _.
-            IsNoCommand self.now.matches (texts_of self.now.keys) self.now.task) }
+        ensures refused { IfErr result
+            (IsRefusal self.now.matches (texts_of self.now.keys) self.now.task) }
         ensures status { IfErr result (λ reply. status_of reply ≡ BadUsage) }
-        ensures said { IfErr result (IsRefusal self.now.matches) }
     {
         match self.task {
             Task::Build => {
-                let build = build_in(&self.matches, to_terminal)?;
+                let build = BuildOptions::of(&self.matches).build(to_terminal)?;
                 Ok(Command::Build(kept_apart(build)?))
             }
             Task::Ask(topic) => Ok(ask_in(&self.matches, topic, file, &self.keys)?),
             Task::Diff => Ok(Command::Diff(diff_in(&self.matches)?)),
             Task::Combine(selection) => {
+                let options = MakeOptions::of(&self.matches);
+                let values = self.matches.get_str("values");
                 let places = self.places.as_slice();
-                let combine = combine_in(&self.matches, selection, places, to_terminal)?;
-                Ok(Command::Combine(combine))
+                Ok(Command::Combine(options.combination(values, selection, places, to_terminal)?))
             }
         }
     }

@@ -1,299 +1,224 @@
-//! Which keys the command line asks for.
+//! How the options of a search ask for pairs.
 
-ghost use Rattle.std.specs.Prelude.{◌≡◌, ◌≢◌, false, true, IfErr, IfOk, IfSome, IfNone, None, codes};
-ghost use Rattle.zerotrie_search.specs.Automata.{IsWordError};
-ghost use Rattle.zerotrie_search.specs.declared.any.WordError.{WordError};
-ghost use Rattle.zerotrie_words.specs.Refusals.{HasNoNumber, IsNoSearch, IsNoSought, IsNoWithout, IsNoWord, IsSaid, IsUseless};
-ghost use Rattle.zerotrie_words.specs.Words.{AreBeginningsUsed, AreBytesUsed, AreSwapsUsed, AreUsed, HasNoPart, HasNoRange, IsEdits, IsFlag, IsFront, IsFuzzyBy, IsGlobBy, IsListed, IsRange, IsSought, IsSoughtBy, IsWithout, flag_of, word_of};
+ghost use Rattle.std.specs.Prelude.{◌≡◌, ◌≢◌, None, true, false, IfErr, IfNone, IfOk, IfSome};
+ghost use Rattle.zerotrie_words.specs.Options.{text_of};
+ghost use Rattle.zerotrie_words.specs.Refusals.{HasNoNumber, IsUnknown};
+ghost use Rattle.zerotrie_words.specs.Searches.{AreMeasured, AreUsed, HasNoPart, IsChoiceMisuse, IsIdle, IsMeasuringMisuse, IsOfSort, IsSearch, IsSearchBy, IsSearchMisuse, IsSearchMisuseBy, IsSought, IsSoughtBy, IsSoughtMisuse, IsWithout, IsWithoutMisuse, IsWordMisuse};
+ghost use Rattle.zerotrie_words.specs.Words.{IsEdits, fuzzy_by, glob_by};
 
-use clap::ArgMatches;
-use std::ops::Bound;
-use zerotrie_queries::{Choice, Pattern, Sought};
-use zerotrie_search::{AnyAutomaton, KeyRange, SearchBy, WordError};
+use crate::misuse::Misuse;
+use crate::options::{ListOptions, SearchOptions};
+use zerotrie_queries::{Choice, ListQuery, Pattern, Sought};
+use zerotrie_run::Question;
+use zerotrie_search::{AnyAutomaton, SearchBy};
 
 /// How many edits are allowed if `--edits` is left out.
 const EDITS: u8 = 2;
 
-const NOTHING_SOUGHT: &str =
-    "give --glob, --fuzzy, --subsequence, --not, --prefix, --from or --below";
-
-const TOO_MUCH_SOUGHT: &str = "give only one of --glob, --fuzzy and --subsequence";
-
-/// Returns what is said of a word that is none of its sort.
-fn word_refused(by: SearchBy, error: WordError) -> &'static str
-    ensures { IsSaid result }
-{
-    match (by, error) {
-        (SearchBy::Glob | SearchBy::GlobChars, WordError::Malformed) => {
-            "--glob and --not ask for a pattern: a class or braces lack their end, a class its letters, braces their beginning, braces are inside braces, a range ends before it begins, or a backslash escapes nothing"
-        }
-        (SearchBy::Glob | SearchBy::GlobChars, _) => {
-            "--glob and --not ask for a pattern of at most 63 parts"
-        }
-        (SearchBy::Swaps(_) | SearchBy::SwapsChars(_), WordError::TooManyEdits) => {
-            "--fuzzy allows at most 7 edits, and 254 with --no-transpose"
-        }
-        (_, WordError::TooManyEdits) => "--fuzzy --no-transpose allows at most 254 edits",
-        (SearchBy::SwapsChars(_) | SearchBy::FuzzyChars(_), _) => {
-            "--fuzzy asks for at most 63 characters"
-        }
-        (SearchBy::Swaps(_) | SearchBy::Fuzzy(_) | SearchBy::Prefix | SearchBy::Subsequence, _) => {
-            "--fuzzy --bytes asks for at most 63 bytes"
-        }
-    }
-}
-
-/// Returns the bytes of a word. It is an error, with the message, if it is none of its sort.
-fn word_by(by: SearchBy, word: &str) -> Result<&[u8], &'static str>
+/// Returns the bytes of a word. It is an error if it is none of its sort.
+fn word_by(by: SearchBy, word: &str) -> Result<&[u8], Misuse>
     ensures ok { IfOk result (λ w. w.now ≡ word.now) }
-    ensures word { IfOk result (λ _. (e : WordError) → IsWordError by word.now e → ⊥) }
-    ensures refused { IfErr result (λ _. IsNoWord by word.now) }
-    ensures said { IfErr result IsSaid }
+    ensures word { IfOk result (λ _. IsOfSort by word.now) }
+    ensures refused { IfErr result (IsWordMisuse by word.now) }
 {
     let word = word.as_bytes();
     match AnyAutomaton::new(by, word) {
         Ok(_) => Ok(word),
-        Err(error) => Err(word_refused(by, error)),
-    }
-}
-
-/// Returns a word by which keys are sought, or with a flag what they begin with. It is an error, with
-/// the message, if it is none of its sort.
-fn sought_by<'a>(
-    matches: &ArgMatches<'a>,
-    by: SearchBy,
-    word: &'a str,
-) -> Result<Option<Sought<'a>>, &'static str>
-    ensures ok { IfOk result (λ o. IfSome o (λ s. (s.by ≡ by) × (s.word.now ≡ word.now)
-        × IsFlag (flag_of matches.now (codes "beginnings")) s.begins)) }
-    ensures some { IfOk result (λ o. o ≢ None) }
-    ensures word { IfOk result (λ _. (e : WordError) → IsWordError by word.now e → ⊥) }
-    ensures refused { IfErr result (λ _. IsNoWord by word.now) }
-    ensures said { IfErr result IsSaid }
-{
-    Ok(Some(Sought {
-        by,
-        word: word_by(by, word)?,
-        begins: matches.get_flag("beginnings"),
-    }))
-}
-
-/// Returns how the word of `--glob` finds keys: by characters, or by bytes with a flag.
-fn glob_by(matches: &ArgMatches<'_>) -> SearchBy
-    ensures { IsGlobBy (flag_of matches.now (codes "bytes")) result }
-{
-    if matches.get_flag("bytes") {
-        SearchBy::Glob
-    } else {
-        SearchBy::GlobChars
-    }
-}
-
-/// Returns how many edits are allowed. It is an error, with the message, if the word is no number,
-/// which clap refuses.
-fn edits_in(matches: &ArgMatches<'_>) -> Result<u8, &'static str>
-    ensures edits { IfOk result (IsEdits (word_of matches.now (codes "edits"))) }
-    ensures refused { IfErr result (λ _. HasNoNumber 8 (word_of matches.now (codes "edits"))) }
-    ensures said { IfErr result IsSaid }
-{
-    let Some(word) = matches.get_str("edits") else {
-        return Ok(EDITS);
-    };
-    match word.parse() {
-        Ok(edits) => Ok(edits),
-        Err(_) => Err("--edits asks for a number below 255"),
-    }
-}
-
-/// Returns the range that keys have to be in.
-fn range_in<'a>(matches: &ArgMatches<'a>) -> KeyRange<'a>
-    ensures { IsRange matches.now result }
-{
-    KeyRange {
-        from: match matches.get_str("from") {
-            Some(word) => Bound::Included(word.as_bytes()),
-            None => Bound::Unbounded,
-        },
-        to: match matches.get_str("below") {
-            Some(word) => Bound::Excluded(word.as_bytes()),
-            None => Bound::Unbounded,
-        },
-    }
-}
-
-/// Returns whether a range is given.
-fn has_range(matches: &ArgMatches<'_>) -> bool
-    ensures yes { result ≡ true → HasNoRange matches.now → ⊥ }
-    ensures no { result ≡ false → HasNoRange matches.now }
-{
-    matches.get_str("from").is_some() || matches.get_str("below").is_some()
-}
-
-/// Returns how the word of `--fuzzy` finds keys: by edits of characters, or of bytes with a flag, where
-/// neighbours that change places are one edit, but not with another flag.
-fn fuzzy_by(matches: &ArgMatches<'_>, edits: u8) -> SearchBy
-    ensures { IsFuzzyBy (flag_of matches.now (codes "bytes"))
-        (flag_of matches.now (codes "no-transpose")) edits result }
-{
-    let edits = u32::from(edits);
-    match (matches.get_flag("bytes"), matches.get_flag("no-transpose")) {
-        (false, false) => SearchBy::SwapsChars(edits),
-        (false, true) => SearchBy::FuzzyChars(edits),
-        (true, false) => SearchBy::Swaps(edits),
-        (true, true) => SearchBy::Fuzzy(edits),
-    }
-}
-
-/// Returns whether a number of edits is given, but no word that they are of.
-fn has_idle_edits(matches: &ArgMatches<'_>) -> bool
-    ensures yes { result ≡ true → (word_of matches.now (codes "edits") ≢ None)
-        × (word_of matches.now (codes "fuzzy") ≡ None) }
-    ensures no { result ≡ false → word_of matches.now (codes "edits") ≢ None
-        → word_of matches.now (codes "fuzzy") ≢ None }
-{
-    matches.get_str("edits").is_some() && matches.get_str("fuzzy").is_none()
-}
-
-/// Returns whether two characters that change places are to be two edits, but of no word.
-fn has_idle_swaps(matches: &ArgMatches<'_>) -> bool
-    ensures yes { result ≡ true → IsFlag (flag_of matches.now (codes "no-transpose")) true
-        × (word_of matches.now (codes "fuzzy") ≡ None) }
-    ensures no { result ≡ false → AreSwapsUsed matches.now }
-{
-    matches.get_flag("no-transpose") && matches.get_str("fuzzy").is_none()
-}
-
-/// Returns whether keys are to begin with what a word finds, but there is no such word.
-fn has_idle_beginnings(matches: &ArgMatches<'_>) -> bool
-    ensures yes { result ≡ true → IsFlag (flag_of matches.now (codes "beginnings")) true
-        × (word_of matches.now (codes "fuzzy") ≡ None) }
-    ensures no { result ≡ false → AreBeginningsUsed matches.now }
-{
-    matches.get_flag("beginnings") && matches.get_str("fuzzy").is_none()
-}
-
-/// Returns whether bytes are to count in place of characters, but of no word.
-fn has_idle_bytes(matches: &ArgMatches<'_>) -> bool
-    ensures yes { result ≡ true → IsFlag (flag_of matches.now (codes "bytes")) true
-        × (word_of matches.now (codes "glob") ≡ None)
-        × (word_of matches.now (codes "not") ≡ None)
-        × (word_of matches.now (codes "fuzzy") ≡ None) }
-    ensures no { result ≡ false → AreBytesUsed matches.now }
-{
-    matches.get_flag("bytes")
-        && matches.get_str("glob").is_none()
-        && matches.get_str("not").is_none()
-        && matches.get_str("fuzzy").is_none()
-}
-
-/// Returns what is said of options that no word of a search makes use of, if there are such.
-fn useless_in(matches: &ArgMatches<'_>) -> Option<&'static str>
-    ensures none { IfNone result (AreUsed matches.now) }
-    ensures some { IfSome result (λ _. IsUseless matches.now) }
-    ensures said { IfSome result IsSaid }
-{
-    if has_idle_edits(matches) {
-        return Some("--edits is for --fuzzy");
-    }
-    if has_idle_swaps(matches) {
-        return Some("--no-transpose is for --fuzzy");
-    }
-    if has_idle_beginnings(matches) {
-        return Some("--beginnings is for --fuzzy");
-    }
-    has_idle_bytes(matches).then_some("--bytes is for --glob, --not and --fuzzy")
-}
-
-/// Returns the word by which keys are sought, or `None` if none is given. It is an error, with the
-/// message, if more than one is, if a word is none of its sort, or if an option is of no use.
-fn sought_in<'a>(matches: &ArgMatches<'a>) -> Result<Option<Sought<'a>>, &'static str>
-    ensures sought { IfOk result (IsSoughtBy matches.now) }
-    ensures refused { IfErr result (λ _. IsNoSought matches.now) }
-    ensures said { IfErr result IsSaid }
-{
-    if let Some(useless) = useless_in(matches) {
-        return Err(useless);
-    }
-    let glob = matches.get_str("glob");
-    let fuzzy = matches.get_str("fuzzy");
-    let subsequence = matches.get_str("subsequence");
-    match (glob, fuzzy, subsequence) {
-        (None, None, None) => Ok(None),
-        (Some(pattern), None, None) => sought_by(matches, glob_by(matches), pattern),
-        (None, Some(word), None) => {
-            sought_by(matches, fuzzy_by(matches, edits_in(matches)?), word)
-        }
-        (None, None, Some(word)) => sought_by(matches, SearchBy::Subsequence, word),
-        (Some(_), Some(_), _) | (Some(_), None, Some(_)) | (None, Some(_), Some(_)) => {
-            Err(TOO_MUCH_SOUGHT)
-        }
-    }
-}
-
-/// Returns the pattern that no key is to match, or `None` if none is given. It is an error, with the
-/// message, if it is malformed.
-fn without_in<'a>(matches: &ArgMatches<'a>) -> Result<Option<Pattern<'a>>, &'static str>
-    ensures without { IfOk result (IsWithout matches.now) }
-    ensures refused { IfErr result (λ _. IsNoWithout matches.now) }
-    ensures said { IfErr result IsSaid }
-{
-    let Some(text) = matches.get_str("not") else {
-        return Ok(None);
-    };
-    let by_chars = !matches.get_flag("bytes");
-    let by = if by_chars {
-        SearchBy::GlobChars
-    } else {
-        SearchBy::Glob
-    };
-    let text = word_by(by, text)?;
-    Ok(Some(Pattern { by_chars, text }))
-}
-
-/// Returns what keys have to begin with.
-fn prefix_in<'a>(matches: &ArgMatches<'a>) -> &'a [u8]
-    ensures { IsFront matches.now result.now }
-{
-    matches.get_str("prefix").unwrap_or("").as_bytes()
-}
-
-/// Returns which keys are listed: those with a prefix, in a range.
-pub fn listed_in<'a>(matches: &ArgMatches<'a>) -> Choice<'a>
-    ensures { IsListed matches.now result }
-{
-    Choice {
-        prefix: prefix_in(matches),
-        range: range_in(matches),
-        without: None,
-        sought: None,
+        Err(error) => Err(Misuse::Word(by, error)),
     }
 }
 
 /// Returns whether keys have to begin so, or to be in a range.
-fn has_part(matches: &ArgMatches<'_>) -> bool
-    ensures yes { result ≡ true → HasNoPart matches.now → ⊥ }
-    ensures no { result ≡ false → HasNoPart matches.now }
+fn has_part(list: &ListOptions<'_>) -> bool
+    ensures yes { result ≡ true → HasNoPart list.now → ⊥ }
+    ensures no { result ≡ false → HasNoPart list.now }
 {
-    matches.get_str("prefix").is_some() || has_range(matches)
+    list.prefix.is_some() || list.from.is_some() || list.below.is_some()
 }
 
-/// Returns which keys are looked for. It is an error, with the message, if the words ask for all, or
-/// if they are wrong.
-#[tactic(auto, using(crate::proofs::SearchLemmas::sought_some))]
-pub fn choice_in<'a>(matches: &ArgMatches<'a>) -> Result<Choice<'a>, &'static str>
-    ensures sought { IfOk result (IsSought matches.now) }
-    ensures refused { IfErr result (λ _. IsNoSearch matches.now) }
-    ensures said { IfErr result IsSaid }
-{
-    let sought = sought_in(matches)?;
-    let without = without_in(matches)?;
-    if sought.is_none() && without.is_none() && !has_part(matches) {
-        return Err(NOTHING_SOUGHT);
+impl<'a> SearchOptions<'a> {
+    /// Returns how the word of `--glob` finds keys: by characters, or by bytes with a flag.
+    fn glob_by(&self) -> SearchBy
+        ensures { result ≡ glob_by self.now.bytes }
+    {
+        if self.bytes {
+            SearchBy::Glob
+        } else {
+            SearchBy::GlobChars
+        }
     }
-    Ok(Choice {
-        prefix: prefix_in(matches),
-        range: range_in(matches),
-        without,
-        sought,
-    })
+
+    /// Returns how the word of `--fuzzy` finds keys: by edits of characters, or of bytes with a flag,
+    /// where neighbours that change places are one edit, but not with another flag.
+    fn fuzzy_by(&self, edits: u8) -> SearchBy
+        ensures { result ≡ fuzzy_by self.now.bytes self.now.no_transpose edits }
+    {
+        let edits = u32::from(edits);
+        match (self.bytes, self.no_transpose) {
+            (false, false) => SearchBy::SwapsChars(edits),
+            (false, true) => SearchBy::FuzzyChars(edits),
+            (true, false) => SearchBy::Swaps(edits),
+            (true, true) => SearchBy::Fuzzy(edits),
+        }
+    }
+
+    /// Returns how many edits are allowed. It is an error if the word is no number, which clap
+    /// refuses.
+    fn edits(&self) -> Result<u8, Misuse>
+        ensures edits { IfOk result (IsEdits (text_of self.now.edits)) }
+        ensures refused { IfErr result (IsUnknown (HasNoNumber 8 (text_of self.now.edits))) }
+    {
+        let Some(word) = self.edits else {
+            return Ok(EDITS);
+        };
+        match word.parse() {
+            Ok(edits) => Ok(edits),
+            Err(_) => Err(Misuse::UnknownWord),
+        }
+    }
+
+    /// Returns the first option that is there without the word that it is of, if there is one.
+    fn idle(&self) -> Option<Misuse>
+        ensures none { IfNone result (AreUsed self.now) }
+        ensures some { IfSome result (IsIdle self.now) }
+    {
+        if self.fuzzy.is_some() {
+            return None;
+        }
+        if self.edits.is_some() {
+            return Some(Misuse::IdleEdits);
+        }
+        if self.no_transpose {
+            return Some(Misuse::IdleSwaps);
+        }
+        if self.beginnings {
+            return Some(Misuse::IdleBeginnings);
+        }
+        if self.bytes && self.glob.is_none() && self.not.is_none() {
+            return Some(Misuse::IdleBytes);
+        }
+        None
+    }
+
+    /// Returns a word by which keys are sought, or with a flag what they begin with. It is an error if
+    /// it is none of its sort.
+    fn sought_by(&self, by: SearchBy, word: &'a str) -> Result<Option<Sought<'a>>, Misuse>
+        ensures ok { IfOk result (λ o. IfSome o (λ s. (s.by ≡ by) × (s.word.now ≡ word.now)
+            × (s.begins ≡ self.now.beginnings))) }
+        ensures some { IfOk result (λ o. o ≢ None) }
+        ensures word { IfOk result (λ _. IsOfSort by word.now) }
+        ensures refused { IfErr result (IsWordMisuse by word.now) }
+    {
+        Ok(Some(Sought {
+            by,
+            word: word_by(by, word)?,
+            begins: self.beginnings,
+        }))
+    }
+
+    /// Returns the word by which keys are sought, or `None` if none is given. It is an error if more
+    /// than one is, if a word is none of its sort, or if an option is of no use.
+    fn sought(&self) -> Result<Option<Sought<'a>>, Misuse>
+        ensures sought { IfOk result (IsSoughtBy self.now) }
+        ensures refused { IfErr result (IsSoughtMisuse self.now) }
+    {
+        if let Some(misuse) = self.idle() {
+            return Err(misuse);
+        }
+        match (self.glob, self.fuzzy, self.subsequence) {
+            (None, None, None) => Ok(None),
+            (Some(pattern), None, None) => self.sought_by(self.glob_by(), pattern),
+            (None, Some(word), None) => self.sought_by(self.fuzzy_by(self.edits()?), word),
+            (None, None, Some(word)) => self.sought_by(SearchBy::Subsequence, word),
+            (Some(_), Some(_), _) | (Some(_), None, Some(_)) | (None, Some(_), Some(_)) => {
+                Err(Misuse::TooMuchSought)
+            }
+        }
+    }
+
+    /// Returns the pattern that no key is to match, or `None` if none is given. It is an error if it is
+    /// malformed.
+    fn without(&self) -> Result<Option<Pattern<'a>>, Misuse>
+        ensures without { IfOk result (IsWithout self.now) }
+        ensures refused { IfErr result (IsWithoutMisuse self.now) }
+    {
+        let Some(text) = self.not else {
+            return Ok(None);
+        };
+        Ok(Some(Pattern {
+            by_chars: !self.bytes,
+            text: word_by(self.glob_by(), text)?,
+        }))
+    }
+
+    /// Returns which keys are looked for. It is an error if the options ask for all, or if they are
+    /// wrong.
+    #[tactic(auto, using(crate::proofs::SearchLemmas::sought_some))]
+    fn choice(&self) -> Result<Choice<'a>, Misuse>
+        ensures sought { IfOk result (IsSought self.now) }
+        ensures refused { IfErr result (IsChoiceMisuse self.now) }
+    {
+        let sought = self.sought()?;
+        let without = self.without()?;
+        if sought.is_none() && without.is_none() && !has_part(&self.list) {
+            return Err(Misuse::NothingSought);
+        }
+        Ok(Choice {
+            prefix: self.list.front(),
+            range: self.list.range(),
+            without,
+            sought,
+        })
+    }
+
+    /// Returns why no distances can be printed, if so.
+    fn unmeasured(&self) -> Option<Misuse>
+        ensures none { IfNone result (AreMeasured self.now) }
+        ensures some { IfSome result (IsMeasuringMisuse self.now) }
+    {
+        if self.fuzzy.is_none() || self.beginnings {
+            return Some(Misuse::IdleDistance);
+        }
+        if self.list.format.is_some() || self.list.raw {
+            return Some(Misuse::DistanceForm);
+        }
+        (self.list.count || self.list.sorted).then_some(Misuse::DistanceOrder)
+    }
+
+    /// Returns what is asked for, if pairs are printed with their distances.
+    fn distances(&self) -> Result<Question<'a>, Misuse>
+        ensures question { IfOk result (IsSearchBy true self.now) }
+        ensures refused { IfErr result (IsSearchMisuseBy true self.now) }
+    {
+        match self.unmeasured() {
+            Some(misuse) => Err(misuse),
+            None => Ok(Question::Distances(self.choice()?, self.list.most()?)),
+        }
+    }
+
+    /// Returns what is asked for, if pairs are printed in a format.
+    fn pairs(&self) -> Result<Question<'a>, Misuse>
+        ensures question { IfOk result (IsSearchBy false self.now) }
+        ensures refused { IfErr result (IsSearchMisuseBy false self.now) }
+    {
+        let form = self.list.form()?;
+        let query = ListQuery {
+            choice: self.choice()?,
+            order: self.list.search_order(self.fuzzy, self.edits),
+            limit: self.list.most()?,
+        };
+        Ok(Question::List(form, query))
+    }
+
+    /// Returns what `search` asks for.
+    pub fn question(&self) -> Result<Question<'a>, Misuse>
+        ensures question { IfOk result (IsSearch self.now) }
+        ensures refused { IfErr result (IsSearchMisuse self.now) }
+    {
+        if self.distance {
+            self.distances()
+        } else {
+            self.pairs()
+        }
+    }
 }

@@ -219,7 +219,7 @@ fn words_of(alloc: Global, row: &str) -> Result<Vec<String>, AllocError> {
 fn first_line(alloc: Global, reply: &Reply<'_>) -> Result<String, AllocError> {
     let text = match reply {
         Reply::Help(text) | Reply::Misuse(text) => format!(in alloc; "{text}")?,
-        Reply::Refusal(why) => format!(in alloc; "{why}")?,
+        Reply::Refusal(why) => format!(in alloc; "{}", why.text())?,
         Reply::OneFile(from, to) => {
             format!(in alloc; "{from} and {to}: IN and OUT are the same file")?
         }

@@ -1,7 +1,8 @@
 // Made from crates/zerotrie_words/src/code.rt by rust/make: edit that.
-//! The code of a program that the command line asks for.
+//! The code of a program that the options ask for.
 
-use crate::rstd::clap::ArgMatches;
+use crate::zerotrie_words::misuse::Misuse;
+use crate::zerotrie_words::options::CodeOptions;
 use crate::zerotrie_queries::{Language, is_name};
 use crate::zerotrie_run::Question;
 
@@ -68,13 +69,21 @@ const JS_KEYWORDS: &[&str] = &[
     "ZeroTrie",
 ];
 
-/// Returns whether the name is a keyword of the language. In C, also whether it begins with
-/// `zerotrie`: the names made from it could then be those of `zerotrie.h`.
-fn is_taken(language: Language, name: &str) -> bool {
+/// Returns why a name can't be taken, if so: it is a keyword of the language, or in C it begins with
+/// `zerotrie`, as names made from it could then be those of `zerotrie.h`.
+fn taken(language: Language, name: &str) -> Option<Misuse> {
     match language {
-        Language::Rust | Language::Rattle => KEYWORDS.iter().any(|word| *word == name),
-        Language::C | Language::CAlone => name.starts_with("zerotrie"),
-        Language::JavaScript => JS_KEYWORDS.iter().any(|word| *word == name),
+        Language::Rust | Language::Rattle if KEYWORDS.iter().any(|word| *word == name) => {
+            Some(Misuse::NameIsKeyword)
+        }
+        Language::JavaScript if JS_KEYWORDS.iter().any(|word| *word == name) => {
+            Some(Misuse::NameIsKeyword)
+        }
+        Language::C | Language::CAlone if name.starts_with("zerotrie") => {
+            Some(Misuse::NameOfHeader)
+        }
+        Language::Rust | Language::Rattle | Language::JavaScript | Language::C | Language::CAlone =>
+            None,
     }
 }
 
@@ -91,38 +100,29 @@ fn language_named(name: &str, alone: bool) -> Option<Language> {
     }
 }
 
-/// Returns the language that is named, or C with the reader in front.
-fn language_in(matches: &ArgMatches<'_>) -> Result<Language, &'static str> {
-    let Some(name) = matches.get_str("lang") else {
-        return Err("--lang asks for a language");
-    };
-    let alone = matches.get_flag("alone");
-    match language_named(name, alone) {
-        Some(language) => Ok(language),
-        None if alone => Err("--alone is for --lang c"),
-        None => Err("--lang asks for a language"),
-    }
-}
-
-/// Returns what is said of a name that is taken.
-fn taken_refused(language: Language) -> &'static str {
-    match language {
-        Language::C | Language::CAlone => "--name asks for no name that begins with zerotrie",
-        Language::Rust | Language::Rattle | Language::JavaScript => {
-            "--name asks for no keyword of the language"
+impl<'a> CodeOptions<'a> {
+    /// Returns the language that is named, or C with the reader in front.
+    fn language(&self) -> Result<Language, Misuse> {
+        let Some(name) = self.lang else {
+            return Err(Misuse::UnknownWord);
+        };
+        match language_named(name, self.alone) {
+            Some(language) => Ok(language),
+            None if self.alone => Err(Misuse::AloneIsC),
+            None => Err(Misuse::UnknownWord),
         }
     }
-}
 
-/// Returns the code that is asked for. It is an error, with the message, if it can't have its name.
-pub fn code_in<'a>(matches: &ArgMatches<'a>) -> Result<Question<'a>, &'static str> {
-    let language = language_in(matches)?;
-    let name = matches.get_str("name").unwrap_or(language.usual_name());
-    if !is_name(name) {
-        return Err("--name asks for ASCII letters, digits and _, and no digit in front");
+    /// Returns what `code` asks for. It is an error if the code can't have its name.
+    pub fn question(&self) -> Result<Question<'a>, Misuse> {
+        let language = self.language()?;
+        let name = self.name.unwrap_or(language.usual_name());
+        if !is_name(name) {
+            return Err(Misuse::BadName);
+        }
+        match taken(language, name) {
+            Some(misuse) => Err(misuse),
+            None => Ok(Question::Code(language, name)),
+        }
     }
-    if is_taken(language, name) {
-        return Err(taken_refused(language));
-    }
-    Ok(Question::Code(language, name))
 }

@@ -2,8 +2,9 @@
 //! The combination of tries that the command line asks for.
 
 use crate::rstd::prelude::*;
-use crate::zerotrie_words::build::{content_in, summary_in, target_in};
+use crate::zerotrie_words::misuse::Misuse;
 use crate::zerotrie_words::names::source_of;
+use crate::zerotrie_words::options::MakeOptions;
 use crate::zerotrie_words::task::Task;
 use crate::rstd::clap::ArgMatches;
 use crate::rstd::alloc::{AllocError, Global};
@@ -55,35 +56,39 @@ fn rule_named(name: &str) -> Option<Rule> {
 }
 
 /// Returns which value a key gets that several tries have. `minus` has no such key, and no word for it.
-fn rule_in(matches: &ArgMatches<'_>) -> Result<Rule, &'static str> {
-    match matches.get_str("values") {
-        Some(name) => {
-            rule_named(name).ok_or("--values asks for refuse, first, last, sum, min, max or equal")
-        }
+fn rule_of(values: Option<&str>) -> Result<Rule, Misuse> {
+    match values {
+        Some(name) => rule_named(name).ok_or(Misuse::UnknownWord),
         None => Ok(Rule::First),
     }
 }
 
-/// Returns the combination that is asked for, of the tries in these places. It is an error, with the
-/// message, if an option has a wrong word, or options exclude each other.
-pub fn combine_in<'w, 'a: 'w>(
-    matches: &ArgMatches<'a>,
-    selection: Selection,
-    places: &'w [Place<'a>],
-    to_terminal: bool,
-) -> Result<Combine<'w>, &'static str> {
-    let (kind, form) = content_in(matches)?;
-    let rule = rule_in(matches)?;
-    Ok(Combine {
-        from: places,
-        to: target_in(matches),
-        combination: Combination {
-            selection,
-            rule,
-            kind,
-            form,
-        },
-        no_clobber: matches.get_flag("no-clobber"),
-        summary: summary_in(matches, to_terminal)?,
-    })
+impl<'a> MakeOptions<'a> {
+    /// Returns the combination that is asked for, of the tries in these places, with the word of its
+    /// rule. What it made is told always if messages go to a terminal.
+    pub fn combination<'w>(
+        &self,
+        values: Option<&str>,
+        selection: Selection,
+        places: &'w [Place<'a>],
+        to_terminal: bool,
+    ) -> Result<Combine<'w>, Misuse>
+    where
+        'a: 'w,
+    {
+        let (kind, form) = self.content()?;
+        let rule = rule_of(values)?;
+        Ok(Combine {
+            from: places,
+            to: self.target(),
+            combination: Combination {
+                selection,
+                rule,
+                kind,
+                form,
+            },
+            no_clobber: self.no_clobber,
+            summary: self.told(to_terminal)?,
+        })
+    }
 }

@@ -2,13 +2,11 @@
 //! The keys, texts and values that the command line asks for.
 
 use crate::rstd::prelude::*;
+use crate::zerotrie_words::misuse::Misuse;
 use crate::zerotrie_words::task::Topic;
 use crate::rstd::clap::ArgMatches;
 use crate::rstd::alloc::{AllocError, Global};
 use crate::zerotrie_run::Keys;
-
-const HYPHEN_AMONG_WORDS: &str = "- reads standard input only if no other key, text or value is \
-    given; the key - is \\x2d with --escaped";
 
 /// Returns words as bytes.
 fn bytes_of<'a>(alloc: Global, words: &[&'a str]) -> Result<Vec<&'a [u8]>, AllocError> {
@@ -58,12 +56,12 @@ fn has_hyphen(words: &[&[u8]]) -> bool {
 }
 
 /// Returns the keys that are asked for: words, or the lines of standard input if the only word is
-/// `-`. It is an error, with the message, if there are no words, or `-` is among others.
-pub fn keys_of<'w, 'a: 'w>(words: &'w Option<Vec<&'a [u8]>>) -> Result<Keys<'w>, &'static str> {
+/// `-`. It is an error if there are no words, or `-` is among others.
+pub fn keys_of<'w, 'a: 'w>(words: &'w Option<Vec<&'a [u8]>>) -> Result<Keys<'w>, Misuse> {
     match words {
         Some(words) if is_hyphen(words.as_slice()) => Ok(Keys::Lines),
-        Some(words) if has_hyphen(words.as_slice()) => Err(HYPHEN_AMONG_WORDS),
+        Some(words) if has_hyphen(words.as_slice()) => Err(Misuse::HyphenAmongKeys),
         Some(words) => Ok(Keys::Words(words.as_slice())),
-        None => Err("give keys, texts or values, or - to read them from standard input"),
+        None => Err(Misuse::NoKeys),
     }
 }

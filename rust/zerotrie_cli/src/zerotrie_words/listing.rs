@@ -1,8 +1,12 @@
 // Made from crates/zerotrie_words/src/listing.rt by rust/make: edit that.
-//! How the command line asks for pairs to be listed.
+//! How the options of a listing ask for pairs.
 
-use crate::rstd::clap::ArgMatches;
-use crate::zerotrie_queries::{Form, Order, Style};
+use crate::zerotrie_words::misuse::Misuse;
+use crate::zerotrie_words::options::ListOptions;
+use crate::rstd::ops::Bound;
+use crate::zerotrie_queries::{Choice, Form, ListQuery, Order, Style};
+use crate::zerotrie_run::Question;
+use crate::zerotrie_search::KeyRange;
 
 /// Returns the form with this name, or `None` if no form of pairs has it.
 fn form_named(name: &str) -> Option<Form> {
@@ -17,21 +21,7 @@ fn form_named(name: &str) -> Option<Form> {
     }
 }
 
-/// Returns how pairs are to be printed. It is an error, with the message, if they are only to be
-/// counted, and a format is named, or if another format than `tsv` is to be raw.
-pub fn form_in(matches: &ArgMatches<'_>) -> Result<Form, &'static str> {
-    let named = matches.get_str("format");
-    match (matches.get_flag("count"), matches.get_flag("raw"), named) {
-        (true, false, None) => Ok(Form::Count),
-        (true, _, _) => Err("--count prints no pairs: leave out --format and --raw"),
-        (false, true, None | Some("tsv")) => Ok(Form::Lines(Style::TsvRaw)),
-        (false, true, Some(_)) => Err("--raw is for tsv"),
-        (false, false, None) => Ok(Form::Lines(Style::Tsv)),
-        (false, false, Some(name)) => form_named(name).ok_or("--format asks for a format"),
-    }
-}
-
-/// Returns the order of pairs by the flags of the command line. What is only to be counted needs none.
+/// Returns the order of pairs by flags. What is only to be counted needs none.
 fn order_by(count: bool, sorted: bool) -> Order {
     match (count, sorted) {
         (false, true) => Order::ByBytes,
@@ -39,7 +29,7 @@ fn order_by(count: bool, sorted: bool) -> Order {
     }
 }
 
-/// Returns the order of keys that a number of edits make of a word, by the flags of the command line.
+/// Returns the order of keys that a number of edits make of a word, by flags.
 fn near_by(count: bool, sorted: bool) -> Order {
     match (count, sorted) {
         (false, false) => Order::Nearest,
@@ -48,31 +38,15 @@ fn near_by(count: bool, sorted: bool) -> Order {
     }
 }
 
-/// Returns the order in which pairs are to be printed.
-pub fn order_in(matches: &ArgMatches<'_>) -> Order {
-    order_by(matches.get_flag("count"), matches.get_flag("sorted"))
-}
-
-/// Returns the order in which the pairs of a search are to be printed. If keys are near a word, and no
-/// number of edits is given, only those of the fewest edits are, and else the nearest come first.
-pub fn search_order_in(matches: &ArgMatches<'_>) -> Order {
-    let (count, sorted) = (matches.get_flag("count"), matches.get_flag("sorted"));
-    match (matches.get_str("fuzzy"), matches.get_str("edits")) {
-        (Some(_), None) => Order::Closest,
-        (Some(_), Some(_)) => near_by(count, sorted),
-        (None, _) => order_by(count, sorted),
-    }
-}
-
-/// Returns the number that a limit is, or `None` if there is none. It is an error, with the
-/// message, if the word is no number, which clap refuses.
-pub fn limit_in(matches: &ArgMatches<'_>) -> Result<Option<usize>, &'static str> {
-    let Some(word) = matches.get_str("limit") else {
+/// Returns the number that the word of a limit is, or `None` if there is none. It is an error if the
+/// word is no number, which clap refuses.
+pub fn limit_of(word: Option<&str>) -> Result<Option<usize>, Misuse> {
+    let Some(word) = word else {
         return Ok(None);
     };
     match word.parse() {
         Ok(limit) => Ok(Some(limit)),
-        Err(_) => Err("--limit asks for a number"),
+        Err(_) => Err(Misuse::UnknownWord),
     }
 }
 
@@ -85,9 +59,73 @@ fn most_of(quiet: bool, limit: Option<usize>) -> Option<usize> {
     }
 }
 
-/// Returns how many pairs are listed at most, which is one if none is printed. It is an error, with the
-/// message, if the word of the limit is no number, which clap refuses.
-pub fn most_in(matches: &ArgMatches<'_>) -> Result<Option<usize>, &'static str> {
-    let limit = limit_in(matches)?;
-    Ok(most_of(matches.get_flag("quiet"), limit))
+impl<'a> ListOptions<'a> {
+    /// Returns how pairs are to be printed.
+    pub fn form(&self) -> Result<Form, Misuse> {
+        match (self.count, self.raw, self.format) {
+            (true, false, None) => Ok(Form::Count),
+            (true, _, _) => Err(Misuse::CountWithForm),
+            (false, true, None | Some("tsv")) => Ok(Form::Lines(Style::TsvRaw)),
+            (false, true, Some(_)) => Err(Misuse::RawIsTsv),
+            (false, false, None) => Ok(Form::Lines(Style::Tsv)),
+            (false, false, Some(name)) => form_named(name).ok_or(Misuse::UnknownWord),
+        }
+    }
+
+    /// Returns the order in which the pairs of a search are to be printed, by whether it has a word
+    /// that keys are near, and a number of edits. Without this number only keys of the fewest edits
+    /// are, and else the nearest come first.
+    pub fn search_order(&self, fuzzy: Option<&str>, edits: Option<&str>) -> Order {
+        match (fuzzy, edits) {
+            (Some(_), None) => Order::Closest,
+            (Some(_), Some(_)) => near_by(self.count, self.sorted),
+            (None, _) => order_by(self.count, self.sorted),
+        }
+    }
+
+    /// Returns how many pairs are listed at most.
+    pub fn most(&self) -> Result<Option<usize>, Misuse> {
+        let limit = limit_of(self.limit)?;
+        Ok(most_of(self.quiet, limit))
+    }
+
+    /// Returns what keys have to begin with.
+    pub fn front(&self) -> &'a [u8] {
+        self.prefix.unwrap_or("").as_bytes()
+    }
+
+    /// Returns the range that keys have to be in.
+    pub fn range(&self) -> KeyRange<'a> {
+        KeyRange {
+            from: match self.from {
+                Some(word) => Bound::Included(word.as_bytes()),
+                None => Bound::Unbounded,
+            },
+            to: match self.below {
+                Some(word) => Bound::Excluded(word.as_bytes()),
+                None => Bound::Unbounded,
+            },
+        }
+    }
+
+    /// Returns which keys are listed: those with a prefix, in a range.
+    fn choice(&self) -> Choice<'a> {
+        Choice {
+            prefix: self.front(),
+            range: self.range(),
+            without: None,
+            sought: None,
+        }
+    }
+
+    /// Returns what `list` asks for.
+    pub fn question(&self) -> Result<Question<'a>, Misuse> {
+        let form = self.form()?;
+        let query = ListQuery {
+            choice: self.choice(),
+            order: order_by(self.count, self.sorted),
+            limit: self.most()?,
+        };
+        Ok(Question::List(form, query))
+    }
 }

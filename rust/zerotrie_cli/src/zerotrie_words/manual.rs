@@ -15,7 +15,7 @@ const NAME: &str = "\" \"User Commands\"\n\
     .SH SYNOPSIS\n";
 
 const DESCRIPTION: &str = ".SH DESCRIPTION\n\
-    A trie is a read\\-only map from byte strings, the keys, to numbers below 2^64, as one list of\n\
+    A trie is a read\\-only map from byte strings, the keys, to numbers below 2\\(ha64, as one list of\n\
     bytes. A file of one has a header with its kind, its length and a checksum in front.\n\
     Every function of the program's library is proved to meet its contract.\n\
     .SH OPTIONS\n\
@@ -37,6 +37,8 @@ fn add(page: &mut String, text: &str) -> Result<(), AllocError> {
             '\\' => page.try_push_str("\\e")?,
             '-' => page.try_push_str("\\-")?,
             '\'' => page.try_push_str("\\(aq")?,
+            '^' => page.try_push_str("\\(ha")?,
+            '~' => page.try_push_str("\\(ti")?,
             _ => page.try_push(letter)?,
         }
     }
@@ -139,16 +141,16 @@ fn add_argument(page: &mut String, argument: &Argument) -> Result<(), AllocError
     page.try_push_str("\n")
 }
 
-/// Adds the lines of a text: an example and a status begin a paragraph. Nothing follows one line.
+/// Adds the lines of a text but for its examples. The first line and a status begin a paragraph.
 fn add_lines(page: &mut String, text: &str) -> Result<(), AllocError> {
+    let mut front = ".PP\n";
     for line in text.lines() {
+        if line.starts_with("Status: ") {
+            front = ".PP\n";
+        }
         if !line.starts_with("Example: ") {
-            let front = if line.starts_with("Status: ") {
-                ".PP\n"
-            } else {
-                ""
-            };
             add_in(page, front, line, "\n")?;
+            front = "";
         }
     }
     Ok(())
@@ -162,7 +164,6 @@ fn add_command(page: &mut String, row: &Subcommand) -> Result<(), AllocError> {
     for argument in row.arguments {
         add_argument(page, argument)?;
     }
-    page.try_push_str(".PP\n")?;
     add_lines(page, row.help)
 }
 

@@ -16,8 +16,10 @@ mod input;
 mod keys;
 mod listing;
 mod manual;
+mod misuse;
 mod names;
 mod notes;
+mod options;
 mod question;
 mod reply;
 mod request;
@@ -25,5 +27,6 @@ mod search;
 mod table;
 mod task;
 
+pub use misuse::Misuse;
 pub use reply::Reply;
 pub use request::Request;

@@ -2,14 +2,14 @@
 //! The questions to a trie that the command line asks.
 
 use crate::rstd::prelude::*;
-use crate::zerotrie_words::code::code_in;
 use crate::zerotrie_words::keys::keys_of;
-use crate::zerotrie_words::listing::{form_in, limit_in, most_in, order_in, search_order_in};
-use crate::zerotrie_words::names::{kind_in, source_in, source_of};
-use crate::zerotrie_words::search::{choice_in, listed_in};
+use crate::zerotrie_words::listing::limit_of;
+use crate::zerotrie_words::misuse::Misuse;
+use crate::zerotrie_words::names::{kind_of, source_of};
+use crate::zerotrie_words::options::{CodeOptions, ListOptions, SearchOptions};
 use crate::zerotrie_words::task::Topic;
 use crate::rstd::clap::ArgMatches;
-use crate::zerotrie_queries::{Asked, ListQuery, Query, ReportForm, Spelling, View};
+use crate::zerotrie_queries::{Asked, Query, ReportForm, Spelling, View};
 use crate::zerotrie_run::{Check, Command, Place, Question, TrieFile};
 
 /// How many nodes are drawn if `--limit` is left out.
@@ -70,7 +70,7 @@ fn file_place<'a>(matches: &ArgMatches<'a>, topic: Topic, number: usize) -> Plac
         | Topic::List
         | Topic::Search
         | Topic::Inspect
-        | Topic::Code => source_in(matches, "FILE"),
+        | Topic::Code => source_of(matches.get_str("FILE")),
     }
 }
 
@@ -79,44 +79,44 @@ fn file_in<'a>(
     matches: &ArgMatches<'a>,
     topic: Topic,
     number: usize,
-) -> Result<TrieFile<'a>, &'static str> {
+) -> Result<TrieFile<'a>, Misuse> {
     Ok(TrieFile {
         place: file_place(matches, topic, number),
-        bare: kind_in(matches, "bare-kind")?,
+        bare: kind_of(matches.get_str("bare-kind"))?,
         check: check_in(matches, topic),
     })
 }
 
-/// Returns the view of the nodes that is asked for. It is an error, with the message, if a limit is
+/// Returns the view of the nodes that is asked for. It is an error if a limit is
 /// no number, or is not for a drawing.
-fn view_in(matches: &ArgMatches<'_>) -> Result<View, &'static str> {
-    match (matches.get_str("VIEW"), limit_in(matches)?) {
+fn view_in(matches: &ArgMatches<'_>) -> Result<View, Misuse> {
+    match (matches.get_str("VIEW"), limit_of(matches.get_str("limit"))?) {
         (Some("dump"), None) => Ok(View::Dump),
-        (Some("dump"), Some(_)) => Err("--limit is for inspect dot"),
+        (Some("dump"), Some(_)) => Err(Misuse::LimitOfDump),
         (Some("dot"), most) => Ok(View::Dot(most.unwrap_or(DRAWN))),
-        (Some(_) | None, _) => Err("inspect asks for dump or dot"),
+        (Some(_) | None, _) => Err(Misuse::UnknownWord),
     }
 }
 
 /// Returns the byte at which a key may end, or `None` if it may end anywhere. It is an error, with
 /// the message, if the word is not one byte.
-fn border_in(matches: &ArgMatches<'_>) -> Result<Option<u8>, &'static str> {
+fn border_in(matches: &ArgMatches<'_>) -> Result<Option<u8>, Misuse> {
     let Some(word) = matches.get_str("at") else {
         return Ok(None);
     };
     match word.as_bytes() {
         [byte] => Ok(Some(*byte)),
-        _ => Err("--at asks for one byte"),
+        _ => Err(Misuse::NoBorder),
     }
 }
 
-/// Returns what is asked of texts. It is an error, with the message, if options exclude each other.
-fn longest_in(matches: &ArgMatches<'_>) -> Result<Asked, &'static str> {
+/// Returns what is asked of texts. It is an error if options exclude each other.
+fn longest_in(matches: &ArgMatches<'_>) -> Result<Asked, Misuse> {
     match (matches.get_flag("all"), border_in(matches)?) {
         (false, None) => Ok(Asked::Longest),
         (true, None) => Ok(Asked::Prefixes),
         (false, Some(byte)) => Ok(Asked::LongestAt(byte)),
-        (true, Some(_)) => Err("--all and --at exclude each other"),
+        (true, Some(_)) => Err(Misuse::AllAndAt),
     }
 }
 
@@ -154,58 +154,13 @@ fn query_in(matches: &ArgMatches<'_>, asked: Asked) -> Query {
     }
 }
 
-/// Returns what is said of distances that are to be printed where they can't be, if so.
-fn unmeasured_in(matches: &ArgMatches<'_>) -> Option<&'static str> {
-    if matches.get_str("fuzzy").is_none() || matches.get_flag("beginnings") {
-        return Some("--distance is for --fuzzy without --beginnings");
-    }
-    if matches.get_str("format").is_some() || matches.get_flag("raw") {
-        return Some("--distance prints tsv: leave out --format and --raw");
-    }
-    if matches.get_flag("count") || matches.get_flag("sorted") {
-        return Some("--distance prints the nearest first: leave out --count and --sorted");
-    }
-    None
-}
-
-/// Returns what a search asks for, whose pairs are printed with their distances. It is an error, with
-/// the message, if an option has a wrong word, or options exclude each other.
-fn distances_in<'a>(matches: &ArgMatches<'a>) -> Result<Question<'a>, &'static str> {
-    if let Some(why) = unmeasured_in(matches) {
-        return Err(why);
-    }
-    Ok(Question::Distances(choice_in(matches)?, most_in(matches)?))
-}
-
-/// Returns what a search asks for, whose pairs are printed in a format. It is an error, with the
-/// message, if an option has a wrong word, or options exclude each other.
-fn found_in<'a>(matches: &ArgMatches<'a>) -> Result<Question<'a>, &'static str> {
-    let form = form_in(matches)?;
-    let selection = ListQuery {
-        choice: choice_in(matches)?,
-        order: search_order_in(matches),
-        limit: most_in(matches)?,
-    };
-    Ok(Question::List(form, selection))
-}
-
-/// Returns what a search asks for. It is an error, with the message, if an option has a wrong word, or
-/// options exclude each other.
-fn search_in<'a>(matches: &ArgMatches<'a>) -> Result<Question<'a>, &'static str> {
-    if matches.get_flag("distance") {
-        distances_in(matches)
-    } else {
-        found_in(matches)
-    }
-}
-
-/// Returns the question of a command. It is an error, with the message, if an option has a wrong
+/// Returns the question of a command. It is an error if an option has a wrong
 /// word.
 fn question_in<'w, 'a: 'w>(
     matches: &ArgMatches<'a>,
     topic: Topic,
     words: &'w Option<Vec<&'a [u8]>>,
-) -> Result<Question<'w>, &'static str> {
+) -> Result<Question<'w>, Misuse> {
     match topic {
         Topic::Get => {
             let asked = get_in(matches);
@@ -222,20 +177,12 @@ fn question_in<'w, 'a: 'w>(
             };
             Ok(Question::LookUp(query, keys_of(words)?))
         }
-        Topic::List => {
-            let form = form_in(matches)?;
-            let selection = ListQuery {
-                choice: listed_in(matches),
-                order: order_in(matches),
-                limit: most_in(matches)?,
-            };
-            Ok(Question::List(form, selection))
-        }
-        Topic::Search => search_in(matches),
+        Topic::List => ListOptions::of(matches).question(),
+        Topic::Search => SearchOptions::of(matches).question(),
         Topic::Verify => Ok(Question::Verify),
         Topic::Stats => Ok(Question::Report(report_in(matches))),
         Topic::Inspect => Ok(Question::View(view_in(matches)?)),
-        Topic::Code => code_in(matches),
+        Topic::Code => CodeOptions::of(matches).question(),
     }
 }
 
@@ -246,7 +193,7 @@ pub fn ask_in<'w, 'a: 'w>(
     topic: Topic,
     number: usize,
     words: &'w Option<Vec<&'a [u8]>>,
-) -> Result<Command<'w>, &'static str> {
+) -> Result<Command<'w>, Misuse> {
     let file = file_in(matches, topic, number)?;
     let question = question_in(matches, topic, words)?;
     Ok(Command::Ask(file, question))

@@ -4,6 +4,7 @@
 use crate::rstd::prelude::*;
 use crate::zerotrie_words::arguments::Subcommand;
 use crate::zerotrie_words::help::text_of;
+use crate::zerotrie_words::misuse::Misuse;
 use crate::rstd::clap::error::ErrorKind;
 use crate::rstd::alloc::{AllocError, Global};
 use crate::zerotrie_run::Status;
@@ -14,8 +15,8 @@ pub enum Reply<'a> {
     Help(String),
     /// This text of several lines: the words are no command.
     Misuse(String),
-    /// This message: an option has a wrong word, or options exclude each other.
-    Refusal(&'static str),
+    /// The words are misused so: an option has a wrong word, or options exclude each other.
+    Refusal(Misuse),
     /// These paths are one file, the input of a build and its output.
     OneFile(&'a str, &'a str),
     /// It is out of memory.
@@ -28,8 +29,8 @@ impl<'a> From<AllocError> for Reply<'a> {
     }
 }
 
-impl<'a> From<&'static str> for Reply<'a> {
-    fn from(why: &'static str) -> Self {
+impl<'a> From<Misuse> for Reply<'a> {
+    fn from(why: Misuse) -> Self {
         Reply::Refusal(why)
     }
 }
@@ -59,7 +60,7 @@ pub fn reply_to<'a>(
     match said.kind() {
         ErrorKind::OutOfMemory => Reply::OutOfMemory,
         ErrorKind::DisplayHelp | ErrorKind::DisplayVersion => Reply::Help(text),
-        _ if text.is_empty() => Reply::Refusal("give a command, or --help"),
+        _ if text.is_empty() => Reply::Refusal(Misuse::NoCommand),
         _ => Reply::Misuse(text),
     }
 }

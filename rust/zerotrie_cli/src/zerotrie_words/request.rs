@@ -3,12 +3,13 @@
 
 use crate::rstd::prelude::*;
 use crate::zerotrie_words::arguments::program;
-use crate::zerotrie_words::build::build_in;
-use crate::zerotrie_words::combine::{combine_in, places_in};
+use crate::zerotrie_words::combine::places_in;
 use crate::zerotrie_words::completions::script_for;
 use crate::zerotrie_words::diff::diff_in;
 use crate::zerotrie_words::keys::words_in;
 use crate::zerotrie_words::manual::manual;
+use crate::zerotrie_words::misuse::Misuse;
+use crate::zerotrie_words::options::{BuildOptions, MakeOptions};
 use crate::zerotrie_words::question::{ask_in, file_count, heading_in};
 use crate::zerotrie_words::reply::{Reply, reply_to};
 use crate::zerotrie_words::table::commands;
@@ -69,7 +70,7 @@ impl<'a> Request<'a> {
             return Err(Reply::Help(page));
         }
         let Some((task, matches)) = task_in(&mut matches) else {
-            return Err(Reply::Refusal("give a command, or --help"));
+            return Err(Reply::Refusal(Misuse::NoCommand));
         };
         let keys = match task {
             Task::Ask(topic) => words_in(alloc, &matches, topic)?,
@@ -127,15 +128,16 @@ impl<'a> Request<'a> {
     pub fn command(&self, file: usize, to_terminal: bool) -> Result<Command<'_>, Reply<'a>> {
         match self.task {
             Task::Build => {
-                let build = build_in(&self.matches, to_terminal)?;
+                let build = BuildOptions::of(&self.matches).build(to_terminal)?;
                 Ok(Command::Build(kept_apart(build)?))
             }
             Task::Ask(topic) => Ok(ask_in(&self.matches, topic, file, &self.keys)?),
             Task::Diff => Ok(Command::Diff(diff_in(&self.matches)?)),
             Task::Combine(selection) => {
+                let options = MakeOptions::of(&self.matches);
+                let values = self.matches.get_str("values");
                 let places = self.places.as_slice();
-                let combine = combine_in(&self.matches, selection, places, to_terminal)?;
-                Ok(Command::Combine(combine))
+                Ok(Command::Combine(options.combination(values, selection, places, to_terminal)?))
             }
         }
     }

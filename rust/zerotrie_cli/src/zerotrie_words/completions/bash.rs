@@ -24,13 +24,19 @@ const AFTER_VALUES: &str = "    esac\n    case $command in\n";
 
 const END: &str = "' ;;\n\
     \x20   esac\n\
+    \x20   for before in \"${COMP_WORDS[@]:2:COMP_CWORD - 2}\"; do\n\
+    \x20       [[ \" $words \" == *\" $before \"* ]] && words=\n\
+    \x20   done\n\
     \x20   if [[ $word == -* ]]; then\n\
     \x20       mapfile -t COMPREPLY < <(compgen -W \"$options\" -- \"$word\")\n\
-    \x20   else\n\
-    \x20       mapfile -t COMPREPLY < <(compgen $files -W \"$words\" -- \"$word\")\n\
+    \x20   elif [ -n \"$words\" ]; then\n\
+    \x20       mapfile -t COMPREPLY < <(compgen -W \"$words\" -- \"$word\")\n\
+    \x20   elif [ -n \"$files\" ]; then\n\
+    \x20       compopt -o filenames 2> /dev/null\n\
+    \x20       mapfile -t COMPREPLY < <(compgen -f -- \"$word\")\n\
     \x20   fi\n\
     }\n\
-    complete -o filenames -F _zerotrie zerotrie\n";
+    complete -F _zerotrie zerotrie\n";
 
 /// Adds the case of an option with a word after its name.
 fn add_value(script: &mut String, command: &str, argument: &Argument) -> Result<(), AllocError> {
@@ -44,9 +50,9 @@ fn add_value(script: &mut String, command: &str, argument: &Argument) -> Result<
             add_words(script, words)?;
             script.try_push_str("' -- \"$word\"); return ;;\n")
         }
-        Offer::Files => {
-            script.try_push_str(") mapfile -t COMPREPLY < <(compgen -f -- \"$word\"); return ;;\n")
-        }
+        Offer::Files => script.try_push_str(
+            ") compopt -o filenames 2> /dev/null\n                mapfile -t COMPREPLY < <(compgen -f -- \"$word\"); return ;;\n",
+        ),
         Offer::Nothing => script.try_push_str(") COMPREPLY=(); return ;;\n"),
     }
 }
@@ -75,7 +81,7 @@ fn add_command(script: &mut String, row: &Subcommand) -> Result<(), AllocError> 
     for place in row.arguments.iter().filter(|it| !it.is_option()) {
         add_words(script, place.words())?;
         if matches!(place.offer(), Offer::Files) {
-            files = "-f";
+            files = "yes";
         }
     }
     write!(script, "' files={files} ;;\n")
