@@ -4,7 +4,6 @@ use Rattle.zerotrie_core.specs.Kinds.{kind_name}
 use Rattle.zerotrie_core.specs.declared.TrieKind.{TrieKind}
 use Rattle.zerotrie_lines.specs.declared.reading.Header.{Header}
 use Rattle.zerotrie_lines.specs.declared.reading.LineEnd.{LineEnd}
-use Rattle.zerotrie_making.specs.declared.duplicates.Duplicates.{Duplicates}
 use Rattle.zerotrie_making.specs.declared.plan.FileForm.{FileForm}
 use Rattle.zerotrie_making.specs.declared.plan.FileForm.TheVariants as made
 use Rattle.zerotrie_making.specs.declared.plan.Plan.{Plan}

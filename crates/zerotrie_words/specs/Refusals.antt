@@ -1,7 +1,7 @@
 -- Which words are no names and no numbers.
 use Rattle.std.specs.Prelude.{◌≡◌, ◌≢◌, ◌<◌, ◌^◌, ℕ, List, [], ◌∷◌, Option, Some, None, codes}
 use Rattle.zerotrie_core.specs.Kinds.{kind_name}
-use Rattle.zerotrie_words.specs.Words.{HasNoHyphen, IsNumberOf}
+use Rattle.zerotrie_words.specs.Words.{IsNumberOf}
 use Rattle.zerotrie_words.specs.declared.misuse.Misuse.{Misuse}
 use Rattle.zerotrie_words.specs.declared.misuse.Misuse.TheVariants as misuse
 

@@ -21,35 +21,23 @@ use Rattle.zerotrie_lines.specs.declared.reading.Header.{Header}
 use Rattle.zerotrie_lines.specs.declared.reading.Header.TheVariants.{Absent, Present}
 use Rattle.zerotrie_lines.specs.declared.reading.LineEnd.{LineEnd}
 use Rattle.zerotrie_lines.specs.declared.reading.LineEnd.TheVariants.{CrLf, Lf}
-use Rattle.zerotrie_queries.specs.Chosen.{pattern_by}
-use Rattle.zerotrie_queries.specs.code.Names.{is_name}
-use Rattle.zerotrie_queries.specs.code.Texts.{usual_name}
 use Rattle.zerotrie_queries.specs.declared.code.Language.{Language}
 use Rattle.zerotrie_queries.specs.declared.code.Language.TheVariants as lang
 use Rattle.zerotrie_queries.specs.declared.question.Asked.{Asked}
 use Rattle.zerotrie_queries.specs.declared.question.Asked.TheVariants as asked
 use Rattle.zerotrie_queries.specs.declared.question.Spelling.{Spelling}
 use Rattle.zerotrie_queries.specs.declared.question.Spelling.TheVariants as spelling
-use Rattle.zerotrie_queries.specs.declared.question.Query.{Query}
 use Rattle.zerotrie_queries.specs.declared.reports.ReportForm.{ReportForm}
 use Rattle.zerotrie_queries.specs.declared.reports.ReportForm.TheVariants as report
-use Rattle.zerotrie_queries.specs.declared.question.Choice.{Choice}
-use Rattle.zerotrie_queries.specs.declared.question.Pattern.{Pattern}
-use Rattle.zerotrie_queries.specs.declared.question.Sought.{Sought}
-use Rattle.zerotrie_queries.specs.declared.question.ListQuery.{ListQuery}
 use Rattle.zerotrie_queries.specs.declared.question.Order.{Order}
 use Rattle.zerotrie_queries.specs.declared.question.Order.TheVariants as order
-use Rattle.zerotrie_search.specs.Automata.{IsWordError}
 use Rattle.zerotrie_search.specs.declared.any.SearchBy.{SearchBy}
 use Rattle.zerotrie_search.specs.declared.any.SearchBy.TheVariants as by
-use Rattle.zerotrie_search.specs.declared.any.WordError.{WordError}
-use Rattle.zerotrie_search.specs.declared.range.KeyRange.{KeyRange}
 use Rattle.zerotrie_queries.specs.declared.views.View.{View}
 use Rattle.zerotrie_queries.specs.declared.print.Form.{Form}
 use Rattle.zerotrie_queries.specs.declared.print.Form.TheVariants as form
 use Rattle.zerotrie_queries.specs.declared.print.Style.TheVariants as style
 use Rattle.zerotrie_queries.specs.declared.views.View.TheVariants as view
-use Rattle.zerotrie_making.specs.declared.plan.Plan.{Plan}
 use Rattle.zerotrie_making.specs.declared.duplicates.Duplicates.{Duplicates}
 use Rattle.zerotrie_making.specs.declared.duplicates.Duplicates.TheVariants as again
 use Rattle.zerotrie_making.specs.declared.plan.FileForm.{FileForm}
@@ -60,13 +48,9 @@ use Rattle.zerotrie_run.specs.declared.command.Check.{Check}
 use Rattle.zerotrie_run.specs.declared.command.Check.TheVariants as check
 use Rattle.zerotrie_run.specs.declared.command.Keys.{Keys}
 use Rattle.zerotrie_run.specs.declared.command.Keys.TheVariants as keys
-use Rattle.zerotrie_run.specs.declared.command.Question.{Question}
-use Rattle.zerotrie_run.specs.declared.command.Question.TheVariants as question
 use Rattle.zerotrie_run.specs.declared.command.Summary.{Summary}
 use Rattle.zerotrie_run.specs.declared.command.Summary.TheVariants as summary
 use Rattle.zerotrie_run.specs.declared.command.TrieFile.{TrieFile}
-use Rattle.zerotrie_run.specs.declared.command.Command.{Command}
-use Rattle.zerotrie_run.specs.declared.command.Command.TheVariants.{Ask}
 use Rattle.zerotrie_run.specs.declared.command.Place.{Place}
 use Rattle.zerotrie_run.specs.declared.command.Place.TheVariants.{File, Stream}
 

@@ -3,7 +3,7 @@
 ghost use Rattle.std.specs.Prelude.{◌≡◌, Some, true, IfErr, IfNone, IfOk, IfSome};
 ghost use Rattle.zerotrie_lines.specs.declared.reading.LineEnd.{LineEnd};
 ghost use Rattle.zerotrie_making.specs.declared.duplicates.Duplicates.{Duplicates};
-ghost use Rattle.zerotrie_words.specs.Builds.{HasNoHeader, IsBuild, IsBuildMisuse, IsContentMisuse, IsEndMisuse, IsFileMisuse, IsForm, IsHeaderMisuse, IsInput, IsInputMisuse, IsNoChoice, IsPlan, IsPlanMisuse, IsSummaryMisuse};
+ghost use Rattle.zerotrie_words.specs.Builds.{IsBuild, IsBuildMisuse, IsContentMisuse, IsEndMisuse, IsFileMisuse, IsForm, IsHeaderMisuse, IsInput, IsInputMisuse, IsNoChoice, IsPlan, IsPlanMisuse, IsSummaryMisuse};
 ghost use Rattle.zerotrie_words.specs.Options.{text_of};
 ghost use Rattle.zerotrie_words.specs.Refusals.{IsUnknown, NamesNone};
 ghost use Rattle.zerotrie_words.specs.Words.{AreTogether, IsEnd, IsFormat, IsKind, IsTarget, MayHaveHeader, MayNameEnd, duplicates_word, end_word, format_word, has_header, summary_by};

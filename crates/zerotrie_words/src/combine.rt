@@ -1,6 +1,6 @@
 //! The combination of tries that the command line asks for.
 
-ghost use Rattle.std.specs.Prelude.{◌≡◌, IfErr, IfNone, IfOk, IfSome, codes, map};
+ghost use Rattle.std.specs.Prelude.{◌≡◌, IfErr, IfNone, IfOk, IfSome, map};
 ghost use Rattle.zerotrie_sets.specs.declared.selection.Rule.{Rule};
 ghost use Rattle.zerotrie_words.specs.Builds.{IsCombination, IsCombinationMisuse, IsRule, rule_word};
 ghost use Rattle.zerotrie_words.specs.Options.{text_of};

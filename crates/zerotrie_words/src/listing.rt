@@ -1,10 +1,8 @@
 //! How the options of a listing ask for pairs.
 
 ghost use Rattle.std.specs.Prelude.{◌≡◌, Some, IfErr, IfNone, IfOk, IfSome};
-ghost use Rattle.std.specs.Option.{option_map};
 ghost use Rattle.zerotrie_queries.specs.declared.print.Form.{Form};
 ghost use Rattle.zerotrie_words.specs.Options.{text_of};
-ghost use Rattle.zerotrie_words.specs.Refusals.{HasNoNumber, IsUnknown};
 ghost use Rattle.zerotrie_words.specs.Searches.{IsFormMisuse, IsFront, IsLimitMisuse, IsList, IsListForm, IsListMisuse, IsListed, IsMost, IsRange};
 ghost use Rattle.zerotrie_words.specs.Words.{IsLimit, form_word, most_of, near_by, order_by, search_order};
 

@@ -1,6 +1,6 @@
 //! The questions to a trie that the command line asks.
 
-ghost use Rattle.std.specs.Prelude.{◌≡◌, ◌⊎◌, IfErr, IfOk, codes, length};
+ghost use Rattle.std.specs.Prelude.{◌≡◌, IfErr, IfOk, codes, length};
 ghost use Rattle.std.specs.List.{slice_get};
 ghost use Rattle.std.specs.Option.{option_map};
 ghost use Rattle.zerotrie_words.specs.Questions.{IsAsk, IsAskMisuse, IsLongestMisuse, IsQuestion, IsQuestionMisuse, IsViewMisuse};
