@@ -17,7 +17,7 @@ def built(name, words, given, pairs, tag):
     holds(name, ['build', '-', '-o', path] + words, b'', 0, told, given)
     holds(name + ', without a word', ['build', '-', '-o', path, '-q'] + words, b'', 0, given=given)
     bare = held_in(path)
-    kind = [] if tag is not None else ['--bare', words[words.index('--kind') + 1]]
+    kind = [] if tag is not None else ['--bare-kind', words[words.index('--kind') + 1]]
     if tag is not None:
         seal = unsealed(bare)
         said(f'{name}: the file is not sealed, or of another kind: {bare[:24]!r}', seal is not None and seal[0] == tag)

@@ -140,7 +140,7 @@ HELD = [Held(name, kind, tag, pairs, text(sorted(pairs.items()), 0, tag != 0)) f
 def forms(held):
     """The files of a map: each with its name, its path, and the words that say how it is read."""
     tagged = put('tagged', bytes([held.tag]) + held.bare)
-    return [(held.name, tagged, []), (held.name + ', bare', put('bare', held.bare), ['--bare', held.kind]),
+    return [(held.name, tagged, []), (held.name + ', bare', put('bare', held.bare), ['--bare-kind', held.kind]),
             (held.name + ', sealed', put('sealed', sealed(held.tag, held.bare)), []), (held.name + ', unchecked', tagged, ['--no-check'])]
 
 

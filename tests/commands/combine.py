@@ -152,11 +152,11 @@ def test_refusals():
              front + b'the sum of the values of this key is 2^64 or more: the empty key\n'),
             ('a sum of 2^64 that all have', ['intersect', great, empty, '--values', 'sum'], 1,
              front + b'the sum of the values of this key is 2^64 or more: the empty key\n'),
-            ('a file that is there', ['union', a, b, '-n'], 1, front + b'the file is there already'),
+            ('a file that is there', ['union', a, b, '--no-clobber'], 1, front + b'the file is there already'),
             ('a file that is there, and none', ['minus', none, none, '--no-clobber'], 1, front + b'the file is there already'),
             ('another rule', ['union', a, b, '--values', 'second'], 2, b"invalid value 'second' for '--values <V>'"),
             ('a rule of minus', ['minus', a, b, '--values', 'last'], 2, b"unexpected argument '--values'"),
-            ('quiet, and told', ['intersect', a, b, '-q', '-p'], 2, b'--progress and --quiet exclude each other'),
+            ('quiet, and told', ['intersect', a, b, '-q', '--summary'], 2, b'--summary and --quiet exclude each other'),
             ('tagged and bare', ['union', a, b, '--tagged', '--bare'], 2, b'exclude each other'),
             ('an index of a kind', ['union', a, b, '--index', '-k', 'hash'], 2, b'an index has no kind'),
             ('a tagged index', ['union', a, b, '--index', '--tagged'], 2, b'--index excludes --tagged and --bare')]:
@@ -164,12 +164,12 @@ def test_refusals():
             holds(f'combined, {name}, {part!r}', [*words, '-o', old], b'', status, part)
         said(f'combined, {name}: the old file changed', held_in(old) == b'old' and not left_in(RUN.room))
     size = len(build_of({b'AMP': 1, b'amp': 1, b'lt': 2}, []).stdout)
-    for words in [['-p'], ['--progress', '--values', 'min']]:
+    for words in [['--summary'], ['--summary', '--values', 'min']]:
         holds('what is made of three', ['union', a, c, c, '-o', old, *words], b'', 0, front + b'3 keys, %d bytes\n' % size)
     kind = front + b'the files have tries of several kinds, so it is of kind hash\n'
-    holds('what is made of two kinds', ['union', a, b, '-o', old, '-p'], b'', 0, kind + front + b'4 keys, ')
+    holds('what is made of two kinds', ['union', a, b, '-o', old, '--summary'], b'', 0, kind + front + b'4 keys, ')
     holds('what is made of two kinds, and not told otherwise', ['union', a, b, '-o', old], b'', 0, kind)
-    holds('one key', ['intersect', c, c, c, '-o', old, '-p'], b'', 0, front + b'1 key, ')
+    holds('one key', ['intersect', c, c, c, '-o', old, '--summary'], b'', 0, front + b'1 key, ')
     holds('no key', ['minus', c, a, c, '-o', old], b'', 0, front + b'0 keys, 24 bytes\n')
     holds('no key, quiet', ['minus', c, a, c, '-o', old, '--quiet'], b'', 0)
 

@@ -56,7 +56,7 @@ def test_conditions():
                         tests.append(lambda key: how_far(key) <= 2)
                 elif sort == 2 or not words:
                     letters = bytes(chance.choice(sorted(pairs))[::2])[:3]
-                    words += ['-s', letters.decode()]
+                    words += ['--subsequence', letters.decode()]
                     tests.append(lambda key: is_within(folds(letters), folds(key)))
             in_order = chance.random() < 0.5
             wanted = [pair for pair in (sorted(stored) if in_order or far else stored) if all(test(pair[0]) for test in tests)]

@@ -46,7 +46,7 @@ def test_files():
     holds('diff of one stream', ['diff', '-', '/dev/stdin'], b'', 2, b"standard input can't be both files")
     bare = put('bare', text(sorted(other.items()), 0, False))
     names_bare = put('names bare', text(sorted(NAMES.items()), 0, False))
-    holds('diff of bare files', ['diff', names_bare, bare, '--bare', 'simple'], changes_of(NAMES, other), 1)
+    holds('diff of bare files', ['diff', names_bare, bare, '--bare-kind', 'simple'], changes_of(NAMES, other), 1)
     holds('diff of a bare file that is not named', ['diff', path, bare], b'', 2, b'bare')
     whole = held_in(path)
     for at, flipped in [(30, 'flipped'), (len(whole) - 1, 'flipped at the end')]:

@@ -54,11 +54,11 @@ def test_options():
     holds('no file', ['get'], b'', 2)
     holds('a hyphen as an escape', ['get', path, '--escaped', r'\x2d', 'amp'], b'none\n%d\n' % NAMES[b'amp'], 1)
     holds('words that are not UTF-8', ['get', path, b'\xff'], b'', 2, b'not UTF-8; give keys of other bytes')
-    for command, sort in [('get', 'keys'), ('keys', 'values')]:
+    for command, sort in [('get', 'keys'), ('reverse', 'values')]:
         for name in ['-', '/dev/stdin', '/dev/fd/0']:
             holds(f'a file and {sort} from standard input, {name}', [command, name, '-'], b'', 2, b'standard input', given=held_in(path))
     for words in [['get', path, '-', 'amp'], ['get', path, 'amp', '-'], ['get', path, '-', '-'], ['longest', path, '-', 'amp'],
-                  ['keys', path, '-', '1']]:
+                  ['reverse', path, '-', '1']]:
         holds(f'a hyphen among others, {words}', words, b'', 2, b'- reads standard input only if no other key, text or value is given',
               b'amp\n')
 
@@ -113,14 +113,14 @@ def test_lines():
                                 ('a zero', b'ad\0\nad\n', b'none\n22\n')]:
         holds(f'get of lines with {name}', ['get', path, '-'], wanted, 1, given=given)
     holds('longest of lines with CR LF', ['longest', path, '-'], b'ad\t22\nadef\t33\n', 0, given=mark + b'ade\r\nadefg\r\n')
-    holds('keys of lines with CR LF', ['keys', path, '-'], b'adef\nad\n', 0, given=mark + b'33\r\n22\r\n')
+    holds('reverse of lines with CR LF', ['reverse', path, '-'], b'adef\nad\n', 0, given=mark + b'33\r\n22\r\n')
     looks = b'zerotrie: standard input: it looks like '
     for name, given, why in [('UTF-16', 'ad\r\nadef\r\n'.encode('utf-16'), looks + b'UTF-16: make it UTF-8 by iconv -f UTF-16 -t UTF-8\n'),
                              ('UTF-16, the high byte first', b'\xfe\xff' + 'ad\n'.encode('utf-16-be'), looks + b'UTF-16'),
                              ('UTF-16 with a zero far behind', b'\xff\xfe' + b'a\n' * 100000 + b'a\0', looks + b'UTF-16'),
                              ('gzip', gzip.compress(b'ad\n'), looks + b'a file of gzip: gunzip it first\n'),
                              ('a sealed trie', sealed(0, b'a\x81'), b'it is a trie or an index that zerotrie made')]:
-        for command in ['get', 'longest', 'keys']:
+        for command in ['get', 'longest', 'reverse']:
             holds(f'{command} of lines that are {name}', [command, path, '-'], b'', 2, why, given)
     for given, wanted, status in [([b'z', b'tri\n', b'ad\n'], b'none\n22\n', 1), ([b'\x1f', b'\x8b\x08'], b'', 2),
                                   ([b'zt', b'ri\x89\x8a\r', b'\n'], b'', 2), ([b'\xff\xfea\n', b'\0'], b'', 2)]:

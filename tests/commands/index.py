@@ -34,7 +34,7 @@ def holds_index(name, path, pairs):
     holds(name + ', verify of standard input', ['verify', '-'], b'', 0, given=file)
     looks_up(name, path, pairs, [])
     looks_up(name + ', unchecked', path, pairs, ['--no-check'])
-    holds(name + ', keys', ['keys', path, '1'], b'', 2, IS_INDEX)
+    holds(name + ', reverse', ['reverse', path, '1'], b'', 2, IS_INDEX)
     some = [k for k in list(pairs)[:3] if k]
     holds(name + ', get of standard input', ['get', '-', '--escaped', *(''.join(f'\\x{b:02x}' for b in k) for k in some), 'nope'],
           b''.join(b'%d\n' % pairs[k] for k in some) + b'none\n', 1, given=file)
@@ -53,8 +53,8 @@ def test_other_commands():
                   ['longest', path, '--escaped', 'amp'], ['longest', path, '-'], ['list', path], ['list', path, '-S'], ['list', path, '-c'],
                   ['list', path, '-p', 'amp', '-n', '1'],
                   *(['list', path, '-f', form] for form in ['tsv', 'csv', 'keys', 'values', 'json', 'jsonl']),
-                  ['search', path, '--glob', 'a*'], ['search', path, '--fuzzy', 'amp'], ['search', path, '-s', 'amp', '-S'],
-                  ['search', path, '--from', 'a', '--below', 'b', '-c'], ['stats', path], ['stats', path, '--json'],
+                  ['search', path, '--glob', 'a*'], ['search', path, '--fuzzy', 'amp'], ['search', path, '--subsequence', 'amp', '-S'],
+                  ['search', path, '--from', 'a', '--below', 'b', '-c'], ['stats', path], ['stats', path, '-f', 'json'],
                   ['inspect', 'dump', path], ['inspect', 'dot', path], ['inspect', 'dot', path, '-n', '1'],
                   ['code', path, '--lang', 'rust'], ['code', path, '--lang', 'c'], ['code', path, '--lang', 'c', '--alone'],
                   ['code', path, '--lang', 'rattle', '--name', 'names'], ['code', path, '--lang', 'js']]:
@@ -71,12 +71,12 @@ def test_other_commands():
     said('an index: a file was made of it', not os.path.exists(out))
     file = held_in(path)
     for words in [['list', '-'], ['longest', '-', 'amp'], ['search', '-', '--glob', '*'], ['stats', '-'], ['inspect', 'dump', '-'],
-                  ['code', '-', '-l', 'c'],
+                  ['code', '-', '--lang', 'c'],
                   ['diff', '-', trie], ['diff', trie, '-'], ['union', trie, '-', '-o', '-'], ['minus', trie, trie, '-', '-o', '-']]:
         holds(f'an index from standard input, {words}', words, b'', 2, b'zerotrie: standard input' + IS_INDEX, file)
     holds('an index and keys from standard input', ['get', '-', '-'], b'', 2, b"standard input can't be both", file)
     for words in [['get', path, 'amp'], ['verify', path], ['list', path]]:
-        holds(f'an index as bare bytes, {words}', [*words, '--bare', 'simple'], b'', 2, b'no trie of kind simple')
+        holds(f'an index as bare bytes, {words}', [*words, '--bare-kind', 'simple'], b'', 2, b'no trie of kind simple')
 
 
 def test_other_indexes():
@@ -162,7 +162,7 @@ def test_large_index():
         holds(f'a large index, {some[:3]}, lines', ['get', path, '-'], wanted, status, given=b''.join(k + b'\n' for k in some))
     holds('a large index, a bad escape', ['get', path, '--escaped', 'key 1', '\\q'], b'%d\nnone\n' % pairs[b'key 1'], 1)
     holds('a large index, listed', ['list', path], b'', 2, IS_INDEX)
-    holds('a large index, keys', ['keys', path, '1'], b'', 2, IS_INDEX)
+    holds('a large index, reverse', ['reverse', path, '1'], b'', 2, IS_INDEX)
 
 
 

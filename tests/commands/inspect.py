@@ -51,7 +51,7 @@ def reports(name, path, words, held):
     holds(name + ', stats of two files', ['stats', path, path] + words, headed * 2, 0)
     holds(name + ', stats of two files, one of them missing', ['stats', path, path + ' ', path] + words,
           headed + path.encode() + b' :\n' + headed, 3, path.encode() + b' : ')
-    ran = run(['stats', path, '--json', *words])
+    ran = run(['stats', path, '--format', 'json', *words])
     found = json.loads(ran.stdout)
     said(f'{name}, stats as JSON: {ran.stdout!r}', ran.returncode == 0 and ran.stdout.endswith(b'}\n')
          and (found['kind'], found['bytes'], found['pairs'], found['nodes']) == (held.kind, len(bare), len(pairs), len(all_nodes)))

@@ -63,7 +63,7 @@ def test_options():
     holds('a count that is sorted', ['list', path, '-c', '-S'], b'%d\n' % len(NAMES), 0)
     holds('a count in a format', ['list', path, '-c', '-f', 'keys'], b'', 2, b'--count prints no pairs')
     holds('an unknown format', ['list', path, '--format', 'nope'], b'', 2)
-    holds('an unknown kind', ['list', path, '--bare', 'nope'], b'', 2)
+    holds('an unknown kind', ['list', path, '--bare-kind', 'nope'], b'', 2)
 
 
 def test_full_device():

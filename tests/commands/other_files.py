@@ -9,8 +9,9 @@ from .formats import INDEX, sealed, text
 
 def reading(path, out):
     """Commands that read the trie or the index of a file."""
-    return [['get', path, 'a'], ['longest', path, 'a'], ['keys', path, '1'], ['list', path], ['search', path, '-g', '*'], ['verify', path],
-            ['stats', path], ['inspect', 'dump', path], ['code', path, '-l', 'c'], ['diff', path, path], ['union', path, '-o', out]]
+    return [['get', path, 'a'], ['longest', path, 'a'], ['reverse', path, '1'], ['list', path], ['search', path, '-g', '*'],
+            ['verify', path], ['stats', path], ['inspect', 'dump', path], ['code', path, '--lang', 'c'], ['diff', path, path],
+            ['union', path, '-o', out]]
 
 
 def test_by_first_bytes():
@@ -88,7 +89,7 @@ def test_many_files():
     for words, status, told in [([whole, torn, path], 2, torn), ([torn, missing], 3, torn), ([torn, missing], 3, missing),
                                 ([missing, torn], 3, torn)]:
         holds(f'many files, verified, {status}', ['verify', *words], b'', status, told.encode())
-    holds('many files, read as bare bytes', ['verify', whole, path, '--bare', 'nope'], b'', 2, b'nope')
+    holds('many files, read as bare bytes', ['verify', whole, path, '--bare-kind', 'nope'], b'', 2, b'nope')
     holds('many files, listed', ['list', whole, path], b'', 2, b'unexpected argument')
 
 
@@ -101,9 +102,9 @@ def test_kinds():
              b'no trie of kind simple: a value follows a value, at byte 2'),
             ('an empty file', ['list', put('empty', b'')], b'', 2, b'empty'),
             ('a number of no kind', ['list', put('other', b'\x09' + good[1:])], b'', 2, b'its first byte is the number of no kind'),
-            ('a tagged file as bare bytes', ['get', path, 'amp', '--bare', 'simple'], b'none\n', 1, path.encode() + b': ' + numbered),
-            ('a tagged file as bare bytes of another kind', ['list', path, '-b', 'ext'], b'', 2, numbered),
-            ('a sealed file as bare bytes', ['get', put('bared', sealed(0, good[1:])), 'amp', '--bare', 'simple'], b'', 2,
+            ('a tagged file as bare bytes', ['get', path, 'amp', '--bare-kind', 'simple'], b'none\n', 1, path.encode() + b': ' + numbered),
+            ('a tagged file as bare bytes of another kind', ['list', path, '--bare-kind', 'ext'], b'', 2, numbered),
+            ('a sealed file as bare bytes', ['get', put('bared', sealed(0, good[1:])), 'amp', '--bare-kind', 'simple'], b'', 2,
              b'no trie of kind simple'),
             ('text that is no trie', ['get', put('text', b'amp\t38\n'), 'amp'], b'', 2, b'it looks like text: build it first'),
             ('a folder', ['list', RUN.room], b'', 3, RUN.room.encode()),

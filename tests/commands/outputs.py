@@ -27,7 +27,7 @@ def test_places():
              b'/missing/x: its folder, or the file that a link leads to, is not there\n'),
             ('a missing input', [here('missing'), '-o', target], b'', 3, b'missing'),
             ('a folder as input', [RUN.room, '-o', target], b'', 3, RUN.room.encode()),
-            ('a name that would steer a terminal', ['-', '-o', steers, '--progress'], b'', 0, spelled),
+            ('a name that would steer a terminal', ['-', '-o', steers, '--summary'], b'', 0, spelled),
             ('a device', ['-', '-o', '/dev/null'], b'', 0, b''), ('a full device', ['-', '-o', '/dev/full'], b'', 3, b'/dev/full'),
             ('standard output', ['-', '-o', '-'], SEALED_FEW, 0, b''), ('no output', ['-'], b'', 2, b'--output'),
             ('an unknown kind', ['-', '-o', target, '--kind', 'nope'], b'', 2, b'nope')]:
@@ -40,13 +40,15 @@ def test_places():
 def test_what_is_told():
     path = here('sized')
     for name, words, told, given in [
-            ('what is made', ['--progress'], b'zerotrie: %s: 2 keys, %d bytes\n' % (path.encode(), len(SEALED_FEW)), FEW),
-            ('one key', ['-p'], b': 1 key, ', b'a\t1\n'), ('no key', ['-p'], b': 0 keys, ', b''), ('quiet', ['--quiet'], b'', FEW),
-            ('keys of which the last count', ['-p', '-d', 'last'], b': 2 keys, ', FEW + FEW)]:
+            ('what is made', ['--summary'], b'zerotrie: %s: 2 keys, %d bytes\n' % (path.encode(), len(SEALED_FEW)), FEW),
+            ('one key', ['--summary'], b': 1 key, ', b'a\t1\n'), ('no key', ['--summary'], b': 0 keys, ', b''),
+            ('quiet', ['--quiet'], b'', FEW),
+            ('keys of which the last count', ['--summary', '-d', 'last'], b': 2 keys, ', FEW + FEW)]:
         holds(name, ['build', '-', '-o', path, *words], b'', 0, told, given)
-    holds('quiet, and told', ['build', '-', '-o', path, '-q', '-p'], b'', 2, b'--progress and --quiet exclude each other', FEW)
+    holds('quiet, and told', ['build', '-', '-o', path, '-q', '--summary'], b'', 2, b'--summary and --quiet exclude each other', FEW)
     for most, unit, tenth in [(500, b'bytes', 0), (50000, b'kB', 100), (1000000, b'MB', 100000)]:
-        ran = run(['build', '-', '-o', path, '-p', '-b', '-k', 'ext'], lines_of((b'%d-%d' % (n, n * n), n) for n in range(most // 10)))
+        ran = run(['build', '-', '-o', path, '--summary', '-b', '-k', 'ext'],
+                  lines_of((b'%d-%d' % (n, n * n), n) for n in range(most // 10)))
         size = os.path.getsize(path)
         of_unit = b', %d.%d %s\n' % (*divmod(size // tenth, 10), unit) if tenth else b', %d bytes\n' % size
         said(f'a size in {unit}: {ran.stderr!r}', ran.stderr.endswith(of_unit))
@@ -74,11 +76,10 @@ def test_full_disk():
 
 def test_no_clobber():
     target, free = put('target', SEALED_FEW), here('free')
-    for words in [['-n'], ['--no-clobber']]:
-        holds('OUT is there already', ['build', here('missing'), '-o', target, *words], b'', 1,
-              target.encode() + b': the file is there already')
-        said('OUT is there already: it is another', held_in(target) == SEALED_FEW)
-    holds('OUT is not there', ['build', '-', '-o', free, '-n'], b'', 0, given=FEW)
+    holds('OUT is there already', ['build', here('missing'), '-o', target, '--no-clobber'], b'', 1,
+          target.encode() + b': the file is there already')
+    said('OUT is there already: it is another', held_in(target) == SEALED_FEW)
+    holds('OUT is not there', ['build', '-', '-o', free, '--no-clobber'], b'', 0, given=FEW)
     said('OUT is not there: the file is another', held_in(free) == SEALED_FEW)
 
 
