@@ -23,14 +23,13 @@ import sources
 
 QUOTING = ["README.md", "docs/CALLING.md"]
 SIGNATURES = "docs/SIGNATURES.md"
-TOGETHER = 24900  # words of all pages that have a limit
+TOGETHER = 24168  # words of all pages that have a limit
 # How many words a page may have: words have a letter or a digit, so the bars of a table are none. CHANGELOG.md grows.
 LIMITS = {
     "README.md": 845,
     "CONTRIBUTING.md": 1780,
     "bindings/README.md": 330,
     "bindings/python/README.md": 120,
-    "crates/zerotrie_cli/NOTES.md": 732,
     "crates/zerotrie_cli/README.md": 1228,
     "crates/zerotrie_index/README.md": 510,
     "crates/zerotrie_reverse/README.md": 320,
@@ -39,7 +38,7 @@ LIMITS = {
     "crates/zerotrie_tool/README.md": 390,
     "docs/ARCHITECTURE.md": 1290,
     "docs/CALLING.md": 2220,
-    "docs/DECISIONS.md": 1860,
+    "docs/DECISIONS.md": 1911,
     "docs/DIFFERENCES.md": 1315,
     "docs/FORMAT.md": 4290,
     "docs/MODEL.md": 1960,

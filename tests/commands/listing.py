@@ -4,7 +4,7 @@ import subprocess
 
 from .cases import HELD, LOWER, NAMES, as_json, asks, forms, good_file, held_in, here, holds, json_key, lines_of, run, said
 from .formats import escaped, sealed
-from .keys import first_keys
+from .reverse import first_keys
 from .search import edits_between, is_within
 
 
