@@ -192,7 +192,7 @@ def program(path):
 
 def manual(page):
     text = run("man", "-l", "--warnings", page, env={"MANWIDTH": 80, "MAN_KEEP_STDERR": 1})
-    for word in ("zerotrie build", "--output", "EXIT STATUS", "longest", "--prefix", VERSION):
+    for word in ("zerotrie build", "--output", "EXIT STATUS", "longest", "--prefix", "MEMORY", VERSION):
         assert word in text, word
 
 

@@ -91,7 +91,7 @@ def test_keys():
              b'lines 1 and 2 have the same key: %s\n' % (b'k' * 100)),
             ('a sum that is too large', ['-d', 'sum'], b'a\t1\nb\t2\na\t18446744073709551614\na\t1\nb\t18446744073709551615\n', 1,
              b'line 4: the sum of the values of its key is 2^64 or more: a\n'),
-            ('keys that fall', ['--sorted'], b'a\t1\nc\t2\nb\t3\n', 1, b'line 3: ', b'line 2;', b'--sorted: b'),
+            *(('keys that fall', [word], b'a\t1\nc\t2\nb\t3\n', 1, b'line 3: ', b'line 2;', b'--sorted: b') for word in ['--sorted', '-S']),
             ('a key twice, sorted', ['--sorted'], b'a\t1\na\t2\n', 1, b'lines 1 and 2 have the same key: a'),
             ('bytes from 128 on', ['--kind', 'simple'], 'a\t1\nä\t2\n'.encode(), 1, b'line 2: its key is not ASCII'),
             ('letters in both cases', ['--kind', 'ignore'], b'Host\t1\nb\t2\nhome\t3\n', 1, b'lines 1 and 3: ', b'--lower-case',
