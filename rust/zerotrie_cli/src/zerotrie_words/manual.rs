@@ -143,14 +143,12 @@ fn add_argument(page: &mut String, argument: &Argument) -> Result<(), AllocError
 
 /// Adds the lines of a text but for its examples. The first line and a status begin a paragraph.
 fn add_lines(page: &mut String, text: &str) -> Result<(), AllocError> {
-    let mut front = ".PP\n";
+    let mut begins = true;
     for line in text.lines() {
-        if line.starts_with("Status: ") {
-            front = ".PP\n";
-        }
+        begins = begins || line.starts_with("Status: ");
         if !line.starts_with("Example: ") {
-            add_in(page, front, line, "\n")?;
-            front = "";
+            add_in(page, if begins { ".PP\n" } else { "" }, line, "\n")?;
+            begins = false;
         }
     }
     Ok(())

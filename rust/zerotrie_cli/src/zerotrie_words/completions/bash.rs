@@ -77,13 +77,12 @@ fn add_command(script: &mut String, row: &Subcommand) -> Result<(), AllocError> 
         }
     }
     script.try_push_str("--help -h' words='")?;
-    let mut files = "";
+    let mut has_files = false;
     for place in row.arguments.iter().filter(|it| !it.is_option()) {
         add_words(script, place.words())?;
-        if matches!(place.offer(), Offer::Files) {
-            files = "yes";
-        }
+        has_files = has_files || matches!(place.offer(), Offer::Files);
     }
+    let files = if has_files { "yes" } else { "" };
     write!(script, "' files={files} ;;\n")
 }
 
