@@ -1,5 +1,5 @@
-"""Runs the program and the library of a release on the oldest x86-64, and the libraries and the wheel for ARM, which qemu-user plays.
-Arguments: the folder of the release, one to work in, and a Debian for ARM."""
+"""Runs the program and the library of a release on the oldest x86-64, and what it has for ARM, which qemu-user plays: the libraries, the
+wheel, and the program, beside the proved one. Arguments: the folder of the release, one to work in, and a Debian for ARM."""
 
 import glob
 import pathlib
@@ -8,7 +8,7 @@ import subprocess
 import sys
 
 dist, room, debian = map(pathlib.Path, sys.argv[1:])
-program = next(path for path in dist.glob("zerotrie-*-linux-x86_64") if path.is_file())
+program, of_arm = (next(path for path in dist.glob(f"zerotrie-*-linux-{it}") if path.is_file()) for it in ("x86_64", "aarch64"))
 oldest = ["qemu-x86_64", "-cpu", "qemu64"]
 arm = ["qemu-aarch64", "-L", "/usr/aarch64-linux-gnu"]
 release = pathlib.Path(__file__).resolve().parent
@@ -26,11 +26,26 @@ def tried(name, what):
         print(f"failed: {name}: {error} {getattr(error, 'stderr', '')}")
 
 
-def by_program():
+def by_program(player, program):
     lines = "".join(f"{number:x}\t{number}\n" for number in range(20000))
-    run(*oldest, program, "build", "-", "-o", room / "numbers.trie", given=lines)
-    assert run(*oldest, program, "list", room / "numbers.trie").count("\n") == 20000
-    assert run(*oldest, program, "get", room / "numbers.trie", "abc") == "2748\n"
+    run(*player, program, "build", "-", "-o", room / "numbers.trie", given=lines)
+    assert run(*player, program, "list", room / "numbers.trie").count("\n") == 20000
+    assert run(*player, program, "get", room / "numbers.trie", "abc") == "2748\n"
+
+
+def says_what_it_is():
+    """The program for ARM is plain Rust, of the sources that the release has."""
+    commit = re.search(r"^commit: (\w+)", (dist / "ORIGIN").read_text(), re.M)[1]
+    said = run(*arm, of_arm, "--version")
+    assert said.splitlines()[1:] == [f"plain Rust, made from the proved sources of commit {commit}"], said
+
+
+def beside_the_proved_one():
+    """The same generated commands by both programs."""
+    player = room / "zerotrie-by-qemu"
+    player.write_text(f'#!/bin/sh\nexec qemu-aarch64 {of_arm} "$@"\n')
+    player.chmod(0o755)
+    run(release.parent / "rust/testing/program.py", program, player, "500")
 
 
 def unpacked(processor):
@@ -62,7 +77,10 @@ def by_wheel():
     assert said.splitlines() == re.findall(r"print.*?# (.*)", body), said
 
 
-tried("the program on the first x86-64", by_program)
+tried("the program on the first x86-64", lambda: by_program(oldest, program))
+tried("the program on ARM", lambda: by_program(arm, of_arm))
+tried("the program on ARM says of which sources it is", says_what_it_is)
+tried("the program on ARM does as the proved one", beside_the_proved_one)
 for library in ("libzerotrie.a", "libzerotrie.so"):
     tried(f"{library} and its tests in C on the first x86-64", lambda: by_library("x86_64", ["cc"], oldest, library))
     tried(f"{library} and its tests in C on ARM", lambda: by_library("aarch64", ["aarch64-linux-gnu-gcc"], arm, library))

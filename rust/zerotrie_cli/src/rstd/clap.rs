@@ -58,6 +58,12 @@ pub mod builder {
     }
 }
 
+/// What the program is made from: a release names its commit.
+const SOURCES: &str = match option_env!("ZEROTRIE_COMMIT") {
+    Some(commit) => commit,
+    None => "this version",
+};
+
 pub struct Command<'a>(::clap::Command, PhantomData<&'a ()>);
 
 impl<'a> Command<'a> {
@@ -74,7 +80,7 @@ impl<'a> Command<'a> {
 
     /// It says behind the version what this build is.
     pub fn version(self, text: &str) -> Self {
-        let text = format!("{text}\nplain Rust, made from the proved sources of this version").leak();
+        let text = format!("{text}\nplain Rust, made from the proved sources of {SOURCES}").leak();
         Command(self.0.version(&*text), PhantomData)
     }
 
