@@ -39,8 +39,9 @@ def test_million():
 
 
 def is_aborted(ran):
-    """Whether a program that cargo built, for which ZEROTRIE_STD is set, ended as Rust's std and the crates below it do without memory."""
-    return 'ZEROTRIE_STD' in os.environ and ran.returncode == -signal.SIGABRT and b'memory allocation of ' in ran.stderr
+    """Whether the program is that of plain Rust, and ended as Rust's std and the crates below it do without memory."""
+    aborted = ran.returncode == -signal.SIGABRT and b'memory allocation of ' in ran.stderr
+    return aborted and b'plain Rust' in run(['--version']).stdout
 
 
 def test_without_memory():
