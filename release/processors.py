@@ -7,7 +7,7 @@ import re
 import subprocess
 import sys
 
-dist, room, debian = map(pathlib.Path, sys.argv[1:])
+dist, room, debian = (pathlib.Path(it).resolve() for it in sys.argv[1:])
 program, of_arm = (next(path for path in dist.glob(f"zerotrie-*-linux-{it}") if path.is_file()) for it in ("x86_64", "aarch64"))
 oldest = ["qemu-x86_64", "-cpu", "qemu64"]
 arm = ["qemu-aarch64", "-L", "/usr/aarch64-linux-gnu"]
@@ -23,7 +23,7 @@ def tried(name, what):
         what()
         print(f"ok: {name}")
     except Exception as error:  # one more line that failed
-        print(f"failed: {name}: {error} {getattr(error, 'stderr', '')}")
+        print(f"failed: {name}: {error} {getattr(error, 'stdout', '')} {getattr(error, 'stderr', '')}")
 
 
 def by_program(player, program):
