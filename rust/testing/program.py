@@ -26,7 +26,7 @@ PARTS = [b"", b"\xff", b"\\u00e9", b"\\ud83d\\ude00", b"\\udc00", b"\r\n", *(byt
 # words that are wrong in most commands
 WRONG = ["--prefx", "--lim", "-x", "--", "--raw=1", "extra", "\x1b[31m", "--sorte", "--glob", "--output=x", "--bare", "--summary", "-j"]
 TIP = re.compile(rb"^(  tip: .*|Usage: .*)?\n", re.M)
-CHOSEN = re.compile(rb"\d+ and \d+ (?=have the same key: )")
+CHOSEN = re.compile(rb"\d+ and \d+ (?=have the same key; )")
 
 
 def some(*items):

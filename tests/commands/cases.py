@@ -17,6 +17,9 @@ PATIENCE = 300
 # The program, the folder of the test that runs, how much is tried, and what was found.
 RUN = types.SimpleNamespace(program=None, room=None, fast=False, damaged=0, cases=0, wrong=0)
 
+# What is said of two pairs that have one key, behind their numbers.
+SAME = b' have the same key; --duplicates first, sum or another gives it one value: '
+
 NAMES = {k.encode(): n for n, k in enumerate(html.entities.html5)}
 # The names in lower case, each with the value of the first that is so.
 LOWER = {}

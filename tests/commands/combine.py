@@ -9,6 +9,7 @@ from .index import holds_index
 
 RULES = {'first': lambda values: values[0], 'last': lambda values: values[-1], 'sum': sum, 'min': min, 'max': max,
          'refuse': lambda values: values[0], 'equal': lambda values: values[0]}
+SEVERAL = b'more than one file has this key; --values first, sum or another takes one: '
 # each command that combines files, with each rule for values: one is left out
 COMBINATIONS = [*((command, rule) for command in ['union', 'intersect'] for rule in [None, *RULES]), ('minus', None)]
 
@@ -24,7 +25,7 @@ def combined(command, rule, maps):
     made = {}
     for key in sorted(filter(takes, values)):
         if rule == 'refuse' and len(values[key]) > 1:
-            return b'more than one file has this key: ' + (escaped(key) or b'the empty key')
+            return SEVERAL + (escaped(key) or b'the empty key')
         if rule == 'equal' and len(set(values[key])) > 1:
             return b'files have different values for this key: ' + (escaped(key) or b'the empty key')
         made[key] = RULES[rule or 'first'](values[key])
@@ -144,10 +145,10 @@ def test_refusals():
              b'AMP and amp\n'),
             ('keys that begin alike in another case', ['union', etag, longer, '-k', 'auto'], 1, b'pairs 1 and 2: their keys begin alike',
              b'take --kind simple', b'ETag and etagX\n'),
-            ('a key of two', ['union', a, b, c, '--values', 'refuse'], 1, front + b'more than one file has this key: amp\n'),
-            ('a key of all', ['intersect', c, c, c, '--values', 'refuse'], 1, front + b'more than one file has this key: amp\n'),
+            ('a key of two', ['union', a, b, c, '--values', 'refuse'], 1, front + SEVERAL + b'amp\n'),
+            ('a key of all', ['intersect', c, c, c, '--values', 'refuse'], 1, front + SEVERAL + b'amp\n'),
             ('the empty key of two', ['union', empty, great, '--values', 'refuse'], 1,
-             front + b'more than one file has this key: the empty key\n'),
+             front + SEVERAL + b'the empty key\n'),
             ('a sum of 2^64', ['union', great, c, empty, '--values', 'sum'], 1,
              front + b'the sum of the values of this key is 2^64 or more: the empty key\n'),
             ('a sum of 2^64 that all have', ['intersect', great, empty, '--values', 'sum'], 1,

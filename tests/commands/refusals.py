@@ -1,7 +1,7 @@
 """Builds that make no file, each with its cause."""
 import gzip
 
-from .cases import refused
+from .cases import SAME, refused
 from .formats import INDEX, sealed
 
 
@@ -41,9 +41,9 @@ def test_headers():
             ('a second header of csv', ['--header', '-f', 'csv'], b'key,value\nkey,value\n', 2,
              b'record 2: the value is no decimal number: "value"\n'),
             ('a line behind a header', ['--header'], b'key\tvalue\na\t1\nb 2\n', 2, b'standard input: line 3: no tab'),
-            ('a key twice behind a header', ['--header'], b'key\tvalue\na\t1\nb\t2\na\t3\n', 1, b'lines 2 and 4 have the same key: a\n'),
+            ('a key twice behind a header', ['--header'], b'key\tvalue\na\t1\nb\t2\na\t3\n', 1, b'lines 2 and 4' + SAME + b'a\n'),
             ('a key twice behind a header of csv', ['--header', '-f', 'csv', '--index'], b'key,value\na,1\nb,2\na,3\n', 1,
-             b'records 2 and 4 have the same key: a\n'),
+             b'records 2 and 4' + SAME + b'a\n'),
             ('a key in two cases behind a header, the last of them', ['--header', '-d', 'last', '-k', 'ignore'],
              b'key\tvalue\na\t1\na\t2\nA\t3\n', 1, b'lines 3 and 4: their keys differ only in case'),
             ('a sum behind a header', ['--header', '-d', 'sum'], b'key\tvalue\na\t1\na\t18446744073709551615\n', 1,
@@ -55,9 +55,9 @@ def test_headers():
 
 def test_json():
     for row in [
-            ('a JSON name twice', ['-f', 'json'], b'{"a":1,"b":2,"a":3}', 1, b'pairs 1 and 3 have the same key: a'),
+            ('a JSON name twice', ['-f', 'json'], b'{"a":1,"b":2,"a":3}', 1, b'pairs 1 and 3' + SAME + b'a'),
             ('line ends of json', ['-f', 'json', '--eol', 'lf'], b'{}', 2, b'--eol is for lines and records'),
-            ('a key twice in jsonl', ['-f', 'jsonl'], b'["a",1]\n["b",1]\n["a",2]\n', 1, b'lines 1 and 3 have the same key: a\n'),
+            ('a key twice in jsonl', ['-f', 'jsonl'], b'["a",1]\n["b",1]\n["a",2]\n', 1, b'lines 1 and 3' + SAME + b'a\n'),
             ('raw jsonl', ['-f', 'jsonl', '--raw'], b'["a",1]\n', 2, b'--raw is for tsv'),
             ('lines of jsonl taken for json', ['-f', 'json'], b'["a",1]\n["b",2]\n', 2,
              b'line 2, column 1: no JSON value; if each line is a value, name the format by --format jsonl\n'),
@@ -72,7 +72,7 @@ def test_json():
             ('a key with a tab', ['--format', 'json'], b'{"\\u00e4\\t":1.5}', 2, 'below 2^64: ä\\t\n'.encode()),
             ('a JSON list with what is no pair', ['--format', 'json'], b'[["a",1],["b"],[2,3]]', 2,
              b'pair 2: no list of a key and of a value that is written as a whole number'),
-            ('a key twice in a list', ['--format', 'json'], b'[["a",1],["a",2]]', 1, b'pairs 1 and 2 have the same key: a'),
+            ('a key twice in a list', ['--format', 'json'], b'[["a",1],["a",2]]', 1, b'pairs 1 and 2' + SAME + b'a'),
             ('a sum in json', ['-d', 'sum', '-f', 'json'], b'[["",18446744073709551615],["",1]]', 1, b'pair 2: ', b'the empty key\n')]:
         refused(*row)
     for name, line in [('no JSON', b'["b",2'), ('an empty line', b''), ('two values', b'["b",2]["c",3]'), ('no list', b'2'),
@@ -84,22 +84,22 @@ def test_json():
 
 def test_keys():
     for row in [
-            ('a key twice', [], b'b\t1\na\t2\nc\t3\na\t4\n', 1, b'lines 2 and 4 have the same key: a'),
+            ('a key twice', [], b'b\t1\na\t2\nc\t3\na\t4\n', 1, b'lines 2 and 4' + SAME + b'a'),
             ('a long key twice', [], b''.join(b'%s\t1\n' % (b'k' * n) for n in (5000, 9, 5000)), 1,
-             b'lines 1 and 3 have the same key: %s.. (5000 bytes)\n' % (b'k' * 100)),
+             b'lines 1 and 3' + SAME + b'%s.. (5000 bytes)\n' % (b'k' * 100)),
             ('a key of 100 bytes twice', [], b''.join(b'%s\t1\n' % (b'k' * n) for n in (100, 100)), 1,
-             b'lines 1 and 2 have the same key: %s\n' % (b'k' * 100)),
+             b'lines 1 and 2' + SAME + b'%s\n' % (b'k' * 100)),
             ('a sum that is too large', ['-d', 'sum'], b'a\t1\nb\t2\na\t18446744073709551614\na\t1\nb\t18446744073709551615\n', 1,
              b'line 4: the sum of the values of its key is 2^64 or more: a\n'),
             *(('keys that fall', [word], b'a\t1\nc\t2\nb\t3\n', 1, b'line 3: ', b'line 2;', b'--sorted: b') for word in ['--sorted', '-S']),
-            ('a key twice, sorted', ['--sorted'], b'a\t1\na\t2\n', 1, b'lines 1 and 2 have the same key: a'),
+            ('a key twice, sorted', ['--sorted'], b'a\t1\na\t2\n', 1, b'lines 1 and 2' + SAME + b'a'),
             ('bytes from 128 on', ['--kind', 'simple'], 'a\t1\nä\t2\n'.encode(), 1, b'line 2: its key is not ASCII'),
             ('letters in both cases', ['--kind', 'ignore'], b'Host\t1\nb\t2\nhome\t3\n', 1, b'lines 1 and 3: ', b'--lower-case',
              b'Host and home'),
             ('two keys that differ in case alone', ['--kind', 'ignore'], b'AMP\t1\namp\t2\n', 1, b'lines 1 and 2: ',
              b'leave one out: AMP and amp\n'),
             ('a key twice in lower case', ['--kind', 'ignore', '--lower-case'], b'Host\t1\nhost\t2\n', 1,
-             b'lines 1 and 2 have the same key: host')]:
+             b'lines 1 and 2' + SAME + b'host')]:
         refused(*row)
 
 

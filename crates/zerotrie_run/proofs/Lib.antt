@@ -4,7 +4,6 @@ mod FoundLemmas
 mod AtPlacesLemmas
 mod LineLemmas
 mod MadeLemmas
-mod MessageLemmas
 mod ToldLemmas
 mod NoteLemmas
 mod RefusedLemmas

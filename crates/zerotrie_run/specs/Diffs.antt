@@ -5,7 +5,7 @@ use Rattle.zerotrie_core.specs.declared.TrieKind.{TrieKind}
 use Rattle.zerotrie_files.specs.Disks.{Story}
 use Rattle.zerotrie_queries.specs.Diffs.{AreCompared, AreComparedInPart}
 use Rattle.zerotrie_run.specs.Fronts.{IsHint}
-use Rattle.zerotrie_run.specs.Messages.{IsLineOn, source_name}
+use Rattle.zerotrie_run.specs.Messages.{IsNumberLine, source_name}
 use Rattle.zerotrie_run.specs.Runs.{AreOneStream, IsRead, Opens, IsUnopened, HasNoTrie, HasNumberToo, IsDoubtful, ask_refusal}
 use Rattle.zerotrie_run.specs.declared.ask.AskError.{AskError}
 use Rattle.zerotrie_run.specs.declared.ask.AskError.TheVariants as ask
@@ -87,14 +87,9 @@ abbrev pub diff_fails : Result Bool DiffError → Bool
 diff_fails (Ok same) = false
 diff_fails (Err e) = is_none (ask_refusal e.error)
 
--- how a run ends if a comparison is refused; none if it is not, or something failed
-abbrev pub diff_refusal : Result Bool DiffError → Option Status
-diff_refusal (Ok same) = None
-diff_refusal (Err e) = ask_refusal e.error
-
 -- what is told of a file, by what was read of it: a line on it if it is read as bare bytes and begins with the number of a kind, and nothing if not
 pub record TellsIfDoubtful (file : TrieFile) (held : List ℕ) (old new : Option (List ℕ)) : Type 0 where
-  pub line : HasNumberToo file.bare held → (text : List ℕ) × IsLineOn (source_name file.place) text × Appends old new text
+  pub line : HasNumberToo file.bare held → (text : List ℕ) × IsNumberLine (source_name file.place) text × Appends old new text
   pub none : (HasNumberToo file.bare held → ⊥) → new ≡ old
 
 -- What a comparison tells that comes to its end.

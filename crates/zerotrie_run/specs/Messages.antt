@@ -1,6 +1,10 @@
 -- What messages on standard error say.
-use Rattle.std.specs.Prelude.{◌≡◌, ◌≢◌, ◌⊎◌, ◌<◌, ◌/◌, ◌%◌, ◌==◌, ℕ, List, [], ◌∷◌, ◌++◌, take, codes, decimal, nat_lt, if◌then◌else◌}
+use Rattle.std.specs.Prelude.{◌≡◌, ◌/◌, ◌%◌, ◌==◌, ◌&&◌, ℕ, List, [], ◌∷◌, ◌++◌, length, map, take, codes, decimal, nat_le, nat_lt, Bool, true, false, Option, Some, None, if◌then◌else◌}
+use Rattle.std.specs.Char.{to_ascii_lowercase}
+use Rattle.std.specs.Cmp.Lexicographic.{pointwise}
+use Rattle.zerotrie_core.specs.declared.ZeroTrieBuildError.{ZeroTrieBuildError}
 use Rattle.zerotrie_core.specs.declared.ZeroTrieBuildError.TheVariants as cause
+use Rattle.zerotrie_core.specs.declared.faults.Fault.{Fault}
 use Rattle.zerotrie_core.specs.Faults.{rule_text}
 use Rattle.zerotrie_any.specs.declared.bytes.TagError.{TagError}
 use Rattle.zerotrie_any.specs.declared.bytes.TagError.TheVariants.{Empty, InvalidTag}
@@ -8,6 +12,10 @@ use Rattle.zerotrie_lines.specs.Escapes.{escaped}
 use Rattle.zerotrie_lines.specs.declared.reading.Format.TheVariants.{Lines, Tsv, TsvRaw, Csv}
 use Rattle.zerotrie_lines.specs.declared.fault.BadLine.{BadLine}
 use Rattle.zerotrie_lines.specs.declared.fault.BadLine.TheVariants as bad
+use Rattle.zerotrie_lines.specs.declared.fault.ValueFault.{ValueFault}
+use Rattle.zerotrie_lines.specs.declared.fault.ValueFault.TheVariants as fault
+use Rattle.zerotrie_index.specs.declared.error.ZeroIndexBuildError.{ZeroIndexBuildError}
+use Rattle.zerotrie_index.specs.declared.error.ZeroIndexBuildError.TheVariants as index
 use Rattle.zerotrie_queries.specs.declared.file.OpenError.{OpenError}
 use Rattle.zerotrie_queries.specs.declared.file.OpenError.TheVariants as unopened
 use Rattle.zerotrie_making.specs.declared.plan.Source.{Source}
@@ -16,7 +24,7 @@ use Rattle.zerotrie_making.specs.declared.others.OtherFile.{OtherFile}
 use Rattle.zerotrie_making.specs.declared.others.OtherFile.TheVariants.{Utf16, Gzip, Sealed}
 use Rattle.zerotrie_making.specs.declared.error.NoPair.{NoPair}
 use Rattle.zerotrie_making.specs.declared.error.NoPair.TheVariants.{Member, Item, Line}
-use Rattle.zerotrie_making.specs.declared.error.Shown.{Shown}
+use Rattle.zerotrie_making.specs.declared.error.NumberedKey.{NumberedKey}
 use Rattle.zerotrie_making.specs.declared.error.MakeError.{MakeError}
 use Rattle.zerotrie_making.specs.declared.error.MakeError.TheVariants as made
 use Rattle.zerotrie_sets.specs.declared.selection.RuleError.{RuleError}
@@ -25,10 +33,11 @@ use Rattle.zerotrie_core.specs.Kinds.{kind_name}
 use Rattle.zerotrie_core.specs.declared.TrieKind.{TrieKind}
 use Rattle.zerotrie_making.specs.declared.error.CombinationError.{CombinationError}
 use Rattle.zerotrie_making.specs.declared.error.CombinationError.TheVariants as combination
-use Rattle.zerotrie_run.specs.Combined.{IsNumbered}
+use Rattle.zerotrie_run.specs.Combined.{IsNumbered, file_of}
 use Rattle.zerotrie_run.specs.declared.front.Hint.{Hint}
 use Rattle.zerotrie_run.specs.declared.front.Hint.TheVariants.{Text, Other, Nothing}
 use Rattle.zerotrie_run.specs.declared.command.Combine.{Combine}
+use Rattle.zerotrie_run.specs.declared.command.TrieFile.{TrieFile}
 use Rattle.zerotrie_run.specs.declared.command.Place.{Place}
 use Rattle.zerotrie_run.specs.declared.command.Place.TheVariants.{File, Stream}
 use Rattle.zerotrie_run.specs.declared.stdin_lines.AnswerError.TheVariants.{Input, NoLines, Output}
@@ -40,27 +49,6 @@ use Rattle.zerotrie_run.specs.declared.combine.CombineError.{CombineError}
 use Rattle.zerotrie_run.specs.declared.combine.CombineError.TheVariants as combine
 use Rattle.zerotrie_run.specs.declared.messages.pairs.PairUnit.{PairUnit}
 use Rattle.zerotrie_run.specs.declared.messages.pairs.PairUnit.TheVariants as unit
-
--- words were added to a text
-abbrev pub Extends : List ℕ → List ℕ → Type 0
-Extends old new = (words : List ℕ) × (new ≡ old ++ words)
-
--- words are in a text
-abbrev pub Says : List ℕ → List ℕ → Type 0
-Says text words = (front back : List ℕ) × (text ≡ front ++ (words ++ back))
-
--- words begin, and with no digit
-abbrev pub BeginsWithNoDigit : List ℕ → Type 0
-BeginsWithNoDigit [] = ⊥
-BeginsWithNoDigit (b ∷ words) = (b < 48) ⊎ (57 < b)
-
--- a number is in a text by itself: after its unit, as a line or a byte, and a space, and in front of what begins with no digit
-abbrev pub Names : (unit text : List ℕ) → ℕ → Type 0
-Names unit text number = (front back : List ℕ) × BeginsWithNoDigit back × (text ≡ front ++ (unit ++ (32 ∷ (decimal number ++ back))))
-
--- two numbers of a unit are in a text: together, as "lines 3 and 5", or each by itself
-abbrev pub NamesBoth : (unit text : List ℕ) → ℕ → ℕ → Type 0
-NamesBoth unit text m n = (Names (unit ++ codes "s") text m × Names (codes "and") text n) ⊎ (Names unit text m × Names unit text n)
 
 -- a text is a line: it ends in a line feed
 abbrev pub IsLine : List ℕ → Type 0
@@ -82,9 +70,13 @@ target_name place = place_name place (codes "standard output")
 abbrev pub line_front : List ℕ → List ℕ
 line_front place = (codes "zerotrie: " ++ escaped place) ++ codes ": "
 
+-- the line on the place of this name that has these words
+abbrev pub line_on : (place words : List ℕ) → List ℕ
+line_on place words = (line_front place ++ words) ++ 10 ∷ []
+
 -- a text is a line on the place of this name
 abbrev pub IsLineOn : List ℕ → List ℕ → Type 0
-IsLineOn place text = (words : List ℕ) × (text ≡ line_front place ++ (words ++ 10 ∷ []))
+IsLineOn place text = (words : List ℕ) × (text ≡ line_on place words)
 
 -- what holds one pair of a source
 abbrev pub unit_of : Source → PairUnit
@@ -101,33 +93,148 @@ unit_word unit.Line = codes "line"
 unit_word unit.Record = codes "record"
 unit_word unit.Pair = codes "pair"
 
--- how a key is told: by its first 100 bytes, as they are on a line
+-- how a key is told: as it is on a line, by its first 100 bytes and its length if it is longer, and by words if it is empty
 abbrev pub told_key : List ℕ → List ℕ
-told_key key = escaped (take 100 key)
+told_key key =
+    if length key == 0 then codes "the empty key" else (if nat_le (length key) 100 then escaped key
+    else escaped (take 100 key) ++ (codes ".. (" ++ (decimal (length key) ++ codes " bytes)")))
 
--- the numbers of the pairs that show a refusal are in a text: of both, or of the one whose key is not ASCII
-abbrev pub NamesPairs : (unit : List ℕ) → Shown → List ℕ → Type 0
-NamesPairs unit s text = (s.error ≡ cause.NonAsciiError → Names unit text s.first.number)
-    × (s.error ≢ cause.NonAsciiError → NamesBoth unit text s.first.number s.second.number)
+-- two pairs have the same key
+abbrev pub same_words : (unit : List ℕ) → NumberedKey → NumberedKey → List ℕ
+same_words unit a b =
+    (unit ++ (codes "s " ++ (decimal a.number ++ (codes " and " ++ (decimal b.number ++ codes " have the same key; --duplicates first, sum or another gives it one value: ")))))
+    ++ told_key a.key.items
 
--- and their keys: the one that is there twice or is not ASCII, the one that does not ascend, or both
-abbrev pub SaysKeys : Shown → List ℕ → Type 0
-SaysKeys s text = (s.error ≢ cause.Unsorted → Says text (told_key s.first.key.items))
-    × (s.error ≢ cause.NonAsciiError → s.error ≢ cause.DuplicateKey → Says text (told_key s.second.key.items))
+-- the keys do not ascend: the second is not above the first
+abbrev pub above_words : (unit : List ℕ) → NumberedKey → NumberedKey → List ℕ
+above_words unit a b =
+    (unit ++ (codes " " ++ (decimal b.number ++ (codes ": its key is not above that of " ++ (unit ++ (codes " " ++ (decimal a.number
+    ++ codes "; sort the input by the bytes of its keys, or leave out --sorted: ")))))))
+    ++ told_key b.key.items
 
--- a message tells which member or item of a JSON value, or which line, is no pair
-abbrev pub TellsNoPair : NoPair → List ℕ → Type 0
-TellsNoPair (Member key) text = Says text (told_key key.items)
-TellsNoPair (Item number) text = Names (codes "pair") text number
-TellsNoPair (Line number) text = Names (codes "line") text number
+-- a key is not ASCII
+abbrev pub ascii_words : (unit : List ℕ) → NumberedKey → List ℕ
+ascii_words unit a = (unit ++ (codes " " ++ (decimal a.number ++ codes ": its key is not ASCII; take --kind hash or --kind ext: "))) ++ told_key a.key.items
 
--- a field that is no value is in a text: what it begins with
-abbrev pub SaysField : BadLine → List ℕ → Type 0
-SaysField bad.Empty text = Unit {0}
-SaysField bad.NoTab text = Unit {0}
-SaysField bad.Escape text = Unit {0}
-SaysField (bad.Value v) text = Says text (told_key v.front.items)
-SaysField bad.Fields text = Unit {0}
+-- what two keys have in common that a kind refuses, and what to do
+abbrev pub case_hint : List ℕ → List ℕ → List ℕ
+case_hint a b =
+    if pointwise ◌==◌ (map to_ascii_lowercase a) (map to_ascii_lowercase b) then codes "their keys differ only in case, so they are one key to the kind; leave one out"
+    else codes "their keys begin alike but for the case of a letter; take --kind simple, or bring keys into lower case by build --lower-case"
+
+-- two keys are refused for their case
+abbrev pub case_words : (unit : List ℕ) → NumberedKey → NumberedKey → List ℕ
+case_words unit a b =
+    (((unit ++ (codes "s " ++ (decimal a.number ++ (codes " and " ++ (decimal b.number ++ (codes ": " ++ (case_hint a.key.items b.key.items ++ codes ": ")))))))
+    ++ told_key a.key.items) ++ codes " and ") ++ told_key b.key.items
+
+-- why keys are refused together, with the numbers of their pairs, and the keys that show it
+abbrev pub keys_words : ZeroTrieBuildError → (unit : List ℕ) → NumberedKey → NumberedKey → List ℕ
+keys_words cause.DuplicateKey unit a b = same_words unit a b
+keys_words cause.Unsorted unit a b = if pointwise ◌==◌ a.key.items b.key.items then same_words unit a b else above_words unit a b
+keys_words cause.NonAsciiError unit a b = ascii_words unit a
+keys_words cause.MixedCase unit a b = case_words unit a b
+keys_words cause.CapacityExceeded unit a b = case_words unit a b
+keys_words cause.CouldNotSolvePerfectHash unit a b = case_words unit a b
+keys_words cause.IllegalDelimiter unit a b = case_words unit a b
+keys_words cause.BufferTooSmall unit a b = case_words unit a b
+keys_words (cause.BufferTooLarge len) unit a b = case_words unit a b
+keys_words cause.StackExceeded unit a b = case_words unit a b
+keys_words cause.OutOfMemory unit a b = case_words unit a b
+
+-- which member or item of a JSON value, or which line, is no pair
+abbrev pub no_pair_words : NoPair → List ℕ
+no_pair_words (Member key) = codes "the value of this key is not written as a whole number below 2^64: " ++ told_key key.items
+no_pair_words (Item number) =
+    codes "pair " ++ (decimal number ++ codes ": no list of a key and of a value that is written as a whole number below 2^64")
+no_pair_words (Line number) =
+    codes "line "
+    ++ (decimal number
+    ++ codes ": no JSON list [key, value], and no object {\"key\": key, \"value\": value}, whose value is written as a whole number below 2^64")
+
+-- a value is none for no other reason that is known
+abbrev pub is_other : ValueFault → Bool
+is_other fault.Empty = false
+is_other fault.Sign = false
+is_other fault.Blank = false
+is_other fault.CarriageReturn = false
+is_other fault.Hexadecimal = false
+is_other fault.Fraction = false
+is_other fault.TooLong = false
+is_other fault.TooGreat = false
+is_other fault.Other = true
+
+-- what may help if the first line or record is no pair
+abbrev pub header_hint : PairUnit → ValueFault → List ℕ
+header_hint unit.Line value = if is_other value then codes "; if it is a header, say so by --header" else []
+header_hint unit.Record value = if is_other value then codes "; if it is a header, say so by --header" else []
+header_hint unit.Pair value = []
+
+-- what may help if the line or record with this number is no pair
+abbrev pub bad_hint : PairUnit → ℕ → BadLine → List ℕ
+bad_hint unit number bad.Empty = []
+bad_hint unit number bad.NoTab = codes "; if the input has another form, name it by --format"
+bad_hint unit number bad.Escape = []
+bad_hint unit number (bad.Value v) = if number == 1 then header_hint unit v.fault else []
+bad_hint unit number bad.Fields = []
+
+-- which line or record is no pair, and why
+abbrev pub numbered_words : PairUnit → ℕ → (why hint : List ℕ) → List ℕ
+numbered_words unit number why hint = unit_word unit ++ (codes " " ++ (decimal number ++ (codes ": " ++ (why ++ hint))))
+
+-- with what may help, and what a field begins with that is no value
+abbrev pub bad_words : PairUnit → ℕ → BadLine → (why : List ℕ) → List ℕ
+bad_words unit number bad.Empty why = numbered_words unit number why (bad_hint unit number bad.Empty)
+bad_words unit number bad.NoTab why = numbered_words unit number why (bad_hint unit number bad.NoTab)
+bad_words unit number bad.Escape why = numbered_words unit number why (bad_hint unit number bad.Escape)
+bad_words unit number (bad.Value v) why =
+    (numbered_words unit number why (codes ": \"") ++ escaped v.front.items) ++ (codes "\"" ++ bad_hint unit number (bad.Value v))
+bad_words unit number bad.Fields why = numbered_words unit number why (bad_hint unit number bad.Fields)
+
+-- what may help if a text is no JSON value from here on
+abbrev pub json_hint : (line column : ℕ) → List ℕ
+json_hint line column = if nat_lt 1 line && column == 1 then codes "; if each line is a value, name the format by --format jsonl" else []
+
+-- where a text is no JSON value
+abbrev pub json_words : (line column : ℕ) → List ℕ
+json_words line column =
+    codes "line "
+    ++ (decimal line
+    ++ (codes ", column "
+    ++ (decimal column
+    ++ (codes ": no JSON value" ++ json_hint line column))))
+
+-- at which pair the sum of the values of its key gets too large, and the key
+abbrev pub sum_words : (unit : List ℕ) → NumberedKey → List ℕ
+sum_words unit a = (unit ++ (codes " " ++ (decimal a.number ++ codes ": the sum of the values of its key is 2^64 or more: "))) ++ told_key a.key.items
+
+-- a build fails for a cause that none is known to have
+abbrev pub unexplained : List ℕ
+unexplained = codes "the build of the pairs is refused"
+
+-- why the build of a trie fails though no key is at fault
+abbrev pub refused_words : ZeroTrieBuildError → List ℕ
+refused_words cause.CapacityExceeded = codes "the trie would be too long for its kind: take --kind ext, or fewer pairs"
+refused_words cause.CouldNotSolvePerfectHash =
+    codes "no hashed table was found for the bytes that keys go on with at some place, as happens if these are random: take --index for get and verify alone, --kind simple if all keys are ASCII, or other keys, as their hexadecimal digits"
+refused_words cause.NonAsciiError = unexplained
+refused_words cause.MixedCase = unexplained
+refused_words cause.IllegalDelimiter = unexplained
+refused_words cause.DuplicateKey = unexplained
+refused_words cause.Unsorted = unexplained
+refused_words cause.BufferTooSmall = unexplained
+refused_words (cause.BufferTooLarge len) = unexplained
+refused_words cause.StackExceeded = unexplained
+refused_words cause.OutOfMemory = unexplained
+
+-- why the build of an index does
+abbrev pub index_refused_words : ZeroIndexBuildError → List ℕ
+index_refused_words index.CapacityExceeded = codes "the pairs of the index would have 4 GiB or more: leave out --index, or take fewer pairs"
+index_refused_words index.Crowded =
+    codes "more than 16 keys share a bucket of the index, whichever of 8 seeds is taken, as happens if they are chosen for that: leave out --index, or take other keys"
+index_refused_words index.Unsorted = unexplained
+index_refused_words index.DuplicateKey = unexplained
+index_refused_words index.OutOfMemory = unexplained
 
 -- what is said of an input that is another file, and what to do
 abbrev pub other_words : OtherFile → List ℕ
@@ -135,19 +242,22 @@ other_words Utf16 = codes "it looks like UTF-16: make it UTF-8 by iconv -f UTF-1
 other_words Gzip = codes "it looks like a file of gzip: gunzip it first"
 other_words Sealed = codes "it is a trie or an index that zerotrie made: list prints the pairs of a trie"
 
--- a message tells why no file is made of pairs: which other file the input is, or the cause, with the number of the line, record or pair, the place in the text, or the numbers
--- and keys of the pairs
-abbrev pub TellsMade : PairUnit → MakeError → List ℕ → Type 0
-TellsMade unit (made.NotText other) text = Says text (other_words other)
-TellsMade unit (made.Line number bad) text = Names (unit_word unit) text number × SaysField bad text
-TellsMade unit (made.NotJson line column) text = Names (codes "line") text line × Names (codes "column") text column
-TellsMade unit made.NotPairs text = Unit {0}
-TellsMade unit (made.NotPair bad) text = TellsNoPair bad text
-TellsMade unit (made.Keys s) text = NamesPairs (unit_word unit) s text × SaysKeys s text
-TellsMade unit (made.SumTooLarge k) text = Names (unit_word unit) text k.number × Says text (told_key k.key.items)
-TellsMade unit (made.Refused e) text = Unit {0}
-TellsMade unit (made.IndexRefused e) text = Unit {0}
-TellsMade unit made.OutOfMemory text = Unit {0}
+-- why no file is made of pairs; why a line is none is said by the crate that reads it
+abbrev pub AreMadeWords : PairUnit → MakeError → List ℕ → Type 0
+AreMadeWords unit (made.NotText other) words = words ≡ other_words other
+AreMadeWords unit (made.Line number bad) words = (why : List ℕ) × (words ≡ bad_words unit number bad why)
+AreMadeWords unit (made.NotJson line column) words = words ≡ json_words line column
+AreMadeWords unit made.NotPairs words = words ≡ codes "neither an object nor a list"
+AreMadeWords unit (made.NotPair bad) words = words ≡ no_pair_words bad
+AreMadeWords unit (made.Keys s) words = words ≡ keys_words s.error (unit_word unit) s.first s.second
+AreMadeWords unit (made.SumTooLarge k) words = words ≡ sum_words (unit_word unit) k
+AreMadeWords unit (made.Refused e) words = words ≡ refused_words e
+AreMadeWords unit (made.IndexRefused e) words = words ≡ index_refused_words e
+AreMadeWords unit made.OutOfMemory words = words ≡ codes "out of memory"
+
+-- a line tells why no file is made of the pairs of a place
+abbrev pub TellsMade : (place : List ℕ) → PairUnit → MakeError → List ℕ → Type 0
+TellsMade place unit e text = (words : List ℕ) × AreMadeWords unit e words × (text ≡ line_on place words)
 
 -- what is said of a file that does not begin as a trie: which other file it is, that it looks like text if it does, or is empty, or begins
 -- with another number
@@ -158,48 +268,76 @@ tag_words Nothing Empty = codes "the file is empty"
 tag_words Nothing InvalidTag =
     codes "not a file of zerotrie build: its first byte is the number of no kind; if it is bare bytes, name their kind by --bare"
 
--- a message tells why a file has no trie: what it is, or the rule and the place of the first fault
-abbrev pub TellsNoTrie : OpenError → Hint → List ℕ → Type 0
-TellsNoTrie (unopened.BadTag why) hint text = Says text (tag_words hint why)
-TellsNoTrie (unopened.Damaged why) hint text = Unit {0}
-TellsNoTrie (unopened.NotWellFormed kind first) hint text = Says text (rule_text first.cause) × Names (codes "byte") text first.place
-TellsNoTrie unopened.OutOfMemory hint text = Unit {0}
+-- what the places in a file are counted from, which is bare bytes of a kind that was named or not
+abbrev pub counted_from : Option TrieKind → List ℕ
+counted_from (Some named) = codes " of the file"
+counted_from None = codes " of the trie in it"
+
+-- the rule and the place of the first fault in bytes of this kind
+abbrev pub fault_words : Option TrieKind → TrieKind → Fault → List ℕ
+fault_words bare kind first =
+    codes "no trie of kind "
+    ++ (kind_name kind ++ (codes ": " ++ (rule_text first.cause ++ (codes ", at byte " ++ (decimal first.place ++ counted_from bare)))))
+
+-- a line tells why a file has no trie: what it is, or its first fault; what is damaged in a sealed file is said by the crate that opens it
+abbrev pub TellsNoTrie : TrieFile → OpenError → Hint → List ℕ → Type 0
+TellsNoTrie file (unopened.BadTag why) hint text = text ≡ line_on (source_name file.place) (tag_words hint why)
+TellsNoTrie file (unopened.Damaged why) hint text = IsLineOn (source_name file.place) text
+TellsNoTrie file (unopened.NotWellFormed kind first) hint text = text ≡ line_on (source_name file.place) (fault_words file.bare kind first)
+TellsNoTrie file unopened.OutOfMemory hint text = text ≡ line_on (source_name file.place) (codes "out of memory")
+
+-- what is told of pairs that can't be one JSON value: the key that shows it
+abbrev pub not_text_line : (place key : List ℕ) → List ℕ
+not_text_line place key = line_on place (codes "a key is not UTF-8, so take --format jsonl: " ++ told_key key)
+
+-- what is told of standard input that is another file, and not lines of keys
+abbrev pub no_keys_line : OtherFile → List ℕ
+no_keys_line other = line_on (codes "standard input") (other_words other)
 
 -- a line tells why a question to a file has no answer, and which place it is about
-abbrev pub TellsAsk : Place → AskError → List ℕ → Type 0
-TellsAsk file (ask.Unread e) text = IsLineOn (source_name file) text
-TellsAsk file (ask.NoTrie why hint) text = IsLineOn (source_name file) text × TellsNoTrie why hint text
+abbrev pub TellsAsk : TrieFile → AskError → List ℕ → Type 0
+TellsAsk file (ask.Unread e) text = IsLineOn (source_name file.place) text
+TellsAsk file (ask.NoTrie why hint) text = TellsNoTrie file why hint text
 TellsAsk file (ask.Unanswered (Input e)) text = IsLineOn (codes "standard input") text
-TellsAsk file (ask.Unanswered (NoLines other)) text = IsLineOn (codes "standard input") text × Says text (other_words other)
+TellsAsk file (ask.Unanswered (NoLines other)) text = text ≡ no_keys_line other
 TellsAsk file (ask.Unanswered (Output e)) text = IsLineOn (codes "standard output") text
-TellsAsk file (ask.NotText key) text = IsLineOn (source_name file) text × Says text (told_key key.items)
+TellsAsk file (ask.NotText key) text = text ≡ not_text_line (source_name file.place) key.items
+
+-- a line warns that a file is read as bare bytes and begins with the number of this kind
+abbrev pub IsNumberLine : (place : List ℕ) → List ℕ → Type 0
+IsNumberLine place text = (kind : TrieKind)
+    × (text ≡ line_on place (codes "read as bare bytes, though its first byte is the number of kind "
+    ++ (kind_name kind ++ codes ": leave out --bare unless every key begins with that byte")))
+
+-- what is told of a file that is there already
+abbrev pub taken_line : (place : List ℕ) → List ℕ
+taken_line place = line_on place (codes "the file is there already, and --no-clobber leaves it")
 
 -- a line tells why no file was made of pairs or written, and which of these places it is about: the one that is read, or the one that
 -- is written
 abbrev pub TellsBuild : (from to : List ℕ) → PairUnit → BuildError → List ℕ → Type 0
 TellsBuild from to unit (build.Unread e) text = IsLineOn from text
-TellsBuild from to unit (build.NotMade e) text = IsLineOn from text × TellsMade unit e text
+TellsBuild from to unit (build.NotMade e) text = TellsMade from unit e text
 TellsBuild from to unit (build.Unwritten e) text = IsLineOn to text
-TellsBuild from to unit build.Taken text = IsLineOn to text
+TellsBuild from to unit build.Taken text = text ≡ taken_line to
 TellsBuild from to unit (build.Unfound e) text = IsLineOn to text
 
 -- why a key that is taken gets no value
 abbrev pub value_words : RuleError → List ℕ
-value_words SeveralValues = codes "more than one file has this key: "
+value_words SeveralValues = codes "more than one file has this key; --values first, sum or another takes one: "
 value_words DifferentValues = codes "files have different values for this key: "
 value_words SumTooLarge = codes "the sum of the values of this key is 2^64 or more: "
 
--- a message tells why no file is made of maps: which key gets no value, and why; or as of pairs that are in no input
-abbrev pub TellsUnmade : CombinationError → List ℕ → Type 0
-TellsUnmade (combination.NoValue why key) text = Says text (value_words why) × Says text (told_key key.items)
-TellsUnmade (combination.NotMade e) text = TellsMade unit.Pair e text
+-- a line tells why no file is made of maps: which key gets no value, and why; or as of pairs that are in no input
+abbrev pub TellsUnmade : (place : List ℕ) → CombinationError → List ℕ → Type 0
+TellsUnmade place (combination.NoValue why key) text = text ≡ line_on place (value_words why ++ told_key key.items)
+TellsUnmade place (combination.NotMade e) text = TellsMade place unit.Pair e text
 
 -- a line tells why no file was made of others, or written, and which place it is about; pairs are refused at the one that is written
 abbrev pub TellsCombine : Combine → CombineError → List ℕ → Type 0
 TellsCombine c (combine.Unopened number e) text = (place : Place) → IsNumbered c.from.now number place → IsLineOn (source_name place) text
-TellsCombine c (combine.NoTrie number why hint) text = ((place : Place) → IsNumbered c.from.now number place → IsLineOn (source_name place) text)
-    × TellsNoTrie why hint text
-TellsCombine c (combine.NoValue why key) text = IsLineOn (target_name c.to) text × TellsUnmade (combination.NoValue why key) text
+TellsCombine c (combine.NoTrie number why hint) text = (place : Place) → IsNumbered c.from.now number place → TellsNoTrie (file_of place) why hint text
+TellsCombine c (combine.NoValue why key) text = TellsUnmade (target_name c.to) (combination.NoValue why key) text
 TellsCombine c (combine.NotBuilt e) text = TellsBuild (target_name c.to) (target_name c.to) unit.Pair e text
 
 -- tenths of a unit
@@ -218,11 +356,11 @@ key_word keys = if keys == 1 then codes "key" else codes "keys"
 
 -- what is told of a file that was made: its place, how many keys it has, and its size
 abbrev pub made_line : List ℕ → ℕ → ℕ → List ℕ
-made_line place keys len = ((line_front place ++ (decimal keys ++ (codes " " ++ (key_word keys ++ codes ", ")))) ++ size_text len) ++ (10 ∷ [])
+made_line place keys len = line_on place (decimal keys ++ (codes " " ++ (key_word keys ++ (codes ", " ++ size_text len))))
 
 -- what is told of the kind of a file for which none was named, and that was made of tries of several
 abbrev pub kind_line : List ℕ → TrieKind → List ℕ
-kind_line place kind = ((line_front place ++ codes "the files have tries of several kinds, so it is of kind ") ++ kind_name kind) ++ (10 ∷ [])
+kind_line place kind = line_on place (codes "the files have tries of several kinds, so it is of kind " ++ kind_name kind)
 
 -- the word after a number of files
 abbrev pub file_word : ℕ → List ℕ
@@ -230,5 +368,4 @@ file_word count = if count == 1 then codes "file" else codes "files"
 
 -- what is told of files that killed builds left beside that of the place: how many were removed
 abbrev pub removed_line : List ℕ → ℕ → List ℕ
-removed_line place removed =
-    (line_front place ++ (codes "removed " ++ (decimal removed ++ (codes " " ++ (file_word removed ++ codes " that killed builds left"))))) ++ (10 ∷ [])
+removed_line place removed = line_on place (codes "removed " ++ (decimal removed ++ (codes " " ++ (file_word removed ++ codes " that killed builds left"))))

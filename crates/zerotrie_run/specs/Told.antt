@@ -16,7 +16,7 @@ use Rattle.zerotrie_making.specs.declared.plan.FileForm.TheVariants as form
 use Rattle.zerotrie_making.specs.declared.plan.Made.{Made}
 use Rattle.zerotrie_core.specs.declared.TrieKind.{TrieKind}
 use Rattle.zerotrie_run.specs.Statuses.{made_refusal}
-use Rattle.zerotrie_run.specs.Messages.{IsLine, IsLineOn, Says, other_words, TellsAsk, TellsBuild, TellsCombine, TellsMade, TellsNoTrie, TellsUnmade, kind_line, made_line, removed_line, source_name, target_name, told_key, unit_of}
+use Rattle.zerotrie_run.specs.Messages.{IsLine, IsLineOn, IsNumberLine, TellsAsk, TellsBuild, TellsCombine, TellsMade, TellsNoTrie, TellsUnmade, kind_line, made_line, no_keys_line, not_text_line, removed_line, source_name, taken_line, target_name, unit_of}
 use Rattle.zerotrie_run.specs.Runs.{IsRead, IsThere, IsUnasked, IsUnopened, IsUnprinted, HasNoLines, HasNumberToo}
 use Rattle.zerotrie_run.specs.Diffs.{IsFileOf, NotesNumbers}
 use Rattle.zerotrie_run.specs.declared.command.Diff.{Diff}
@@ -106,8 +106,8 @@ HasCommandCause command input files (error.Combine c e) = (command ≡ commands.
 -- a line tells why
 abbrev pub TellsCommand : CommandError → List ℕ → Type 0
 TellsCommand (error.Build build e) text = TellsBuild (source_name build.from) (target_name build.to) (unit_of build.plan.read.source) e text
-TellsCommand (error.Ask file question e) text = TellsAsk file.place e text
-TellsCommand (error.Diff diff e) text = TellsAsk e.file.place e.error text
+TellsCommand (error.Ask file question e) text = TellsAsk file e text
+TellsCommand (error.Diff diff e) text = TellsAsk e.file e.error text
 TellsCommand (error.Combine c e) text = TellsCombine c e text
 
 -- the number that an error has for a file is that of one
@@ -120,7 +120,7 @@ NamesItsFile (error.Combine c e) = NamesFile c e
 -- a line on the file is told if it is read as bare bytes and begins with the number of a kind
 abbrev pub NotesNumber : TrieFile → Option (List ℕ) → Option Story → (old new : Option (List ℕ)) → Type 0
 NotesNumber file input files old new = (held : List ℕ) × IsRead file.place input files held
-    × (HasNumberToo file.bare held → (text : List ℕ) × IsLineOn (source_name file.place) text × Appends old new text)
+    × (HasNumberToo file.bare held → (text : List ℕ) × IsNumberLine (source_name file.place) text × Appends old new text)
 
 -- whether a file with this many keys is told
 abbrev pub is_told : Summary → ℕ → Bool
@@ -178,13 +178,13 @@ TellsCombined c input files old new = (made : Made) × (several : Bool) × OfFil
 -- a line tells why a file that was read has no trie, by its first fault
 abbrev pub TellsUnopened : (List ℕ → OpenError → Type 0) → TrieFile → Option (List ℕ) → Option Story → (old new : Option (List ℕ)) → Type 0
 TellsUnopened IsWhy file input files old new = (held : List ℕ) × IsRead file.place input files held
-    × (why : OpenError) × IsWhy held why × (hint : Hint) × IsHint held hint × (text : List ℕ) × IsLineOn (source_name file.place) text × TellsNoTrie why hint text × ToldLast old new text
+    × (why : OpenError) × IsWhy held why × (hint : Hint) × IsHint held hint × (text : List ℕ) × TellsNoTrie file why hint text × ToldLast old new text
 
 -- a line tells why what was read is refused: which pairs of an input, or which fault in a trie
 abbrev pub TellsRefusal : Command → Option (List ℕ) → Option Story → (old new : Option (List ℕ)) → Status → Type 0
 TellsRefusal (commands.Build build) input files old new status = (all : List ℕ) × IsRead build.from input files all
     × (e : MakeError) × made.Explains build.plan all e × (made_refusal e ≡ Some status)
-    × (text : List ℕ) × IsLineOn (source_name build.from) text × TellsMade (unit_of build.plan.read.source) e text × ToldLast old new text
+    × (text : List ℕ) × TellsMade (source_name build.from) (unit_of build.plan.read.source) e text × ToldLast old new text
 TellsRefusal (commands.Ask file question) input files old new status = TellsUnopened (IsUnasked file question) file input files old new
 TellsRefusal (commands.Diff diff) input files old new status = (file : TrieFile) × IsFileOf diff file × TellsUnopened (IsUnopened file) file input files old new
 TellsRefusal (commands.Combine c) input files old new status = Any (λ place. TellsUnopened (IsUnopened (file_of place)) (file_of place) input files old new) c.from.now
@@ -193,26 +193,26 @@ TellsRefusal (commands.Combine c) input files old new status = Any (λ place. Te
 abbrev pub TellsRefused : Command → Option (List ℕ) → Option Story → (old new : Option (List ℕ)) → Type 0
 TellsRefused (commands.Build build) input files old new = TellsRefusal (commands.Build build) input files old new Refused
 TellsRefused (commands.Ask file question) input files old new = (key : List ℕ) × IsUnprinted file question input files key
-    × (text : List ℕ) × IsLineOn (source_name file.place) text × Says text (told_key key) × ToldLast old new text
+    × ToldLast old new (not_text_line (source_name file.place) key)
 TellsRefused (commands.Diff diff) input files old new = ⊥
 TellsRefused (commands.Combine c) input files old new =
     (e : CombinationError) × OfFiles c input files (λ maps. ExplainsMaps c.combination maps e) × (unmade_refusal e ≡ Some Refused)
-    × (text : List ℕ) × IsLineOn (target_name c.to) text × TellsUnmade e text × ToldLast old new text
+    × (text : List ℕ) × TellsUnmade (target_name c.to) e text × ToldLast old new text
 
 -- a line on standard input tells which other file it is, and not lines of keys
 abbrev pub TellsNoLines : Command → Option (List ℕ) → (old new : Option (List ℕ)) → Type 0
 TellsNoLines (commands.Build build) input old new = ⊥
 TellsNoLines (commands.Ask file question) input old new = (other : OtherFile) × HasNoLines question input other
-    × (text : List ℕ) × IsLineOn (codes "standard input") text × Says text (other_words other) × ToldLast old new text
+    × ToldLast old new (no_keys_line other)
 TellsNoLines (commands.Diff diff) input old new = ⊥
 TellsNoLines (commands.Combine c) input old new = ⊥
 
 -- a line tells that the file to make is there already
 abbrev pub TellsTaken : Command → (old new : Option (List ℕ)) → Type 0
-TellsTaken (commands.Build build) old new = ToldOf (target_name build.to) old new
+TellsTaken (commands.Build build) old new = ToldLast old new (taken_line (target_name build.to))
 TellsTaken (commands.Ask file question) old new = ⊥
 TellsTaken (commands.Diff diff) old new = ⊥
-TellsTaken (commands.Combine c) old new = ToldOf (target_name c.to) old new
+TellsTaken (commands.Combine c) old new = ToldLast old new (taken_line (target_name c.to))
 
 -- what is told last of a run that ends so; nothing if whoever reads the output has closed it
 abbrev pub IsTold : Command → Option (List ℕ) → Option Story → (old new : Option (List ℕ)) → Status → Type 0

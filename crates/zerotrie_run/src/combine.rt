@@ -13,8 +13,6 @@ ghost use Rattle.zerotrie_run.specs.Told.{TellsCombined};
 ghost use Rattle.zerotrie_run.specs.declared.build.BuildError.TheVariants.{NotMade};
 ghost use Rattle.zerotrie_run.specs.declared.combine.CombineError.TheVariants.{NotBuilt};
 ghost use Rattle.zerotrie_run.specs.declared.command.Check.TheVariants.{Full};
-ghost use Rattle.zerotrie_run.specs.declared.command.Command.TheVariants as commands;
-ghost use Rattle.zerotrie_run.specs.declared.status.Status.TheVariants.{Unwritten};
 
 use crate::build::{BuildError, spare};
 use crate::command::{Combine, Place};

@@ -10,9 +10,7 @@ ghost use Rattle.zerotrie_run.specs.Diffs.{old_file, new_file, IsEitherDoubtful,
 ghost use Rattle.zerotrie_run.specs.Runs.{AreFiles, AreOneStream, HandsOn, IsDoubtful, IsRead, IsRefusedUnread, Opens, ask_refusal};
 ghost use Rattle.zerotrie_run.specs.Told.{HasDiffReason, TellsMore};
 ghost use Rattle.zerotrie_run.specs.declared.command.Check.TheVariants.{Full};
-ghost use Rattle.zerotrie_run.specs.declared.command.Command.TheVariants as commands;
 ghost use Rattle.zerotrie_run.specs.declared.command.Place.TheVariants.{Stream};
-ghost use Rattle.zerotrie_run.specs.declared.status.Status.TheVariants.{Unread};
 
 use crate::ask::AskError;
 use crate::command::{Check, Diff, TrieFile};

@@ -1,21 +1,20 @@
 //! Messages on a file that is asked.
 
-ghost use Rattle.std.specs.Prelude.{◌≡◌, List, ℕ, false, IfOk, IfSome, IfNone, OnOk, codes};
+ghost use Rattle.std.specs.Prelude.{◌≡◌, List, ℕ, false, IfOk, IfSome, IfNone, OnOk};
 ghost use Rattle.std.specs.Io.KnownBytes.{Appends};
-ghost use Rattle.zerotrie_core.specs.Faults.{rule_text};
-ghost use Rattle.zerotrie_run.specs.Messages.{BeginsWithNoDigit, IsLineOn, Names, Says, TellsAsk, TellsNoTrie, source_name, tag_words, told_key};
+ghost use Rattle.std.specs.String.{string_bytes};
+ghost use Rattle.zerotrie_run.specs.Messages.{IsLineOn, IsNumberLine, TellsAsk, TellsNoTrie, counted_from, fault_words, not_text_line, source_name, tag_words};
 ghost use Rattle.zerotrie_run.specs.Runs.{HasNumberToo};
 ghost use Rattle.zerotrie_run.specs.Told.{TellsMore};
 
 use crate::ask::AskError;
 use crate::command::{Question, TrieFile};
 use crate::front::Hint;
-use crate::messages::build::other_words;
-use crate::messages::key::add_key;
+use crate::messages::key::with_key;
 use crate::messages::line::{
-    STANDARD_INPUT, STANDARD_OUTPUT, add, add_kind, add_number, add_words, begin_line, end_line,
-    fault_on, line_on, source_name, tell, unwritten,
+    STANDARD_INPUT, STANDARD_OUTPUT, fault_on, line_on, source_name, tell, unwritten,
 };
+use crate::messages::pairs::other_words;
 use crate::stdin_lines::AnswerError;
 use std::alloc::{AllocError, Global};
 use std::io::Write;
@@ -27,7 +26,7 @@ use zerotrie_sealed::{SealError, is_index_number};
 
 /// Returns what the places in a file are counted from.
 fn counted_from(file: TrieFile<'_>) -> &'static str
-    ensures { BeginsWithNoDigit result.now }
+    ensures { result.now ≡ counted_from file.entry.bare }
 {
     match file.bare {
         Some(_) => " of the file",
@@ -35,25 +34,19 @@ fn counted_from(file: TrieFile<'_>) -> &'static str
     }
 }
 
-/// Returns a line on the first fault in the bytes of a file.
-#[tactic(auto, using(crate::proofs::MessageLemmas::extends_both, crate::proofs::MessageLemmas::line_here, crate::proofs::MessageLemmas::names_on, crate::proofs::MessageLemmas::says_here, crate::proofs::MessageLemmas::says_on))]
-fn malformed(
+/// Returns the rule and the place of the first fault in the bytes of a file.
+fn fault_words(
     alloc: Global,
     file: TrieFile<'_>,
     kind: TrieKind,
     fault: Fault,
-) -> Result<Vec<u8>, AllocError>
-    ensures line { IfOk result (λ text. IsLineOn (source_name file.entry.place) text.items) }
-    ensures says { IfOk result (λ text. Says text.items (rule_text fault.cause)) }
-    ensures names { IfOk result (λ text. Names (codes "byte") text.items fault.place) }
+) -> Result<String, AllocError>
+    ensures { IfOk result (λ words. string_bytes words
+        ≡ fault_words file.entry.bare kind fault) }
 {
-    let mut text = begin_line(alloc, source_name(file.place))?;
-    add_kind(&mut text, "no trie of kind ", kind)?;
-    add_words(&mut text, fault.cause.text())?;
-    add(&mut text, ", at ")?;
-    add_number(&mut text, "byte", fault.place, counted_from(file))?;
-    end_line(&mut text)?;
-    Ok(text)
+    let (kind, why, place) = (kind.name(), fault.cause.text(), fault.place);
+    let from = counted_from(file);
+    format!(in alloc; "no trie of kind {kind}: {why}, at byte {place}{from}")
 }
 
 /// Returns what is said of a file whose kind is not known: which other file it is, that it looks like text,
@@ -75,7 +68,11 @@ fn tag_words(why: &TagError, hint: Hint) -> &'static str
 pub fn is_sealed_index(why: SealError) -> bool {
     match why {
         SealError::UnknownKind(number) => is_index_number(number),
-        _ => false,
+        SealError::NoMagic
+        | SealError::UnknownVersion(_)
+        | SealError::CutShort
+        | SealError::TooLong
+        | SealError::Checksum => false,
     }
 }
 
@@ -87,11 +84,11 @@ fn damaged(alloc: Global, place: &str, why: SealError) -> Result<Vec<u8>, AllocE
         return line_on(
             alloc,
             place,
-            "it holds an index, which answers get and verify alone",
+            b"it holds an index, which answers get and verify alone",
         );
     }
     let words = format!(in alloc; "{why}")?;
-    line_on(alloc, place, words.as_str())
+    line_on(alloc, place, words.as_bytes())
 }
 
 /// Returns a line that says why a file has no trie.
@@ -101,15 +98,17 @@ pub fn no_trie(
     why: &OpenError,
     hint: Hint,
 ) -> Result<Vec<u8>, AllocError>
-    ensures line { IfOk result (λ text. IsLineOn (source_name file.entry.place) text.items) }
-    ensures tells { IfOk result (λ text. TellsNoTrie why.now hint text.items) }
+    ensures { IfOk result (λ text. TellsNoTrie file.entry why.now hint text.items) }
 {
     let path = source_name(file.place);
     match why {
-        OpenError::BadTag(why) => line_on(alloc, path, tag_words(why, hint)),
+        OpenError::BadTag(why) => line_on(alloc, path, tag_words(why, hint).as_bytes()),
         OpenError::Damaged(why) => damaged(alloc, path, *why),
-        OpenError::NotWellFormed(kind, fault) => malformed(alloc, file, *kind, *fault),
-        OpenError::OutOfMemory => line_on(alloc, path, "out of memory"),
+        OpenError::NotWellFormed(kind, fault) => {
+            let words = fault_words(alloc, file, *kind, *fault)?;
+            line_on(alloc, path, words.as_bytes())
+        }
+        OpenError::OutOfMemory => line_on(alloc, path, b"out of memory"),
     }
 }
 
@@ -132,25 +131,19 @@ fn note_on_number(
     held: &[u8],
 ) -> Result<Option<Vec<u8>>, AllocError>
     ensures some { IfOk result (λ note. IfSome note (λ text.
-        IsLineOn (source_name file.entry.place) text.items)) }
+        IsNumberLine (source_name file.entry.place) text.items)) }
     ensures why { IfOk result (λ note. IfSome note (λ _. HasNumberToo file.entry.bare held.now)) }
     ensures none { IfOk result (λ note. IfNone note (HasNumberToo file.entry.bare held.now → ⊥)) }
 {
     let Some(kind) = number_too(file, held) else {
         return Ok(None);
     };
-    let mut text = begin_line(alloc, source_name(file.place))?;
-    add_kind(
-        &mut text,
-        "read as bare bytes, though its first byte is the number of kind ",
-        kind,
+    let name = kind.name();
+    let words = format!(in alloc;
+        "read as bare bytes, though its first byte is the number of kind {name}: leave out --bare unless every key begins with that byte"
     )?;
-    add(
-        &mut text,
-        "leave out --bare unless every key begins with that byte",
-    )?;
-    end_line(&mut text)?;
-    Ok(Some(text))
+    let line = line_on(alloc, source_name(file.place), words.as_bytes())?;
+    Ok(Some(line))
 }
 
 /// Warns if a file that is read as bare bytes begins with the number of a kind. It fails only if it
@@ -166,7 +159,7 @@ pub fn tell_number<M: Write>(
         × TellsMore (M.contents messages.old.inner) (M.contents messages.new.inner) }
     ensures notes { OnOk result (messages.new.failed ≡ false
         → HasNumberToo file.entry.bare held.now → (text : List ℕ)
-        × IsLineOn (source_name file.entry.place) text
+        × IsNumberLine (source_name file.entry.place) text
         × Appends (M.contents messages.old.inner) (M.contents messages.new.inner) text) }
 {
     match note_on_number(alloc, file, held)? {
@@ -179,21 +172,20 @@ pub fn tell_number<M: Write>(
 }
 
 /// Returns a line that says that pairs can't be one JSON value, with the key that shows it.
-#[tactic(auto, using(crate::proofs::MessageLemmas::extends_both, crate::proofs::MessageLemmas::line_here, crate::proofs::MessageLemmas::says_on))]
 fn not_text(alloc: Global, place: &str, key: &[u8]) -> Result<Vec<u8>, AllocError>
-    ensures line { IfOk result (λ text. IsLineOn place.now text.items) }
-    ensures says { IfOk result (λ text. Says text.items (told_key key.now)) }
+    ensures { IfOk result (λ text. text.items ≡ not_text_line place.now key.now) }
 {
-    let mut text = begin_line(alloc, place)?;
-    add(&mut text, "a key is not UTF-8, so take --format jsonl: ")?;
-    add_key(&mut text, key)?;
-    end_line(&mut text)?;
-    Ok(text)
+    let words = with_key(
+        alloc,
+        "a key is not UTF-8, so take --format jsonl: ",
+        key,
+    )?;
+    line_on(alloc, place, words.as_slice())
 }
 
 /// Returns a line that says why a question has no answer.
 pub fn ask_text(alloc: Global, file: TrieFile<'_>, error: &AskError) -> Result<Vec<u8>, AllocError>
-    ensures { IfOk result (λ text. TellsAsk file.entry.place error.now text.items) }
+    ensures { IfOk result (λ text. TellsAsk file.entry error.now text.items) }
 {
     let path = source_name(file.place);
     match error {
@@ -202,7 +194,7 @@ pub fn ask_text(alloc: Global, file: TrieFile<'_>, error: &AskError) -> Result<V
         AskError::NotText(key) => not_text(alloc, path, key.as_slice()),
         AskError::Unanswered(AnswerError::Input(error)) => fault_on(alloc, STANDARD_INPUT, error),
         AskError::Unanswered(AnswerError::NoLines(other)) => {
-            line_on(alloc, STANDARD_INPUT, other_words(*other))
+            line_on(alloc, STANDARD_INPUT, other_words(*other).as_bytes())
         }
         AskError::Unanswered(AnswerError::Output(error)) => unwritten(
             alloc,
@@ -217,7 +209,12 @@ pub fn ask_text(alloc: Global, file: TrieFile<'_>, error: &AskError) -> Result<V
 fn is_index(question: Question<'_>, why: SealError) -> bool {
     match question {
         Question::Verify => is_sealed_index(why),
-        _ => false,
+        Question::LookUp(_, _)
+        | Question::List(_, _)
+        | Question::Distances(_, _)
+        | Question::Code(_, _)
+        | Question::Report(_)
+        | Question::View(_) => false,
     }
 }
 
@@ -228,14 +225,17 @@ pub fn question_text(
     question: Question<'_>,
     error: &AskError,
 ) -> Result<Vec<u8>, AllocError>
-    ensures { IfOk result (λ text. TellsAsk file.entry.place error.now text.items) }
+    ensures { IfOk result (λ text. TellsAsk file.entry error.now text.items) }
 {
     match error {
         AskError::NoTrie(OpenError::Damaged(why), _) if is_index(question, *why) => line_on(
             alloc,
             source_name(file.place),
-            "the index in it is malformed",
+            b"the index in it is malformed",
         ),
-        _ => ask_text(alloc, file, error),
+        AskError::Unread(_)
+        | AskError::NoTrie(_, _)
+        | AskError::NotText(_)
+        | AskError::Unanswered(_) => ask_text(alloc, file, error),
     }
 }

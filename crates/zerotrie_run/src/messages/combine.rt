@@ -1,9 +1,9 @@
 //! Messages on a trie file that is made of others.
 
-ghost use Rattle.std.specs.Prelude.{◌≡◌, ◌<◌, ◌&&◌, length, IfOk};
+ghost use Rattle.std.specs.Prelude.{◌≡◌, ◌<◌, ◌&&◌, ◌++◌, length, IfOk};
 ghost use Rattle.zerotrie_run.specs.Combined.{IsNumbered, NamesFile, file_of};
 ghost use Rattle.zerotrie_run.specs.Commands.{may_tell};
-ghost use Rattle.zerotrie_run.specs.Messages.{IsLineOn, Says, TellsCombine, told_key, value_words};
+ghost use Rattle.zerotrie_run.specs.Messages.{TellsCombine, line_on, told_key, value_words};
 ghost use Rattle.zerotrie_run.specs.Told.{combined_lines, has_kind, told_kind};
 
 use crate::build::is_told;
@@ -11,15 +11,11 @@ use crate::combine::CombineError;
 use crate::command::{Check, Combine, Place, Summary, TrieFile};
 use crate::messages::ask::no_trie;
 use crate::messages::build::{made_text, unbuilt};
-use crate::messages::key::add_key;
-use crate::messages::line::{
-    add, add_words, begin_line, end_line, fault_on, source_name, target_name, tell,
-};
+use crate::messages::key::with_key;
+use crate::messages::line::{fault_on, line_on, source_name, target_name};
 use crate::messages::pairs::PairUnit;
 use std::alloc::{AllocError, Global};
-use std::io::Write;
 use zerotrie_core::TrieKind;
-use zerotrie_files::Noted;
 use zerotrie_making::{FileForm, Made};
 use zerotrie_sets::RuleError;
 
@@ -47,24 +43,21 @@ fn value_words(why: RuleError) -> &'static str
     ensures { result.now ≡ value_words why }
 {
     match why {
-        RuleError::SeveralValues => "more than one file has this key: ",
+        RuleError::SeveralValues => {
+            "more than one file has this key; --values first, sum or another takes one: "
+        }
         RuleError::DifferentValues => "files have different values for this key: ",
         RuleError::SumTooLarge => "the sum of the values of this key is 2^64 or more: ",
     }
 }
 
 /// Returns a line that says that a key gets no value, and why.
-#[tactic(auto, using(crate::proofs::MessageLemmas::extends_both, crate::proofs::MessageLemmas::line_here, crate::proofs::MessageLemmas::says_on))]
 fn no_value(alloc: Global, place: &str, why: RuleError, key: &[u8]) -> Result<Vec<u8>, AllocError>
-    ensures line { IfOk result (λ text. IsLineOn place.now text.items) }
-    ensures why { IfOk result (λ text. Says text.items (value_words why)) }
-    ensures key { IfOk result (λ text. Says text.items (told_key key.now)) }
+    ensures { IfOk result (λ text. text.items
+        ≡ line_on place.now (value_words why ++ told_key key.now)) }
 {
-    let mut text = begin_line(alloc, place)?;
-    add_words(&mut text, value_words(why))?;
-    add_key(&mut text, key)?;
-    end_line(&mut text)?;
-    Ok(text)
+    let words = with_key(alloc, value_words(why), key)?;
+    line_on(alloc, place, words.as_slice())
 }
 
 /// Returns a line that says why no file is made of others.
@@ -111,14 +104,11 @@ fn kind_text(
     if !is_told {
         return Ok(Vec::new(alloc));
     }
-    let mut text = begin_line(alloc, place)?;
-    add(
-        &mut text,
-        "the files have tries of several kinds, so it is of kind ",
+    let name = kind.name();
+    let words = format!(in alloc;
+        "the files have tries of several kinds, so it is of kind {name}"
     )?;
-    add(&mut text, kind.name())?;
-    end_line(&mut text)?;
-    Ok(text)
+    line_on(alloc, place, words.as_bytes())
 }
 
 /// Returns what is told of a file that was made of others, as its summary says. `several` is whether no

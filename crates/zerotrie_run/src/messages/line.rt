@@ -1,16 +1,15 @@
-//! Lines of messages, and what they name.
+//! Lines of messages, and the places that they name.
 
-ghost use Rattle.std.specs.Prelude.{◌≡◌, ◌++◌, ◌∷◌, [], false, IfOk, OnOk, codes};
+ghost use Rattle.std.specs.Prelude.{◌≡◌, [], false, IfOk};
 ghost use Rattle.std.specs.Io.KnownBytes.{Appends};
-ghost use Rattle.zerotrie_run.specs.Messages.{BeginsWithNoDigit, Extends, IsLine, IsLineOn, Names, Says, line_front, source_name, target_name};
+ghost use Rattle.zerotrie_run.specs.Messages.{IsLine, IsLineOn, line_on, source_name, target_name};
 
 use crate::command::{Command, Place};
 use std::alloc::{AllocError, Global};
 use std::io;
 use std::io::{ErrorKind, Write};
-use zerotrie_core::TrieKind;
 use zerotrie_files::Noted;
-use zerotrie_lines::{write_escaped, write_number};
+use zerotrie_lines::write_escaped;
 
 /// The name of standard input.
 pub const STANDARD_INPUT: &str = "standard input";
@@ -59,93 +58,16 @@ pub fn twice_line(command: Command<'_>) -> &'static [u8]
     }
 }
 
-/// Adds words.
-pub fn add(text: &mut Vec<u8>, words: &str) -> Result<(), AllocError>
-    ensures exact { OnOk result (text.new.items ≡ text.old.items ++ words.now) }
-    ensures adds { OnOk result (Extends text.old.items text.new.items) }
+/// Returns the line on a place that has these words. The name is escaped as keys are, so that it can't
+/// steer a terminal.
+pub fn line_on(alloc: Global, place: &str, words: &[u8]) -> Result<Vec<u8>, AllocError>
+    ensures { IfOk result (λ text. text.items ≡ line_on place.now words.now) }
 {
-    text.extend_from_slice(words.as_bytes())
-}
-
-/// Adds a number after its unit and a space, and then words.
-#[tactic(auto, using(crate::proofs::MessageLemmas::extends_both, crate::proofs::MessageLemmas::names_here))]
-pub fn add_number(
-    text: &mut Vec<u8>,
-    unit: &str,
-    number: usize,
-    after: &str,
-) -> Result<(), AllocError>
-    requires { BeginsWithNoDigit after.now }
-    ensures names { OnOk result (Names unit.now text.new.items number) }
-    ensures adds { OnOk result (Extends text.old.items text.new.items) }
-{
-    add(text, unit)?;
-    add(text, " ")?;
-    write_number(text, number)?;
-    add(text, after)
-}
-
-/// Adds the unit of two numbers, and the first of them.
-#[tactic(auto, using(crate::proofs::MessageLemmas::extends_both, crate::proofs::MessageLemmas::names_first))]
-pub fn add_first_number(text: &mut Vec<u8>, unit: &str, number: usize) -> Result<(), AllocError>
-    ensures names { OnOk result (Names (unit.now ++ codes "s") text.new.items number) }
-    ensures adds { OnOk result (Extends text.old.items text.new.items) }
-{
-    add(text, unit)?;
-    add(text, "s ")?;
-    write_number(text, number)?;
-    add(text, " ")
-}
-
-/// Adds words, which are in the text then.
-#[tactic(auto, using(crate::proofs::MessageLemmas::says_here))]
-pub fn add_words(text: &mut Vec<u8>, words: &str) -> Result<(), AllocError>
-    ensures says { OnOk result (Says text.new.items words.now) }
-    ensures adds { OnOk result (Extends text.old.items text.new.items) }
-{
-    add(text, words)?;
-    Ok(())
-}
-
-/// Adds words, and the name of a kind and a colon.
-#[tactic(auto, using(crate::proofs::MessageLemmas::extends_both))]
-pub fn add_kind(text: &mut Vec<u8>, words: &str, kind: TrieKind) -> Result<(), AllocError>
-    ensures { OnOk result (Extends text.old.items text.new.items) }
-{
-    add(text, words)?;
-    add(text, kind.name())?;
-    add(text, ": ")
-}
-
-/// Begins a line on a place. The name is escaped as keys are, so that it can't steer a terminal.
-pub fn begin_line(alloc: Global, place: &str) -> Result<Vec<u8>, AllocError>
-    ensures { IfOk result (λ text. text.items ≡ line_front place.now) }
-{
-    let mut text = Vec::new(alloc);
-    add(&mut text, "zerotrie: ")?;
+    let mut text = Vec::from_slice(alloc, b"zerotrie: ")?;
     write_escaped(&mut text, place.as_bytes())?;
-    add(&mut text, ": ")?;
-    Ok(text)
-}
-
-/// Ends a line.
-pub fn end_line(text: &mut Vec<u8>) -> Result<(), AllocError>
-    ensures ends { OnOk result (text.new.items ≡ text.old.items ++ 10 ∷ []) }
-    ensures adds { OnOk result (Extends text.old.items text.new.items) }
-{
+    text.extend_from_slice(b": ")?;
+    text.extend_from_slice(words)?;
     text.push(b'\n')?;
-    Ok(())
-}
-
-/// Returns a line that says these words of a place.
-#[tactic(auto, using(crate::proofs::MessageLemmas::extends_both, crate::proofs::MessageLemmas::line_here, crate::proofs::MessageLemmas::says_on))]
-pub fn line_on(alloc: Global, place: &str, words: &str) -> Result<Vec<u8>, AllocError>
-    ensures line { IfOk result (λ text. IsLineOn place.now text.items) }
-    ensures says { IfOk result (λ text. Says text.items words.now) }
-{
-    let mut text = begin_line(alloc, place)?;
-    add_words(&mut text, words)?;
-    end_line(&mut text)?;
     Ok(text)
 }
 
@@ -154,7 +76,7 @@ pub fn fault_on(alloc: Global, place: &str, error: &io::Error) -> Result<Vec<u8>
     ensures { IfOk result (λ text. IsLineOn place.now text.items) }
 {
     let words = format!(in alloc; "{error}")?;
-    line_on(alloc, place, words.as_str())
+    line_on(alloc, place, words.as_bytes())
 }
 
 /// Returns a line that says that bytes can't be written to a place, and why.
@@ -165,13 +87,13 @@ pub fn unwritten(alloc: Global, place: &str, error: &io::Error) -> Result<Vec<u8
         ErrorKind::NotFound => line_on(
             alloc,
             place,
-            "its folder, or the file that a link leads to, is not there",
+            b"its folder, or the file that a link leads to, is not there",
         ),
         ErrorKind::PermissionDenied => {
             let words = format!(in alloc;
                 "{error}; it has to be writable, and so has its folder, where a new file is made that takes its place"
             )?;
-            line_on(alloc, place, words.as_str())
+            line_on(alloc, place, words.as_bytes())
         }
         _ => fault_on(alloc, place, error),
     }

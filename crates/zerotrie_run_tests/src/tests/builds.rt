@@ -229,7 +229,7 @@ const REFUSED: [Row; 11] = [
         command: Command::Build(INDEXING),
         status: Status::Refused,
         printed: b"",
-        told: b"zerotrie: names.tsv: lines 1 and 3 have the same key: a\n",
+        told: b"zerotrie: names.tsv: lines 1 and 3 have the same key; --duplicates first, sum or another gives it one value: a\n",
         left: ("names.trie", TRIE),
     },
     Row {
@@ -237,7 +237,7 @@ const REFUSED: [Row; 11] = [
         command: Command::Build(BUILD),
         status: Status::Refused,
         printed: b"",
-        told: b"zerotrie: names.tsv: lines 1 and 2 have the same key: a\n",
+        told: b"zerotrie: names.tsv: lines 1 and 2 have the same key; --duplicates first, sum or another gives it one value: a\n",
         left: ("names.trie", TRIE),
     },
     Row {

@@ -7,7 +7,7 @@ use Rattle.std.proofs.KnownBytes.{Appends-trans}
 use Rattle.std.specs.Io.KnownBytes.{Appends}
 use Rattle.zerotrie_run.specs.Messages.{target_name}
 use Rattle.zerotrie_run.specs.Told.{told_left, told_made}
-use Rattle.zerotrie_run.proofs.MessageLemmas.{made_is}
+use Rattle.zerotrie_run.proofs.ToldLemmas.{made_is}
 
 pub returns-in_err-spare-clause-err : goal.returns-in_err-spare-clause-err
 returns-in_err-spare-clause-err g c =
