@@ -1,7 +1,6 @@
 -- What messages on standard error say.
-use Rattle.std.specs.Prelude.{◌≡◌, ◌/◌, ◌%◌, ◌==◌, ◌&&◌, ℕ, List, [], ◌∷◌, ◌++◌, length, map, take, codes, decimal, nat_le, nat_lt, Bool, true, false, Option, Some, None, if◌then◌else◌}
+use Rattle.std.specs.Prelude.{◌≡◌, ◌/◌, ◌%◌, ◌==◌, ◌&&◌, ℕ, List, [], ◌∷◌, ◌++◌, length, map, take, bytes_eq, codes, decimal, nat_le, nat_lt, Bool, true, false, Option, Some, None, if◌then◌else◌}
 use Rattle.std.specs.Char.{to_ascii_lowercase}
-use Rattle.std.specs.Cmp.Lexicographic.{pointwise}
 use Rattle.zerotrie_core.specs.declared.ZeroTrieBuildError.{ZeroTrieBuildError}
 use Rattle.zerotrie_core.specs.declared.ZeroTrieBuildError.TheVariants as cause
 use Rattle.zerotrie_core.specs.declared.faults.Fault.{Fault}
@@ -119,7 +118,7 @@ ascii_words unit a = (unit ++ (codes " " ++ (decimal a.number ++ codes ": its ke
 -- what two keys have in common that a kind refuses, and what to do
 abbrev pub case_hint : List ℕ → List ℕ → List ℕ
 case_hint a b =
-    if pointwise ◌==◌ (map to_ascii_lowercase a) (map to_ascii_lowercase b) then codes "their keys differ only in case, so they are one key to the kind; leave one out"
+    if bytes_eq (map to_ascii_lowercase a) (map to_ascii_lowercase b) then codes "their keys differ only in case, so they are one key to the kind; leave one out"
     else codes "their keys begin alike but for the case of a letter; take --kind simple, or bring keys into lower case by build --lower-case"
 
 -- two keys are refused for their case
@@ -131,7 +130,7 @@ case_words unit a b =
 -- why keys are refused together, with the numbers of their pairs, and the keys that show it
 abbrev pub keys_words : ZeroTrieBuildError → (unit : List ℕ) → NumberedKey → NumberedKey → List ℕ
 keys_words cause.DuplicateKey unit a b = same_words unit a b
-keys_words cause.Unsorted unit a b = if pointwise ◌==◌ a.key.items b.key.items then same_words unit a b else above_words unit a b
+keys_words cause.Unsorted unit a b = if bytes_eq a.key.items b.key.items then same_words unit a b else above_words unit a b
 keys_words cause.NonAsciiError unit a b = ascii_words unit a
 keys_words cause.MixedCase unit a b = case_words unit a b
 keys_words cause.CapacityExceeded unit a b = case_words unit a b
@@ -178,18 +177,17 @@ bad_hint unit number bad.Escape = []
 bad_hint unit number (bad.Value v) = if number == 1 then header_hint unit v.fault else []
 bad_hint unit number bad.Fields = []
 
--- which line or record is no pair, and why
-abbrev pub numbered_words : PairUnit → ℕ → (why hint : List ℕ) → List ℕ
-numbered_words unit number why hint = unit_word unit ++ (codes " " ++ (decimal number ++ (codes ": " ++ (why ++ hint))))
+-- what a field begins with that is no value, in quotes
+abbrev pub field_words : BadLine → List ℕ
+field_words bad.Empty = []
+field_words bad.NoTab = []
+field_words bad.Escape = []
+field_words (bad.Value v) = (codes ": \"" ++ escaped v.front.items) ++ codes "\""
+field_words bad.Fields = []
 
--- with what may help, and what a field begins with that is no value
+-- which line or record is no pair, and why
 abbrev pub bad_words : PairUnit → ℕ → BadLine → (why : List ℕ) → List ℕ
-bad_words unit number bad.Empty why = numbered_words unit number why (bad_hint unit number bad.Empty)
-bad_words unit number bad.NoTab why = numbered_words unit number why (bad_hint unit number bad.NoTab)
-bad_words unit number bad.Escape why = numbered_words unit number why (bad_hint unit number bad.Escape)
-bad_words unit number (bad.Value v) why =
-    (numbered_words unit number why (codes ": \"") ++ escaped v.front.items) ++ (codes "\"" ++ bad_hint unit number (bad.Value v))
-bad_words unit number bad.Fields why = numbered_words unit number why (bad_hint unit number bad.Fields)
+bad_words unit number bad why = ((unit_word unit ++ (codes " " ++ (decimal number ++ (codes ": " ++ why)))) ++ field_words bad) ++ bad_hint unit number bad
 
 -- what may help if a text is no JSON value from here on
 abbrev pub json_hint : (line column : ℕ) → List ℕ

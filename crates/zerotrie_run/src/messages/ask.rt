@@ -175,11 +175,7 @@ pub fn tell_number<M: Write>(
 fn not_text(alloc: Global, place: &str, key: &[u8]) -> Result<Vec<u8>, AllocError>
     ensures { IfOk result (λ text. text.items ≡ not_text_line place.now key.now) }
 {
-    let words = with_key(
-        alloc,
-        "a key is not UTF-8, so take --format jsonl: ",
-        key,
-    )?;
+    let words = with_key(alloc, "a key is not UTF-8, so take --format jsonl: ", key)?;
     line_on(alloc, place, words.as_slice())
 }
 

@@ -1,11 +1,10 @@
 //! What messages say of pairs that make no file.
 
 ghost use Rattle.std.specs.Prelude.{◌≡◌, List, ℕ, IfOk};
-ghost use Rattle.zerotrie_run.specs.Messages.{AreMadeWords, bad_hint, bad_words, case_hint, case_words, index_refused_words, json_hint, json_words, keys_words, no_pair_words, other_words, refused_words, sum_words, unit_of, unit_word};
+ghost use Rattle.zerotrie_run.specs.Messages.{AreMadeWords, above_words, ascii_words, bad_hint, bad_words, case_hint, case_words, field_words, index_refused_words, json_hint, json_words, keys_words, no_pair_words, other_words, refused_words, same_words, sum_words, unit_of, unit_word};
 
 use crate::messages::key::{with_key, with_keys};
 use std::alloc::{AllocError, Global};
-use std::io::Write;
 use zerotrie_core::ZeroTrieBuildError;
 use zerotrie_index::ZeroIndexBuildError;
 use zerotrie_lines::{BadLine, Format, ValueFault, write_escaped};
@@ -74,7 +73,22 @@ fn bad_hint(unit: PairUnit, number: usize, bad: &BadLine) -> &'static str
     }
 }
 
-/// Returns which line is no pair, and why, with the field that is no value, in quotes.
+/// Returns what a field begins with that is no value, in quotes.
+fn field_words(alloc: Global, bad: &BadLine) -> Result<Vec<u8>, AllocError>
+    ensures { IfOk result (λ words. words.items ≡ field_words bad.now) }
+{
+    match bad {
+        BadLine::Value(value) => {
+            let mut words = Vec::from_slice(alloc, b": \"")?;
+            write_escaped(&mut words, value.front.as_slice())?;
+            words.push(b'"')?;
+            Ok(words)
+        }
+        BadLine::Empty | BadLine::NoTab | BadLine::Escape | BadLine::Fields => Ok(Vec::new(alloc)),
+    }
+}
+
+/// Returns which line is no pair, and why.
 fn bad_words(
     alloc: Global,
     unit: PairUnit,
@@ -84,18 +98,11 @@ fn bad_words(
     ensures { IfOk result (λ words. (why : List ℕ)
         × (words.items ≡ bad_words unit number bad.now why)) }
 {
-    let mut words = Vec::new(alloc);
-    let (unit_word, why, hint) = (unit.word(), bad.text(), bad_hint(unit, number, bad));
-    match bad {
-        BadLine::Value(value) => {
-            write!(words, "{unit_word} {number}: {why}: \"").map_err(|_| AllocError)?;
-            write_escaped(&mut words, value.front.as_slice())?;
-            write!(words, "\"{hint}").map_err(|_| AllocError)?;
-        }
-        BadLine::Empty | BadLine::NoTab | BadLine::Escape | BadLine::Fields => {
-            write!(words, "{unit_word} {number}: {why}{hint}").map_err(|_| AllocError)?;
-        }
-    }
+    let (word, why) = (unit.word(), bad.text());
+    let field = field_words(alloc, bad)?;
+    let mut words = format!(in alloc; "{word} {number}: {why}")?.into_bytes();
+    words.extend_from_slice(field.as_slice())?;
+    words.extend_from_slice(bad_hint(unit, number, bad).as_bytes())?;
     Ok(words)
 }
 
@@ -167,7 +174,55 @@ fn case_words(
     let (m, n) = (first.number, second.number);
     let hint = case_hint(first.key.as_slice(), second.key.as_slice());
     let words = format!(in alloc; "{unit}s {m} and {n}: {hint}: ")?;
-    with_keys(alloc, words.as_str(), first.key.as_slice(), second.key.as_slice())
+    with_keys(
+        alloc,
+        words.as_str(),
+        first.key.as_slice(),
+        second.key.as_slice(),
+    )
+}
+
+/// Returns that two pairs have the same key.
+fn same_words(
+    alloc: Global,
+    unit: &str,
+    first: &NumberedKey,
+    second: &NumberedKey,
+) -> Result<Vec<u8>, AllocError>
+    ensures { IfOk result (λ words. words.items ≡ same_words unit.now first.now second.now) }
+{
+    let (m, n) = (first.number, second.number);
+    let words = format!(in alloc;
+        "{unit}s {m} and {n} have the same key; --duplicates first, sum or another gives it one value: "
+    )?;
+    with_key(alloc, words.as_str(), first.key.as_slice())
+}
+
+/// Returns that a second key is not above the first.
+fn above_words(
+    alloc: Global,
+    unit: &str,
+    first: &NumberedKey,
+    second: &NumberedKey,
+) -> Result<Vec<u8>, AllocError>
+    ensures { IfOk result (λ words. words.items ≡ above_words unit.now first.now second.now) }
+{
+    let (m, n) = (first.number, second.number);
+    let words = format!(in alloc;
+        "{unit} {n}: its key is not above that of {unit} {m}; sort the input by the bytes of its keys, or leave out --sorted: "
+    )?;
+    with_key(alloc, words.as_str(), second.key.as_slice())
+}
+
+/// Returns that a key is not ASCII.
+fn ascii_words(alloc: Global, unit: &str, key: &NumberedKey) -> Result<Vec<u8>, AllocError>
+    ensures { IfOk result (λ words. words.items ≡ ascii_words unit.now key.now) }
+{
+    let number = key.number;
+    let words = format!(in alloc;
+        "{unit} {number}: its key is not ASCII; take --kind hash or --kind ext: "
+    )?;
+    with_key(alloc, words.as_str(), key.key.as_slice())
 }
 
 /// Returns why keys are refused together, with the numbers of their pairs, and the keys that show it.
@@ -175,27 +230,17 @@ fn keys_words(alloc: Global, unit: &str, shown: &Shown) -> Result<Vec<u8>, Alloc
     ensures { IfOk result (λ words. words.items
         ≡ keys_words shown.now.error unit.now shown.now.first shown.now.second) }
 {
-    let (m, n) = (shown.first.number, shown.second.number);
-    let (first, second) = (shown.first.key.as_slice(), shown.second.key.as_slice());
+    let (first, second) = (&shown.first, &shown.second);
     match &shown.error {
-        ZeroTrieBuildError::Unsorted if first != second => {
-            let words = format!(in alloc;
-                "{unit} {n}: its key is not above that of {unit} {m}; sort the input by the bytes of its keys, or leave out --sorted: "
-            )?;
-            with_key(alloc, words.as_str(), second)
+        ZeroTrieBuildError::DuplicateKey => same_words(alloc, unit, first, second),
+        ZeroTrieBuildError::Unsorted => {
+            if first.key.as_slice() == second.key.as_slice() {
+                same_words(alloc, unit, first, second)
+            } else {
+                above_words(alloc, unit, first, second)
+            }
         }
-        ZeroTrieBuildError::DuplicateKey | ZeroTrieBuildError::Unsorted => {
-            let words = format!(in alloc;
-                "{unit}s {m} and {n} have the same key; --duplicates first, sum or another gives it one value: "
-            )?;
-            with_key(alloc, words.as_str(), first)
-        }
-        ZeroTrieBuildError::NonAsciiError => {
-            let words = format!(in alloc;
-                "{unit} {m}: its key is not ASCII; take --kind hash or --kind ext: "
-            )?;
-            with_key(alloc, words.as_str(), first)
-        }
+        ZeroTrieBuildError::NonAsciiError => ascii_words(alloc, unit, first),
         ZeroTrieBuildError::MixedCase
         | ZeroTrieBuildError::CapacityExceeded
         | ZeroTrieBuildError::CouldNotSolvePerfectHash
@@ -203,7 +248,7 @@ fn keys_words(alloc: Global, unit: &str, shown: &Shown) -> Result<Vec<u8>, Alloc
         | ZeroTrieBuildError::BufferTooSmall
         | ZeroTrieBuildError::BufferTooLarge(_)
         | ZeroTrieBuildError::StackExceeded
-        | ZeroTrieBuildError::OutOfMemory => case_words(alloc, unit, &shown.first, &shown.second),
+        | ZeroTrieBuildError::OutOfMemory => case_words(alloc, unit, first, second),
     }
 }
 
@@ -259,11 +304,7 @@ fn index_refused_words(error: &ZeroIndexBuildError) -> &'static str
 }
 
 /// Returns why no file is made of pairs.
-pub fn made_words(
-    alloc: Global,
-    unit: PairUnit,
-    error: &MakeError,
-) -> Result<Vec<u8>, AllocError>
+pub fn made_words(alloc: Global, unit: PairUnit, error: &MakeError) -> Result<Vec<u8>, AllocError>
     ensures { IfOk result (λ words. AreMadeWords unit error.now words.items) }
 {
     match error {

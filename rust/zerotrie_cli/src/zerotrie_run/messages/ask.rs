@@ -5,12 +5,11 @@ use crate::rstd::prelude::*;
 use crate::zerotrie_run::ask::AskError;
 use crate::zerotrie_run::command::{Question, TrieFile};
 use crate::zerotrie_run::front::Hint;
-use crate::zerotrie_run::messages::build::other_words;
-use crate::zerotrie_run::messages::key::add_key;
+use crate::zerotrie_run::messages::key::with_key;
 use crate::zerotrie_run::messages::line::{
-    STANDARD_INPUT, STANDARD_OUTPUT, add, add_kind, add_number, add_words, begin_line, end_line,
-    fault_on, line_on, source_name, tell, unwritten,
+    STANDARD_INPUT, STANDARD_OUTPUT, fault_on, line_on, source_name, tell, unwritten,
 };
+use crate::zerotrie_run::messages::pairs::other_words;
 use crate::zerotrie_run::stdin_lines::AnswerError;
 use crate::rstd::alloc::{AllocError, Global};
 use crate::rstd::io::Write;
@@ -28,20 +27,16 @@ fn counted_from(file: TrieFile<'_>) -> &'static str {
     }
 }
 
-/// Returns a line on the first fault in the bytes of a file.
-fn malformed(
+/// Returns the rule and the place of the first fault in the bytes of a file.
+fn fault_words(
     alloc: Global,
     file: TrieFile<'_>,
     kind: TrieKind,
     fault: Fault,
-) -> Result<Vec<u8>, AllocError> {
-    let mut text = begin_line(alloc, source_name(file.place))?;
-    add_kind(&mut text, "no trie of kind ", kind)?;
-    add_words(&mut text, fault.cause.text())?;
-    add(&mut text, ", at ")?;
-    add_number(&mut text, "byte", fault.place, counted_from(file))?;
-    end_line(&mut text)?;
-    Ok(text)
+) -> Result<String, AllocError> {
+    let (kind, why, place) = (kind.name(), fault.cause.text(), fault.place);
+    let from = counted_from(file);
+    Ok::<_, crate::rstd::alloc::AllocError>(format!("no trie of kind {kind}: {why}, at byte {place}{from}"))
 }
 
 /// Returns what is said of a file whose kind is not known: which other file it is, that it looks like text,
@@ -61,7 +56,11 @@ fn tag_words(why: &TagError, hint: Hint) -> &'static str {
 pub fn is_sealed_index(why: SealError) -> bool {
     match why {
         SealError::UnknownKind(number) => is_index_number(number),
-        _ => false,
+        SealError::NoMagic
+        | SealError::UnknownVersion(_)
+        | SealError::CutShort
+        | SealError::TooLong
+        | SealError::Checksum => false,
     }
 }
 
@@ -71,11 +70,11 @@ fn damaged(alloc: Global, place: &str, why: SealError) -> Result<Vec<u8>, AllocE
         return line_on(
             alloc,
             place,
-            "it holds an index, which answers get and verify alone",
+            b"it holds an index, which answers get and verify alone",
         );
     }
     let words = format!("{why}");
-    line_on(alloc, place, words.as_str())
+    line_on(alloc, place, words.as_bytes())
 }
 
 /// Returns a line that says why a file has no trie.
@@ -87,10 +86,13 @@ pub fn no_trie(
 ) -> Result<Vec<u8>, AllocError> {
     let path = source_name(file.place);
     match why {
-        OpenError::BadTag(why) => line_on(alloc, path, tag_words(why, hint)),
+        OpenError::BadTag(why) => line_on(alloc, path, tag_words(why, hint).as_bytes()),
         OpenError::Damaged(why) => damaged(alloc, path, *why),
-        OpenError::NotWellFormed(kind, fault) => malformed(alloc, file, *kind, *fault),
-        OpenError::OutOfMemory => line_on(alloc, path, "out of memory"),
+        OpenError::NotWellFormed(kind, fault) => {
+            let words = fault_words(alloc, file, *kind, *fault)?;
+            line_on(alloc, path, words.as_bytes())
+        }
+        OpenError::OutOfMemory => line_on(alloc, path, b"out of memory"),
     }
 }
 
@@ -112,18 +114,11 @@ fn note_on_number(
     let Some(kind) = number_too(file, held) else {
         return Ok(None);
     };
-    let mut text = begin_line(alloc, source_name(file.place))?;
-    add_kind(
-        &mut text,
-        "read as bare bytes, though its first byte is the number of kind ",
-        kind,
-    )?;
-    add(
-        &mut text,
-        "leave out --bare unless every key begins with that byte",
-    )?;
-    end_line(&mut text)?;
-    Ok(Some(text))
+    let name = kind.name();
+    let words = format!("read as bare bytes, though its first byte is the number of kind {name}: leave out --bare unless every key begins with that byte"
+    );
+    let line = line_on(alloc, source_name(file.place), words.as_bytes())?;
+    Ok(Some(line))
 }
 
 /// Warns if a file that is read as bare bytes begins with the number of a kind. It fails only if it
@@ -145,11 +140,12 @@ pub fn tell_number<M: Write>(
 
 /// Returns a line that says that pairs can't be one JSON value, with the key that shows it.
 fn not_text(alloc: Global, place: &str, key: &[u8]) -> Result<Vec<u8>, AllocError> {
-    let mut text = begin_line(alloc, place)?;
-    add(&mut text, "a key is not UTF-8, so take --format jsonl: ")?;
-    add_key(&mut text, key)?;
-    end_line(&mut text)?;
-    Ok(text)
+    let words = with_key(
+        alloc,
+        "a key is not UTF-8, so take --format jsonl: ",
+        key,
+    )?;
+    line_on(alloc, place, words.as_slice())
 }
 
 /// Returns a line that says why a question has no answer.
@@ -161,7 +157,7 @@ pub fn ask_text(alloc: Global, file: TrieFile<'_>, error: &AskError) -> Result<V
         AskError::NotText(key) => not_text(alloc, path, key.as_slice()),
         AskError::Unanswered(AnswerError::Input(error)) => fault_on(alloc, STANDARD_INPUT, error),
         AskError::Unanswered(AnswerError::NoLines(other)) => {
-            line_on(alloc, STANDARD_INPUT, other_words(*other))
+            line_on(alloc, STANDARD_INPUT, other_words(*other).as_bytes())
         }
         AskError::Unanswered(AnswerError::Output(error)) => unwritten(
             alloc,
@@ -176,7 +172,12 @@ pub fn ask_text(alloc: Global, file: TrieFile<'_>, error: &AskError) -> Result<V
 fn is_index(question: Question<'_>, why: SealError) -> bool {
     match question {
         Question::Verify => is_sealed_index(why),
-        _ => false,
+        Question::LookUp(_, _)
+        | Question::List(_, _)
+        | Question::Distances(_, _)
+        | Question::Code(_, _)
+        | Question::Report(_)
+        | Question::View(_) => false,
     }
 }
 
@@ -191,8 +192,11 @@ pub fn question_text(
         AskError::NoTrie(OpenError::Damaged(why), _) if is_index(question, *why) => line_on(
             alloc,
             source_name(file.place),
-            "the index in it is malformed",
+            b"the index in it is malformed",
         ),
-        _ => ask_text(alloc, file, error),
+        AskError::Unread(_)
+        | AskError::NoTrie(_, _)
+        | AskError::NotText(_)
+        | AskError::Unanswered(_) => ask_text(alloc, file, error),
     }
 }

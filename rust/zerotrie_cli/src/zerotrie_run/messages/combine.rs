@@ -7,15 +7,11 @@ use crate::zerotrie_run::combine::CombineError;
 use crate::zerotrie_run::command::{Check, Combine, Place, Summary, TrieFile};
 use crate::zerotrie_run::messages::ask::no_trie;
 use crate::zerotrie_run::messages::build::{made_text, unbuilt};
-use crate::zerotrie_run::messages::key::add_key;
-use crate::zerotrie_run::messages::line::{
-    add, add_words, begin_line, end_line, fault_on, source_name, target_name, tell,
-};
+use crate::zerotrie_run::messages::key::with_key;
+use crate::zerotrie_run::messages::line::{fault_on, line_on, source_name, target_name};
 use crate::zerotrie_run::messages::pairs::PairUnit;
 use crate::rstd::alloc::{AllocError, Global};
-use crate::rstd::io::Write;
 use crate::zerotrie_core::TrieKind;
-use crate::zerotrie_files::Noted;
 use crate::zerotrie_making::{FileForm, Made};
 use crate::zerotrie_sets::RuleError;
 
@@ -36,7 +32,9 @@ pub fn file_of(place: Place<'_>) -> TrieFile<'_> {
 /// Returns why a key that is taken gets no value.
 fn value_words(why: RuleError) -> &'static str {
     match why {
-        RuleError::SeveralValues => "more than one file has this key: ",
+        RuleError::SeveralValues => {
+            "more than one file has this key; --values first, sum or another takes one: "
+        }
         RuleError::DifferentValues => "files have different values for this key: ",
         RuleError::SumTooLarge => "the sum of the values of this key is 2^64 or more: ",
     }
@@ -44,11 +42,8 @@ fn value_words(why: RuleError) -> &'static str {
 
 /// Returns a line that says that a key gets no value, and why.
 fn no_value(alloc: Global, place: &str, why: RuleError, key: &[u8]) -> Result<Vec<u8>, AllocError> {
-    let mut text = begin_line(alloc, place)?;
-    add_words(&mut text, value_words(why))?;
-    add_key(&mut text, key)?;
-    end_line(&mut text)?;
-    Ok(text)
+    let words = with_key(alloc, value_words(why), key)?;
+    line_on(alloc, place, words.as_slice())
 }
 
 /// Returns a line that says why no file is made of others.
@@ -87,14 +82,10 @@ fn kind_text(
     if !is_told {
         return Ok(Vec::new(alloc));
     }
-    let mut text = begin_line(alloc, place)?;
-    add(
-        &mut text,
-        "the files have tries of several kinds, so it is of kind ",
-    )?;
-    add(&mut text, kind.name())?;
-    end_line(&mut text)?;
-    Ok(text)
+    let name = kind.name();
+    let words = format!("the files have tries of several kinds, so it is of kind {name}"
+    );
+    line_on(alloc, place, words.as_bytes())
 }
 
 /// Returns what is told of a file that was made of others, as its summary says. `several` is whether no

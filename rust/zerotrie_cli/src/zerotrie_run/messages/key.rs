@@ -2,43 +2,49 @@
 //! Keys in messages.
 
 use crate::rstd::prelude::*;
-use crate::zerotrie_run::messages::line::add;
-use crate::rstd::alloc::AllocError;
-use crate::zerotrie_lines::{write_escaped, write_number};
+use crate::rstd::alloc::{AllocError, Global};
+use crate::rstd::io::Write;
+use crate::zerotrie_lines::write_escaped;
 
 /// How many bytes of a key a message shows at most.
 const SHOWN: usize = 100;
 
-/// Returns the bytes of a key that a message shows: its first 100.
-fn front_of(key: &[u8]) -> &[u8] {
-    if key.len() <= SHOWN {
-        return key;
+/// Returns a key with its escapes, the front of a key that is too long to read and its length, or words
+/// for the empty key.
+fn told_key(alloc: Global, key: &[u8]) -> Result<Vec<u8>, AllocError> {
+    let len = key.len();
+    if len == 0 {
+        return Vec::from_slice(alloc, b"the empty key");
+    }
+    let mut text = Vec::new(alloc);
+    if len <= SHOWN {
+        write_escaped(&mut text, key)?;
+        return Ok(text);
     }
     let (front, _) = key.split_at(SHOWN);
-    front
+    write_escaped(&mut text, front)?;
+    write!(text, ".. ({len} bytes)").map_err(|_| AllocError)?;
+    Ok(text)
 }
 
-/// Adds the length of a key of which only the front is shown.
-fn add_len(text: &mut Vec<u8>, len: usize) -> Result<(), AllocError> {
-    add(text, ".. (")?;
-    write_number(text, len)?;
-    add(text, " bytes)")
+/// Returns words, and then a key.
+pub fn with_key(alloc: Global, words: &str, key: &[u8]) -> Result<Vec<u8>, AllocError> {
+    let shown = told_key(alloc, key)?;
+    let mut text = Vec::from_slice(alloc, words.as_bytes())?;
+    text.extend_from_slice(shown.as_slice())?;
+    Ok(text)
 }
 
-/// Adds the front of a key with its escapes.
-pub fn add_front(text: &mut Vec<u8>, key: &[u8]) -> Result<(), AllocError> {
-    write_escaped(text, front_of(key))
-}
-
-/// Adds a key with its escapes, the front of a key that is too long to read, or words for the empty
-/// key.
-pub fn add_key(text: &mut Vec<u8>, key: &[u8]) -> Result<(), AllocError> {
-    add_front(text, key)?;
-    if key.is_empty() {
-        return add(text, "the empty key");
-    }
-    if key.len() <= SHOWN {
-        return Ok(());
-    }
-    add_len(text, key.len())
+/// Returns words, and then two keys.
+pub fn with_keys(
+    alloc: Global,
+    words: &str,
+    first: &[u8],
+    second: &[u8],
+) -> Result<Vec<u8>, AllocError> {
+    let shown = told_key(alloc, second)?;
+    let mut text = with_key(alloc, words, first)?;
+    text.extend_from_slice(b" and ")?;
+    text.extend_from_slice(shown.as_slice())?;
+    Ok(text)
 }

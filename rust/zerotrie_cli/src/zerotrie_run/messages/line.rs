@@ -1,14 +1,13 @@
 // Made from crates/zerotrie_run/src/messages/line.rt by rust/make: edit that.
-//! Lines of messages, and what they name.
+//! Lines of messages, and the places that they name.
 
 use crate::rstd::prelude::*;
 use crate::zerotrie_run::command::{Command, Place};
 use crate::rstd::alloc::{AllocError, Global};
 use crate::rstd::io;
 use crate::rstd::io::{ErrorKind, Write};
-use crate::zerotrie_core::TrieKind;
 use crate::zerotrie_files::Noted;
-use crate::zerotrie_lines::{write_escaped, write_number};
+use crate::zerotrie_lines::write_escaped;
 
 /// The name of standard input.
 pub const STANDARD_INPUT: &str = "standard input";
@@ -47,72 +46,21 @@ pub fn twice_line(command: Command<'_>) -> &'static [u8] {
     }
 }
 
-/// Adds words.
-pub fn add(text: &mut Vec<u8>, words: &str) -> Result<(), AllocError> {
-    text.extend_from_slice(words.as_bytes())
-}
-
-/// Adds a number after its unit and a space, and then words.
-pub fn add_number(
-    text: &mut Vec<u8>,
-    unit: &str,
-    number: usize,
-    after: &str,
-) -> Result<(), AllocError> {
-    add(text, unit)?;
-    add(text, " ")?;
-    write_number(text, number)?;
-    add(text, after)
-}
-
-/// Adds the unit of two numbers, and the first of them.
-pub fn add_first_number(text: &mut Vec<u8>, unit: &str, number: usize) -> Result<(), AllocError> {
-    add(text, unit)?;
-    add(text, "s ")?;
-    write_number(text, number)?;
-    add(text, " ")
-}
-
-/// Adds words, which are in the text then.
-pub fn add_words(text: &mut Vec<u8>, words: &str) -> Result<(), AllocError> {
-    add(text, words)?;
-    Ok(())
-}
-
-/// Adds words, and the name of a kind and a colon.
-pub fn add_kind(text: &mut Vec<u8>, words: &str, kind: TrieKind) -> Result<(), AllocError> {
-    add(text, words)?;
-    add(text, kind.name())?;
-    add(text, ": ")
-}
-
-/// Begins a line on a place. The name is escaped as keys are, so that it can't steer a terminal.
-pub fn begin_line(alloc: Global, place: &str) -> Result<Vec<u8>, AllocError> {
-    let mut text = Vec::new(alloc);
-    add(&mut text, "zerotrie: ")?;
+/// Returns the line on a place that has these words. The name is escaped as keys are, so that it can't
+/// steer a terminal.
+pub fn line_on(alloc: Global, place: &str, words: &[u8]) -> Result<Vec<u8>, AllocError> {
+    let mut text = Vec::from_slice(alloc, b"zerotrie: ")?;
     write_escaped(&mut text, place.as_bytes())?;
-    add(&mut text, ": ")?;
-    Ok(text)
-}
-
-/// Ends a line.
-pub fn end_line(text: &mut Vec<u8>) -> Result<(), AllocError> {
+    text.extend_from_slice(b": ")?;
+    text.extend_from_slice(words)?;
     text.push(b'\n')?;
-    Ok(())
-}
-
-/// Returns a line that says these words of a place.
-pub fn line_on(alloc: Global, place: &str, words: &str) -> Result<Vec<u8>, AllocError> {
-    let mut text = begin_line(alloc, place)?;
-    add_words(&mut text, words)?;
-    end_line(&mut text)?;
     Ok(text)
 }
 
 /// Returns a line on a fault at a place.
 pub fn fault_on(alloc: Global, place: &str, error: &io::Error) -> Result<Vec<u8>, AllocError> {
     let words = format!("{error}");
-    line_on(alloc, place, words.as_str())
+    line_on(alloc, place, words.as_bytes())
 }
 
 /// Returns a line that says that bytes can't be written to a place, and why.
@@ -121,12 +69,12 @@ pub fn unwritten(alloc: Global, place: &str, error: &io::Error) -> Result<Vec<u8
         ErrorKind::NotFound => line_on(
             alloc,
             place,
-            "its folder, or the file that a link leads to, is not there",
+            b"its folder, or the file that a link leads to, is not there",
         ),
         ErrorKind::PermissionDenied => {
             let words = format!("{error}; it has to be writable, and so has its folder, where a new file is made that takes its place"
             );
-            line_on(alloc, place, words.as_str())
+            line_on(alloc, place, words.as_bytes())
         }
         _ => fault_on(alloc, place, error),
     }

@@ -2,12 +2,13 @@
 //! What messages say of pairs that make no file.
 
 use crate::rstd::prelude::*;
-use crate::zerotrie_run::messages::key::{add_front, add_key};
-use crate::zerotrie_run::messages::line::{add, add_first_number, add_number};
-use crate::rstd::alloc::AllocError;
+use crate::zerotrie_run::messages::key::{with_key, with_keys};
+use crate::rstd::alloc::{AllocError, Global};
+use crate::rstd::io::Write;
 use crate::zerotrie_core::ZeroTrieBuildError;
-use crate::zerotrie_lines::{BadLine, Format, ValueFault};
-use crate::zerotrie_making::{NoPair, NumberedKey, Shown, Source};
+use crate::zerotrie_index::ZeroIndexBuildError;
+use crate::zerotrie_lines::{BadLine, Format, ValueFault, write_escaped};
+use crate::zerotrie_making::{MakeError, NoPair, NumberedKey, OtherFile, Shown, Source};
 
 /// What holds one pair.
 #[derive(Clone, Copy, PartialEq, Eq, Debug)]
@@ -32,7 +33,7 @@ impl PairUnit {
     }
 
     /// Returns the word before its number in messages.
-    pub fn word(self) -> &'static str {
+    fn word(self) -> &'static str {
         match self {
             PairUnit::Line => "line",
             PairUnit::Record => "record",
@@ -41,183 +42,203 @@ impl PairUnit {
     }
 }
 
-/// Returns whether the keys that show why are the same.
-fn are_same(shown: &Shown) -> bool {
-    shown.first.key.as_slice() == shown.second.key.as_slice()
-}
-
-/// Returns whether they are the same but for the case of letters.
-fn are_same_without_case(shown: &Shown) -> bool {
-    let key = shown.first.key.as_slice();
-    key.eq_ignore_ascii_case(shown.second.key.as_slice())
-}
-
-/// Adds the numbers of two pairs, and what is said of them.
-fn add_both(text: &mut Vec<u8>, unit: &str, shown: &Shown, words: &str) -> Result<(), AllocError> {
-    add_first_number(text, unit, shown.first.number)?;
-    add_number(text, "and", shown.second.number, words)
-}
-
-/// Adds why keys are refused together, and the numbers of their pairs.
-fn add_reason(text: &mut Vec<u8>, unit: &str, shown: &Shown) -> Result<(), AllocError> {
-    match &shown.error {
-        ZeroTrieBuildError::DuplicateKey | ZeroTrieBuildError::Unsorted if are_same(shown) => {
-            add_both(text, unit, shown, " have the same key: ")
+/// Returns what is said of an input that is another file, and what to do.
+pub fn other_words(other: OtherFile) -> &'static str {
+    match other {
+        OtherFile::Utf16 => "it looks like UTF-16: make it UTF-8 by iconv -f UTF-16 -t UTF-8",
+        OtherFile::Gzip => "it looks like a file of gzip: gunzip it first",
+        OtherFile::Sealed => {
+            "it is a trie or an index that zerotrie made: list prints the pairs of a trie"
         }
-        ZeroTrieBuildError::Unsorted => {
-            add_number(
-                text,
-                unit,
-                shown.second.number,
-                ": its key is not above that of ",
-            )?;
-            add_number(
-                text,
-                unit,
-                shown.first.number,
-                "; sort the input by the bytes of its keys, or leave out --sorted: ",
-            )
-        }
-        ZeroTrieBuildError::NonAsciiError => add_number(
-            text,
-            unit,
-            shown.first.number,
-            ": its key is not ASCII; take --kind hash or --kind ext: ",
-        ),
-        _ if are_same_without_case(shown) => add_both(
-            text,
-            unit,
-            shown,
-            ": their keys differ only in case, so they are one key to the kind; leave one out: ",
-        ),
-        _ => add_both(
-            text,
-            unit,
-            shown,
-            ": their keys begin alike but for the case of a letter; take --kind simple, or bring keys into lower case by build --lower-case: ",
-        ),
-    }
-}
-
-/// Adds a second key.
-fn add_next_key(text: &mut Vec<u8>, key: &[u8]) -> Result<(), AllocError> {
-    add(text, " and ")?;
-    add_key(text, key)
-}
-
-/// Adds two keys.
-fn add_two_keys(text: &mut Vec<u8>, first: &[u8], second: &[u8]) -> Result<(), AllocError> {
-    add_key(text, first)?;
-    add_next_key(text, second)
-}
-
-/// Adds the keys that show it.
-fn add_keys(text: &mut Vec<u8>, shown: &Shown) -> Result<(), AllocError> {
-    let first = shown.first.key.as_slice();
-    let second = shown.second.key.as_slice();
-    match &shown.error {
-        ZeroTrieBuildError::DuplicateKey | ZeroTrieBuildError::NonAsciiError => {
-            add_key(text, first)
-        }
-        ZeroTrieBuildError::Unsorted => add_key(text, second),
-        _ => add_two_keys(text, first, second),
     }
 }
 
 /// Returns what may help if this line or record is no pair.
-fn hint(unit: PairUnit, number: usize, bad: &BadLine) -> &'static str {
-    match (unit, bad) {
-        (_, BadLine::NoTab) => "; if the input has another form, name it by --format",
-        (PairUnit::Line | PairUnit::Record, BadLine::Value(value))
-            if number == 1 && value.fault == ValueFault::Other => {
+fn bad_hint(unit: PairUnit, number: usize, bad: &BadLine) -> &'static str {
+    match bad {
+        BadLine::NoTab => "; if the input has another form, name it by --format",
+        BadLine::Value(value)
+            if number == 1 && unit != PairUnit::Pair && value.fault == ValueFault::Other => {
             "; if it is a header, say so by --header"
         }
-        _ => "",
+        BadLine::Empty | BadLine::Escape | BadLine::Value(_) | BadLine::Fields => "",
     }
 }
 
-/// Adds bytes with their escapes, in quotes.
-fn add_quoted(text: &mut Vec<u8>, bytes: &[u8]) -> Result<(), AllocError> {
-    add(text, ": \"")?;
-    add_front(text, bytes)?;
-    add(text, "\"")
-}
-
-/// Adds the field that is no value, in quotes, if it is one that is bad.
-fn add_field(text: &mut Vec<u8>, bad: &BadLine) -> Result<(), AllocError> {
-    match bad {
-        BadLine::Value(value) => add_quoted(text, value.front.as_slice()),
-        _ => Ok(()),
-    }
-}
-
-/// Adds where text is no JSON value.
-pub fn add_not_json(text: &mut Vec<u8>, line: usize, column: usize) -> Result<(), AllocError> {
-    let hint = if line > 1 && column == 1 {
-        "; if each line is a value, name the format by --format jsonl"
-    } else {
-        ""
-    };
-    add_number(text, "line", line, ", ")?;
-    add_number(text, "column", column, ": no JSON value")?;
-    add(text, hint)
-}
-
-/// Adds which member or item of a JSON value, or which line, is no pair.
-pub fn add_no_pair(text: &mut Vec<u8>, bad: &NoPair) -> Result<(), AllocError> {
-    match bad {
-        NoPair::Member(key) => {
-            add(
-                text,
-                "the value of this key is not written as a whole number below 2^64: ",
-            )?;
-            add_key(text, key.as_slice())
-        }
-        NoPair::Item(number) => add_number(
-            text,
-            "pair",
-            *number,
-            ": no list of a key and of a value that is written as a whole number below 2^64",
-        ),
-        NoPair::Line(number) => add_number(
-            text,
-            "line",
-            *number,
-            ": no JSON list [key, value], and no object {\"key\": key, \"value\": value}, whose value is written as a whole number below 2^64",
-        ),
-    }
-}
-
-/// Adds which line is no pair, and why.
-pub fn add_bad_line(
-    text: &mut Vec<u8>,
+/// Returns which line is no pair, and why, with the field that is no value, in quotes.
+fn bad_words(
+    alloc: Global,
     unit: PairUnit,
     number: usize,
     bad: &BadLine,
-) -> Result<(), AllocError> {
-    add_number(text, unit.word(), number, ": ")?;
-    add(text, bad.text())?;
-    add_field(text, bad)?;
-    add(text, hint(unit, number, bad))
+) -> Result<Vec<u8>, AllocError> {
+    let mut words = Vec::new(alloc);
+    let (unit_word, why, hint) = (unit.word(), bad.text(), bad_hint(unit, number, bad));
+    match bad {
+        BadLine::Value(value) => {
+            write!(words, "{unit_word} {number}: {why}: \"").map_err(|_| AllocError)?;
+            write_escaped(&mut words, value.front.as_slice())?;
+            write!(words, "\"{hint}").map_err(|_| AllocError)?;
+        }
+        BadLine::Empty | BadLine::NoTab | BadLine::Escape | BadLine::Fields => {
+            write!(words, "{unit_word} {number}: {why}{hint}").map_err(|_| AllocError)?;
+        }
+    }
+    Ok(words)
 }
 
-/// Adds at which pair the sum of the values of its key gets too large, and the key.
-pub fn add_large_sum(
-    text: &mut Vec<u8>,
+/// Returns what may help if a text is no JSON value from here on.
+fn json_hint(line: usize, column: usize) -> &'static str {
+    if line > 1 && column == 1 {
+        "; if each line is a value, name the format by --format jsonl"
+    } else {
+        ""
+    }
+}
+
+/// Returns where a text is no JSON value.
+fn json_words(alloc: Global, line: usize, column: usize) -> Result<Vec<u8>, AllocError> {
+    let hint = json_hint(line, column);
+    let words = format!("line {line}, column {column}: no JSON value{hint}");
+    Ok(words.into_bytes())
+}
+
+/// Returns which member or item of a JSON value, or which line, is no pair.
+fn no_pair_words(alloc: Global, bad: &NoPair) -> Result<Vec<u8>, AllocError> {
+    match bad {
+        NoPair::Member(key) => with_key(
+            alloc,
+            "the value of this key is not written as a whole number below 2^64: ",
+            key.as_slice(),
+        ),
+        NoPair::Item(number) => {
+            let words = format!("pair {number}: no list of a key and of a value that is written as a whole number below 2^64"
+            );
+            Ok(words.into_bytes())
+        }
+        NoPair::Line(number) => {
+            let words = format!("line {number}: no JSON list [key, value], and no object {{\"key\": key, \"value\": value}}, whose value is written as a whole number below 2^64"
+            );
+            Ok(words.into_bytes())
+        }
+    }
+}
+
+/// Returns what two keys have in common that a kind refuses, and what to do.
+fn case_hint(first: &[u8], second: &[u8]) -> &'static str {
+    if first.eq_ignore_ascii_case(second) {
+        "their keys differ only in case, so they are one key to the kind; leave one out"
+    } else {
+        "their keys begin alike but for the case of a letter; take --kind simple, or bring keys into lower case by build --lower-case"
+    }
+}
+
+/// Returns that two keys are refused for their case.
+fn case_words(
+    alloc: Global,
+    unit: &str,
+    first: &NumberedKey,
+    second: &NumberedKey,
+) -> Result<Vec<u8>, AllocError> {
+    let (m, n) = (first.number, second.number);
+    let hint = case_hint(first.key.as_slice(), second.key.as_slice());
+    let words = format!("{unit}s {m} and {n}: {hint}: ");
+    with_keys(alloc, words.as_str(), first.key.as_slice(), second.key.as_slice())
+}
+
+/// Returns why keys are refused together, with the numbers of their pairs, and the keys that show it.
+fn keys_words(alloc: Global, unit: &str, shown: &Shown) -> Result<Vec<u8>, AllocError> {
+    let (m, n) = (shown.first.number, shown.second.number);
+    let (first, second) = (shown.first.key.as_slice(), shown.second.key.as_slice());
+    match &shown.error {
+        ZeroTrieBuildError::Unsorted if first != second => {
+            let words = format!("{unit} {n}: its key is not above that of {unit} {m}; sort the input by the bytes of its keys, or leave out --sorted: "
+            );
+            with_key(alloc, words.as_str(), second)
+        }
+        ZeroTrieBuildError::DuplicateKey | ZeroTrieBuildError::Unsorted => {
+            let words = format!("{unit}s {m} and {n} have the same key; --duplicates first, sum or another gives it one value: "
+            );
+            with_key(alloc, words.as_str(), first)
+        }
+        ZeroTrieBuildError::NonAsciiError => {
+            let words = format!("{unit} {m}: its key is not ASCII; take --kind hash or --kind ext: "
+            );
+            with_key(alloc, words.as_str(), first)
+        }
+        ZeroTrieBuildError::MixedCase
+        | ZeroTrieBuildError::CapacityExceeded
+        | ZeroTrieBuildError::CouldNotSolvePerfectHash
+        | ZeroTrieBuildError::IllegalDelimiter
+        | ZeroTrieBuildError::BufferTooSmall
+        | ZeroTrieBuildError::BufferTooLarge(_)
+        | ZeroTrieBuildError::StackExceeded
+        | ZeroTrieBuildError::OutOfMemory => case_words(alloc, unit, &shown.first, &shown.second),
+    }
+}
+
+/// Returns at which pair the sum of the values of its key gets too large, and the key.
+fn sum_words(alloc: Global, unit: &str, key: &NumberedKey) -> Result<Vec<u8>, AllocError> {
+    let number = key.number;
+    let words = format!("{unit} {number}: the sum of the values of its key is 2^64 or more: "
+    );
+    with_key(alloc, words.as_str(), key.key.as_slice())
+}
+
+/// Returns why the build of a trie fails though no key is at fault.
+fn refused_words(error: &ZeroTrieBuildError) -> &'static str {
+    match error {
+        ZeroTrieBuildError::CapacityExceeded => {
+            "the trie would be too long for its kind: take --kind ext, or fewer pairs"
+        }
+        ZeroTrieBuildError::CouldNotSolvePerfectHash => {
+            "no hashed table was found for the bytes that keys go on with at some place, as happens if these are random: take --index for get and verify alone, --kind simple if all keys are ASCII, or other keys, as their hexadecimal digits"
+        }
+        ZeroTrieBuildError::NonAsciiError
+        | ZeroTrieBuildError::MixedCase
+        | ZeroTrieBuildError::IllegalDelimiter
+        | ZeroTrieBuildError::DuplicateKey
+        | ZeroTrieBuildError::Unsorted
+        | ZeroTrieBuildError::BufferTooSmall
+        | ZeroTrieBuildError::BufferTooLarge(_)
+        | ZeroTrieBuildError::StackExceeded
+        | ZeroTrieBuildError::OutOfMemory => "the build of the pairs is refused",
+    }
+}
+
+/// Returns why the build of an index fails though no key is at fault.
+fn index_refused_words(error: &ZeroIndexBuildError) -> &'static str {
+    match error {
+        ZeroIndexBuildError::CapacityExceeded => {
+            "the pairs of the index would have 4 GiB or more: leave out --index, or take fewer pairs"
+        }
+        ZeroIndexBuildError::Crowded => {
+            "more than 16 keys share a bucket of the index, whichever of 8 seeds is taken, as happens if they are chosen for that: leave out --index, or take other keys"
+        }
+        ZeroIndexBuildError::Unsorted
+        | ZeroIndexBuildError::DuplicateKey
+        | ZeroIndexBuildError::OutOfMemory => "the build of the pairs is refused",
+    }
+}
+
+/// Returns why no file is made of pairs.
+pub fn made_words(
+    alloc: Global,
     unit: PairUnit,
-    key: &NumberedKey,
-) -> Result<(), AllocError> {
-    add_number(
-        text,
-        unit.word(),
-        key.number,
-        ": the sum of the values of its key is 2^64 or more: ",
-    )?;
-    add_key(text, key.key.as_slice())
-}
-
-/// Adds the keys that show a refusal, and the numbers of their pairs.
-pub fn add_shown(text: &mut Vec<u8>, unit: &str, shown: &Shown) -> Result<(), AllocError> {
-    add_reason(text, unit, shown)?;
-    add_keys(text, shown)
+    error: &MakeError,
+) -> Result<Vec<u8>, AllocError> {
+    match error {
+        MakeError::NotText(other) => Vec::from_slice(alloc, other_words(*other).as_bytes()),
+        MakeError::Line(number, bad) => bad_words(alloc, unit, *number, bad),
+        MakeError::NotJson(line, column) => json_words(alloc, *line, *column),
+        MakeError::NotPairs => Vec::from_slice(alloc, b"neither an object nor a list"),
+        MakeError::NotPair(bad) => no_pair_words(alloc, bad),
+        MakeError::Keys(shown) => keys_words(alloc, unit.word(), shown),
+        MakeError::SumTooLarge(key) => sum_words(alloc, unit.word(), key),
+        MakeError::Refused(error) => Vec::from_slice(alloc, refused_words(error).as_bytes()),
+        MakeError::IndexRefused(error) => {
+            Vec::from_slice(alloc, index_refused_words(error).as_bytes())
+        }
+        MakeError::OutOfMemory => Vec::from_slice(alloc, b"out of memory"),
+    }
 }
