@@ -140,11 +140,7 @@ pub fn tell_number<M: Write>(
 
 /// Returns a line that says that pairs can't be one JSON value, with the key that shows it.
 fn not_text(alloc: Global, place: &str, key: &[u8]) -> Result<Vec<u8>, AllocError> {
-    let words = with_key(
-        alloc,
-        "a key is not UTF-8, so take --format jsonl: ",
-        key,
-    )?;
+    let words = with_key(alloc, "a key is not UTF-8, so take --format jsonl: ", key)?;
     line_on(alloc, place, words.as_slice())
 }
 

@@ -4,7 +4,6 @@
 use crate::rstd::prelude::*;
 use crate::zerotrie_run::messages::key::{with_key, with_keys};
 use crate::rstd::alloc::{AllocError, Global};
-use crate::rstd::io::Write;
 use crate::zerotrie_core::ZeroTrieBuildError;
 use crate::zerotrie_index::ZeroIndexBuildError;
 use crate::zerotrie_lines::{BadLine, Format, ValueFault, write_escaped};
@@ -65,25 +64,31 @@ fn bad_hint(unit: PairUnit, number: usize, bad: &BadLine) -> &'static str {
     }
 }
 
-/// Returns which line is no pair, and why, with the field that is no value, in quotes.
+/// Returns what a field begins with that is no value, in quotes.
+fn field_words(alloc: Global, bad: &BadLine) -> Result<Vec<u8>, AllocError> {
+    match bad {
+        BadLine::Value(value) => {
+            let mut words = Vec::from_slice(alloc, b": \"")?;
+            write_escaped(&mut words, value.front.as_slice())?;
+            words.push(b'"')?;
+            Ok(words)
+        }
+        BadLine::Empty | BadLine::NoTab | BadLine::Escape | BadLine::Fields => Ok(Vec::new(alloc)),
+    }
+}
+
+/// Returns which line is no pair, and why.
 fn bad_words(
     alloc: Global,
     unit: PairUnit,
     number: usize,
     bad: &BadLine,
 ) -> Result<Vec<u8>, AllocError> {
-    let mut words = Vec::new(alloc);
-    let (unit_word, why, hint) = (unit.word(), bad.text(), bad_hint(unit, number, bad));
-    match bad {
-        BadLine::Value(value) => {
-            write!(words, "{unit_word} {number}: {why}: \"").map_err(|_| AllocError)?;
-            write_escaped(&mut words, value.front.as_slice())?;
-            write!(words, "\"{hint}").map_err(|_| AllocError)?;
-        }
-        BadLine::Empty | BadLine::NoTab | BadLine::Escape | BadLine::Fields => {
-            write!(words, "{unit_word} {number}: {why}{hint}").map_err(|_| AllocError)?;
-        }
-    }
+    let (word, why) = (unit.word(), bad.text());
+    let field = field_words(alloc, bad)?;
+    let mut words = format!("{word} {number}: {why}").into_bytes();
+    words.extend_from_slice(field.as_slice())?;
+    words.extend_from_slice(bad_hint(unit, number, bad).as_bytes())?;
     Ok(words)
 }
 
@@ -143,29 +148,61 @@ fn case_words(
     let (m, n) = (first.number, second.number);
     let hint = case_hint(first.key.as_slice(), second.key.as_slice());
     let words = format!("{unit}s {m} and {n}: {hint}: ");
-    with_keys(alloc, words.as_str(), first.key.as_slice(), second.key.as_slice())
+    with_keys(
+        alloc,
+        words.as_str(),
+        first.key.as_slice(),
+        second.key.as_slice(),
+    )
+}
+
+/// Returns that two pairs have the same key.
+fn same_words(
+    alloc: Global,
+    unit: &str,
+    first: &NumberedKey,
+    second: &NumberedKey,
+) -> Result<Vec<u8>, AllocError> {
+    let (m, n) = (first.number, second.number);
+    let words = format!("{unit}s {m} and {n} have the same key; --duplicates first, sum or another gives it one value: "
+    );
+    with_key(alloc, words.as_str(), first.key.as_slice())
+}
+
+/// Returns that a second key is not above the first.
+fn above_words(
+    alloc: Global,
+    unit: &str,
+    first: &NumberedKey,
+    second: &NumberedKey,
+) -> Result<Vec<u8>, AllocError> {
+    let (m, n) = (first.number, second.number);
+    let words = format!("{unit} {n}: its key is not above that of {unit} {m}; sort the input by the bytes of its keys, or leave out --sorted: "
+    );
+    with_key(alloc, words.as_str(), second.key.as_slice())
+}
+
+/// Returns that a key is not ASCII.
+fn ascii_words(alloc: Global, unit: &str, key: &NumberedKey) -> Result<Vec<u8>, AllocError> {
+    let number = key.number;
+    let words = format!("{unit} {number}: its key is not ASCII; take --kind hash or --kind ext: "
+    );
+    with_key(alloc, words.as_str(), key.key.as_slice())
 }
 
 /// Returns why keys are refused together, with the numbers of their pairs, and the keys that show it.
 fn keys_words(alloc: Global, unit: &str, shown: &Shown) -> Result<Vec<u8>, AllocError> {
-    let (m, n) = (shown.first.number, shown.second.number);
-    let (first, second) = (shown.first.key.as_slice(), shown.second.key.as_slice());
+    let (first, second) = (&shown.first, &shown.second);
     match &shown.error {
-        ZeroTrieBuildError::Unsorted if first != second => {
-            let words = format!("{unit} {n}: its key is not above that of {unit} {m}; sort the input by the bytes of its keys, or leave out --sorted: "
-            );
-            with_key(alloc, words.as_str(), second)
+        ZeroTrieBuildError::DuplicateKey => same_words(alloc, unit, first, second),
+        ZeroTrieBuildError::Unsorted => {
+            if first.key.as_slice() == second.key.as_slice() {
+                same_words(alloc, unit, first, second)
+            } else {
+                above_words(alloc, unit, first, second)
+            }
         }
-        ZeroTrieBuildError::DuplicateKey | ZeroTrieBuildError::Unsorted => {
-            let words = format!("{unit}s {m} and {n} have the same key; --duplicates first, sum or another gives it one value: "
-            );
-            with_key(alloc, words.as_str(), first)
-        }
-        ZeroTrieBuildError::NonAsciiError => {
-            let words = format!("{unit} {m}: its key is not ASCII; take --kind hash or --kind ext: "
-            );
-            with_key(alloc, words.as_str(), first)
-        }
+        ZeroTrieBuildError::NonAsciiError => ascii_words(alloc, unit, first),
         ZeroTrieBuildError::MixedCase
         | ZeroTrieBuildError::CapacityExceeded
         | ZeroTrieBuildError::CouldNotSolvePerfectHash
@@ -173,7 +210,7 @@ fn keys_words(alloc: Global, unit: &str, shown: &Shown) -> Result<Vec<u8>, Alloc
         | ZeroTrieBuildError::BufferTooSmall
         | ZeroTrieBuildError::BufferTooLarge(_)
         | ZeroTrieBuildError::StackExceeded
-        | ZeroTrieBuildError::OutOfMemory => case_words(alloc, unit, &shown.first, &shown.second),
+        | ZeroTrieBuildError::OutOfMemory => case_words(alloc, unit, first, second),
     }
 }
 
@@ -222,11 +259,7 @@ fn index_refused_words(error: &ZeroIndexBuildError) -> &'static str {
 }
 
 /// Returns why no file is made of pairs.
-pub fn made_words(
-    alloc: Global,
-    unit: PairUnit,
-    error: &MakeError,
-) -> Result<Vec<u8>, AllocError> {
+pub fn made_words(alloc: Global, unit: PairUnit, error: &MakeError) -> Result<Vec<u8>, AllocError> {
     match error {
         MakeError::NotText(other) => Vec::from_slice(alloc, other_words(*other).as_bytes()),
         MakeError::Line(number, bad) => bad_words(alloc, unit, *number, bad),
