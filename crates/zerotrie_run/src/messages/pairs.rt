@@ -100,7 +100,8 @@ fn bad_words(
 {
     let (word, why) = (unit.word(), bad.text());
     let field = field_words(alloc, bad)?;
-    let mut words = format!(in alloc; "{word} {number}: {why}")?.into_bytes();
+    let text = format!(in alloc; "{word} {number}: {why}")?;
+    let mut words = Vec::from_slice(alloc, text.as_bytes())?;
     words.extend_from_slice(field.as_slice())?;
     words.extend_from_slice(bad_hint(unit, number, bad).as_bytes())?;
     Ok(words)
@@ -123,7 +124,7 @@ fn json_words(alloc: Global, line: usize, column: usize) -> Result<Vec<u8>, Allo
 {
     let hint = json_hint(line, column);
     let words = format!(in alloc; "line {line}, column {column}: no JSON value{hint}")?;
-    Ok(words.into_bytes())
+    Vec::from_slice(alloc, words.as_bytes())
 }
 
 /// Returns which member or item of a JSON value, or which line, is no pair.
@@ -140,13 +141,13 @@ fn no_pair_words(alloc: Global, bad: &NoPair) -> Result<Vec<u8>, AllocError>
             let words = format!(in alloc;
                 "pair {number}: no list of a key and of a value that is written as a whole number below 2^64"
             )?;
-            Ok(words.into_bytes())
+            Vec::from_slice(alloc, words.as_bytes())
         }
         NoPair::Line(number) => {
             let words = format!(in alloc;
                 "line {number}: no JSON list [key, value], and no object {{\"key\": key, \"value\": value}}, whose value is written as a whole number below 2^64"
             )?;
-            Ok(words.into_bytes())
+            Vec::from_slice(alloc, words.as_bytes())
         }
     }
 }

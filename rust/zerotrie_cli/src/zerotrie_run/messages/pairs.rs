@@ -86,7 +86,8 @@ fn bad_words(
 ) -> Result<Vec<u8>, AllocError> {
     let (word, why) = (unit.word(), bad.text());
     let field = field_words(alloc, bad)?;
-    let mut words = format!("{word} {number}: {why}").into_bytes();
+    let text = format!("{word} {number}: {why}");
+    let mut words = Vec::from_slice(alloc, text.as_bytes())?;
     words.extend_from_slice(field.as_slice())?;
     words.extend_from_slice(bad_hint(unit, number, bad).as_bytes())?;
     Ok(words)
@@ -105,7 +106,7 @@ fn json_hint(line: usize, column: usize) -> &'static str {
 fn json_words(alloc: Global, line: usize, column: usize) -> Result<Vec<u8>, AllocError> {
     let hint = json_hint(line, column);
     let words = format!("line {line}, column {column}: no JSON value{hint}");
-    Ok(words.into_bytes())
+    Vec::from_slice(alloc, words.as_bytes())
 }
 
 /// Returns which member or item of a JSON value, or which line, is no pair.
@@ -119,12 +120,12 @@ fn no_pair_words(alloc: Global, bad: &NoPair) -> Result<Vec<u8>, AllocError> {
         NoPair::Item(number) => {
             let words = format!("pair {number}: no list of a key and of a value that is written as a whole number below 2^64"
             );
-            Ok(words.into_bytes())
+            Vec::from_slice(alloc, words.as_bytes())
         }
         NoPair::Line(number) => {
             let words = format!("line {number}: no JSON list [key, value], and no object {{\"key\": key, \"value\": value}}, whose value is written as a whole number below 2^64"
             );
-            Ok(words.into_bytes())
+            Vec::from_slice(alloc, words.as_bytes())
         }
     }
 }
