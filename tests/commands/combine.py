@@ -9,7 +9,7 @@ from .index import holds_index
 
 RULES = {'first': lambda values: values[0], 'last': lambda values: values[-1], 'sum': sum, 'min': min, 'max': max,
          'refuse': lambda values: values[0], 'equal': lambda values: values[0]}
-SEVERAL = b'more than one file has this key; --values first, sum or another takes one: '
+SEVERAL = b'more than one file has this key; --values first, sum or another gives it one value: '
 # each command that combines files, with each rule for values: one is left out
 COMBINATIONS = [*((command, rule) for command in ['union', 'intersect'] for rule in [None, *RULES]), ('minus', None)]
 

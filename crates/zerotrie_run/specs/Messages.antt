@@ -322,7 +322,7 @@ TellsBuild from to unit (build.Unfound e) text = IsLineOn to text
 
 -- why a key that is taken gets no value
 abbrev pub value_words : RuleError → List ℕ
-value_words SeveralValues = codes "more than one file has this key; --values first, sum or another takes one: "
+value_words SeveralValues = codes "more than one file has this key; --values first, sum or another gives it one value: "
 value_words DifferentValues = codes "files have different values for this key: "
 value_words SumTooLarge = codes "the sum of the values of this key is 2^64 or more: "
 

@@ -44,7 +44,7 @@ fn value_words(why: RuleError) -> &'static str
 {
     match why {
         RuleError::SeveralValues => {
-            "more than one file has this key; --values first, sum or another takes one: "
+            "more than one file has this key; --values first, sum or another gives it one value: "
         }
         RuleError::DifferentValues => "files have different values for this key: ",
         RuleError::SumTooLarge => "the sum of the values of this key is 2^64 or more: ",

@@ -281,7 +281,7 @@ const UNCOMBINED: [Row; 8] = [
         }),
         status: Status::Refused,
         printed: b"",
-        told: b"zerotrie: names.trie: more than one file has this key; --values first, sum or another takes one: a\n",
+        told: b"zerotrie: names.trie: more than one file has this key; --values first, sum or another gives it one value: a\n",
         left: ("one", b"\x00a\x85"),
     },
     Row {

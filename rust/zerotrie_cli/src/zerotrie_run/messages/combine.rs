@@ -33,7 +33,7 @@ pub fn file_of(place: Place<'_>) -> TrieFile<'_> {
 fn value_words(why: RuleError) -> &'static str {
     match why {
         RuleError::SeveralValues => {
-            "more than one file has this key; --values first, sum or another takes one: "
+            "more than one file has this key; --values first, sum or another gives it one value: "
         }
         RuleError::DifferentValues => "files have different values for this key: ",
         RuleError::SumTooLarge => "the sum of the values of this key is 2^64 or more: ",
