@@ -96,12 +96,13 @@ def test_many_files():
 def test_kinds():
     """Malformed bytes, numbers of no kind, and bytes that are read as another kind or form."""
     path = good_file()
-    good, numbered = held_in(path), b'read as bare bytes, though its first byte is the number of kind simple: leave out --bare'
+    good, numbered = held_in(path), b'read as bare bytes, though its first byte is the number of kind simple: leave out --bare-kind'
     for name, words, output, status, told in [
             ('a value after a value', ['verify', put('twice', b'\x00a\x81\x82')], b'', 2,
              b'no trie of kind simple: a value follows a value, at byte 2'),
             ('an empty file', ['list', put('empty', b'')], b'', 2, b'empty'),
-            ('a number of no kind', ['list', put('other', b'\x09' + good[1:])], b'', 2, b'its first byte is the number of no kind'),
+            ('a number of no kind', ['list', put('other', b'\x09' + good[1:])], b'', 2,
+             b'its first byte is the number of no kind; if it is bare bytes, name their kind by --bare-kind'),
             ('a tagged file as bare bytes', ['get', path, 'amp', '--bare-kind', 'simple'], b'none\n', 1, path.encode() + b': ' + numbered),
             ('a tagged file as bare bytes of another kind', ['list', path, '--bare-kind', 'ext'], b'', 2, numbered),
             ('a sealed file as bare bytes', ['get', put('bared', sealed(0, good[1:])), 'amp', '--bare-kind', 'simple'], b'', 2,
