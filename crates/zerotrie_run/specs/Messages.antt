@@ -264,7 +264,7 @@ tag_words Text why = codes "it looks like text: build it first"
 tag_words (Other other) why = other_words other
 tag_words Nothing Empty = codes "the file is empty"
 tag_words Nothing InvalidTag =
-    codes "not a file of zerotrie build: its first byte is the number of no kind; if it is bare bytes, name their kind by --bare"
+    codes "not a file of zerotrie build: its first byte is the number of no kind; if it is bare bytes, name their kind by --bare-kind"
 
 -- what the places in a file are counted from, which is bare bytes of a kind that was named or not
 abbrev pub counted_from : Option TrieKind → List ℕ
@@ -305,7 +305,7 @@ TellsAsk file (ask.NotText key) text = text ≡ not_text_line (source_name file.
 abbrev pub IsNumberLine : (place : List ℕ) → List ℕ → Type 0
 IsNumberLine place text = (kind : TrieKind)
     × (text ≡ line_on place (codes "read as bare bytes, though its first byte is the number of kind "
-    ++ (kind_name kind ++ codes ": leave out --bare unless every key begins with that byte")))
+    ++ (kind_name kind ++ codes ": leave out --bare-kind unless every key begins with that byte")))
 
 -- what is told of a file that is there already
 abbrev pub taken_line : (place : List ℕ) → List ℕ

@@ -453,7 +453,7 @@ const NOTED: [Row; 1] = [Row {
     ),
     status: Status::Absent,
     printed: b"",
-    told: b"zerotrie: names.trie: read as bare bytes, though its first byte is the number of kind simple: leave out --bare unless every key begins with that byte\n",
+    told: b"zerotrie: names.trie: read as bare bytes, though its first byte is the number of kind simple: leave out --bare-kind unless every key begins with that byte\n",
     left: ("names.trie", TRIE),
 }];
 

@@ -59,7 +59,7 @@ fn tag_words(why: &TagError, hint: Hint) -> &'static str
         (Hint::Other(other), _) => other_words(other),
         (Hint::Nothing, TagError::Empty) => "the file is empty",
         (Hint::Nothing, TagError::InvalidTag) => {
-            "not a file of zerotrie build: its first byte is the number of no kind; if it is bare bytes, name their kind by --bare"
+            "not a file of zerotrie build: its first byte is the number of no kind; if it is bare bytes, name their kind by --bare-kind"
         }
     }
 }
@@ -140,7 +140,7 @@ fn note_on_number(
     };
     let name = kind.name();
     let words = format!(in alloc;
-        "read as bare bytes, though its first byte is the number of kind {name}: leave out --bare unless every key begins with that byte"
+        "read as bare bytes, though its first byte is the number of kind {name}: leave out --bare-kind unless every key begins with that byte"
     )?;
     let line = line_on(alloc, source_name(file.place), words.as_bytes())?;
     Ok(Some(line))

@@ -47,7 +47,7 @@ fn tag_words(why: &TagError, hint: Hint) -> &'static str {
         (Hint::Other(other), _) => other_words(other),
         (Hint::Nothing, TagError::Empty) => "the file is empty",
         (Hint::Nothing, TagError::InvalidTag) => {
-            "not a file of zerotrie build: its first byte is the number of no kind; if it is bare bytes, name their kind by --bare"
+            "not a file of zerotrie build: its first byte is the number of no kind; if it is bare bytes, name their kind by --bare-kind"
         }
     }
 }
@@ -115,7 +115,7 @@ fn note_on_number(
         return Ok(None);
     };
     let name = kind.name();
-    let words = format!("read as bare bytes, though its first byte is the number of kind {name}: leave out --bare unless every key begins with that byte"
+    let words = format!("read as bare bytes, though its first byte is the number of kind {name}: leave out --bare-kind unless every key begins with that byte"
     );
     let line = line_on(alloc, source_name(file.place), words.as_bytes())?;
     Ok(Some(line))
