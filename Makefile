@@ -19,9 +19,9 @@ test-cli:       ## the program over files: make test-cli K='-k search PROGRAM'
 test-faults:    ## how programs end if they can't read or write
 	tests/faults
 test-memory:    ## what each call returns if an allocation fails
-	tests/refused-memory
+	tests/hostile/run refused
 test-sizes:     ## that time and memory grow as hostile inputs do
-	tests/sizes
+	tests/hostile/run sizes
 wrong:          ## tries all planted mistakes
 	.ci/wrong --all
 fuzz:           ## what plain Rust finds, beside brute force, in a minute

@@ -15,19 +15,6 @@ fn number_of(kind: Kind) -> u32 {
     kind.tag().into()
 }
 
-/// Calls a function. What is in brackets is a slice, which C has as a pointer and a length.
-macro_rules! call {
-    (@ $function:ident [$($done:tt)*]) => { unsafe { $function($($done)*) } };
-    (@ $function:ident [$($done:tt)*] [mut $slice:expr] $(, $($rest:tt)*)?) => {
-        call!(@ $function [$($done)* $slice.as_mut_ptr(), $slice.len(),] $($($rest)*)?)
-    };
-    (@ $function:ident [$($done:tt)*] [$slice:expr] $(, $($rest:tt)*)?) => {
-        call!(@ $function [$($done)* $slice.as_ptr(), $slice.len(),] $($($rest)*)?)
-    };
-    (@ $function:ident [$($done:tt)*] $value:expr $(, $($rest:tt)*)?) => { call!(@ $function [$($done)* $value,] $($($rest)*)?) };
-    ($function:ident($($arguments:tt)*)) => { call!(@ $function [] $($arguments)*) };
-}
-
 #[inline]
 pub fn get(kind: Kind, bytes: &[u8], key: &[u8]) -> Option<usize> {
     let mut value = 0;

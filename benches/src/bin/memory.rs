@@ -1,7 +1,7 @@
 //! Counts the memory of maps and of builds by plain Rust, beside that of std's maps, of those of other crates, and of the Rust crate where
 //! ZEROTRIE_SOURCE names its source.
 
-#[path = "../../../tests/memory.rs"]
+#[path = "../../../tests/hostile/memory.rs"]
 mod memory;
 
 use benches::asked::Asked;
@@ -14,9 +14,6 @@ use benches::{Kind, by_type, kinds_of};
 use std::collections::{BTreeMap, HashMap};
 use std::process::Command;
 use std::time::Instant;
-
-#[global_allocator]
-static COUNTED: memory::Counted = memory::Counted;
 
 /// The most bytes that the work holds at once, beside those that were held before it.
 fn peak_of(work: impl FnOnce()) -> usize {

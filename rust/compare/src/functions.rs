@@ -1,4 +1,4 @@
-//! The functions of `zerotrie.h`, and what they take. The programs of benches/ call them by these declarations, too.
+//! The functions of `zerotrie.h`, and what they take. The programs of benches/ and tests/hostile/ call them by these declarations, too.
 #![allow(dead_code)]
 
 use std::ops::Bound;
@@ -26,6 +26,15 @@ pub struct SearchBy {
     pub beginnings: bool,
 }
 
+#[repr(C)]
+#[derive(Clone, Copy, Default)]
+pub struct Change {
+    pub key_end: usize,
+    pub before: usize,
+    pub after: usize,
+    pub how: u32,
+}
+
 #[rustfmt::skip]
 unsafe extern "C" {
     pub fn zerotrie_build(kind: u32, pairs: *const KeyAndValue, count: usize, out: *mut u8, room: usize, len: &mut usize) -> u32;
@@ -45,6 +54,8 @@ unsafe extern "C" {
     pub fn zerotrie_list_some(kind: u32, bytes: *const u8, len: usize, prefix: *const u8, prefix_len: usize, goes_on: bool, last: *const u8, last_len: usize, keys: *mut u8, keys_room: usize, ends: *mut usize, ends_room: usize, values: *mut usize, values_room: usize, count: &mut usize, next_len: &mut usize) -> u32;
     pub fn zerotrie_sorted_some(kind: u32, bytes: *const u8, len: usize, from_bound: u32, from: *const u8, from_len: usize, to_bound: u32, to: *const u8, to_len: usize, keys: *mut u8, keys_room: usize, ends: *mut usize, ends_room: usize, values: *mut usize, values_room: usize, count: &mut usize, next_len: &mut usize) -> u32;
     pub fn zerotrie_last_within(kind: u32, bytes: *const u8, len: usize, from_bound: u32, from: *const u8, from_len: usize, to_bound: u32, to: *const u8, to_len: usize, key: *mut u8, key_room: usize, key_len: &mut usize, value: &mut usize) -> u32;
+    pub fn zerotrie_nearest(kind: u32, bytes: *const u8, len: usize, by: u32, word: *const u8, word_len: usize, edits: u32, keys: *mut u8, keys_room: usize, ends: *mut usize, ends_room: usize, values: *mut usize, values_room: usize, distances: *mut usize, distances_room: usize, count: &mut usize, next_len: &mut usize) -> u32;
+    pub fn zerotrie_diff_some(first: &Trie, second: &Trie, from_bound: u32, from: *const u8, from_len: usize, to_bound: u32, to: *const u8, to_len: usize, keys: *mut u8, keys_room: usize, changes: *mut Change, changes_room: usize, count: &mut usize, next_len: &mut usize) -> u32;
     pub fn zerotrie_first_key_of(kind: u32, bytes: *const u8, len: usize, value: usize, key: *mut u8, key_room: usize, key_len: &mut usize) -> u32;
     pub fn zerotrie_reverse_places(kind: u32, bytes: *const u8, len: usize, places: *mut u32, room: usize, count: &mut usize) -> u32;
     pub fn zerotrie_reverse_key(kind: u32, bytes: *const u8, len: usize, places: *const u32, places_len: usize, value: usize, key: *mut u8, key_room: usize, key_len: &mut usize) -> u32;
@@ -85,3 +96,19 @@ pub fn bound(bound: Bound<&[u8]>) -> (u32, &[u8]) {
         Bound::Excluded(key) => (2, key),
     }
 }
+
+/// Calls a function. What is in brackets is a slice, which C has as a pointer and a length.
+#[allow(unused_macros)]
+macro_rules! call {
+    (@ $function:ident [$($done:tt)*]) => { unsafe { $function($($done)*) } };
+    (@ $function:ident [$($done:tt)*] [mut $slice:expr] $(, $($rest:tt)*)?) => {
+        call!(@ $function [$($done)* $slice.as_mut_ptr(), $slice.len(),] $($($rest)*)?)
+    };
+    (@ $function:ident [$($done:tt)*] [$slice:expr] $(, $($rest:tt)*)?) => {
+        call!(@ $function [$($done)* $slice.as_ptr(), $slice.len(),] $($($rest)*)?)
+    };
+    (@ $function:ident [$($done:tt)*] $value:expr $(, $($rest:tt)*)?) => { call!(@ $function [$($done)* $value,] $($($rest)*)?) };
+    ($function:ident($($arguments:tt)*)) => { call!(@ $function [] $($arguments)*) };
+}
+#[allow(unused_imports)]
+pub(crate) use call;
