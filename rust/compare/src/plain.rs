@@ -222,6 +222,7 @@ impl Library for Plain {
         let any = AnyAutomaton::by_kind(of, by, &word).map_err(|error| match error {
             WordError::TooLong => 22,
             WordError::Malformed => 21u32,
+            WordError::TooManyEdits => 27,
         })?;
         Ok(by_automaton!(any, automaton => found(kind, bytes, prefix, ByKind(of, automaton), beginnings)))
     }

@@ -35,26 +35,10 @@ fn listed_in_parts(kind: u8, bytes: &[u8], prefix: &[u8]) -> Option<Found> {
     loop {
         let (mut rooms, mut count, mut next_len) = (Rooms::of(bytes.len()), 0, 0);
         let Rooms { keys, ends, values } = &mut rooms;
-        let status = unsafe {
-            zerotrie_list_some(
-                kind.into(),
-                bytes.as_ptr(),
-                bytes.len(),
-                prefix.as_ptr(),
-                prefix.len(),
-                !found.is_empty(),
-                last.as_ptr(),
-                last.len(),
-                keys.as_mut_ptr(),
-                keys.len(),
-                ends.as_mut_ptr(),
-                ends.len(),
-                values.as_mut_ptr(),
-                values.len().min(3),
-                &mut count,
-                &mut next_len,
-            )
-        };
+        let status = call!(zerotrie_list_some(
+            kind.into(), [bytes], [prefix], !found.is_empty(), [last], [mut keys], [mut ends], values.as_mut_ptr(),
+            values.len().min(3), &mut count, &mut next_len
+        ));
         found.extend(rooms.found(count));
         if status == 0 {
             return Some(found);
@@ -113,7 +97,7 @@ fn written(room: usize, build: impl FnOnce(*mut u8, usize, &mut usize) -> u32) -
 
 fn room_of(pairs: &[Pair]) -> usize {
     // SAFETY: it takes numbers alone.
-    unsafe { zerotrie_build_bound(pairs.len(), pairs.iter().map(|pair| pair.0.len()).sum()) }
+    call!(zerotrie_build_bound(pairs.len(), pairs.iter().map(|pair| pair.0.len()).sum()))
 }
 
 /// The number that C has for a rule.
@@ -132,38 +116,23 @@ fn number_of(rule: Rule) -> u32 {
 impl Library for Proved {
     fn build(&self, kind: u8, pairs: &[Pair]) -> Result<Vec<u8>, Status> {
         let lent = lent(pairs);
-        let built = written(room_of(pairs), |out, room, len| unsafe {
-            zerotrie_build(kind.into(), lent.as_ptr(), lent.len(), out, room, len)
-        });
+        let built = written(room_of(pairs), |out, room, len| call!(zerotrie_build(kind.into(), [lent], out, room, len)));
         let (keys, ends, values) = parts(pairs);
-        let of_parts = written(room_of(pairs), |out, room, len| unsafe {
-            zerotrie_build_many(
-                kind.into(),
-                keys.as_ptr(),
-                keys.len(),
-                ends.as_ptr(),
-                ends.len(),
-                values.as_ptr(),
-                values.len(),
-                out,
-                room,
-                len,
-            )
-        });
+        let of_parts = written(room_of(pairs), |out, room, len| call!(zerotrie_build_many(
+            kind.into(), [keys], [ends], [values], out, room, len
+        )));
         assert_eq!(built, of_parts);
         built
     }
 
     fn build_sorted(&self, kind: u8, pairs: &[Pair]) -> Result<Vec<u8>, Status> {
         let lent = lent(pairs);
-        written(room_of(pairs), |out, room, len| unsafe {
-            zerotrie_build_sorted(kind.into(), lent.as_ptr(), lent.len(), out, room, len)
-        })
+        written(room_of(pairs), |out, room, len| call!(zerotrie_build_sorted(kind.into(), [lent], out, room, len)))
     }
 
     fn encoded_len(&self, kind: u8, pairs: &[Pair]) -> Result<usize, Status> {
         let (lent, mut len) = (lent(pairs), 0);
-        match unsafe { zerotrie_encoded_len(kind.into(), lent.as_ptr(), lent.len(), &mut len) } {
+        match call!(zerotrie_encoded_len(kind.into(), [lent], &mut len)) {
             0 => Ok(len),
             status => Err(status),
         }
@@ -171,129 +140,61 @@ impl Library for Proved {
 
     fn why_refused(&self, kind: u8, pairs: &[Pair]) -> Option<(Status, usize, usize)> {
         let (lent, mut first, mut second) = (lent(pairs), 0, 0);
-        let status = unsafe { zerotrie_why_refused(kind.into(), lent.as_ptr(), lent.len(), &mut first, &mut second) };
+        let status = call!(zerotrie_why_refused(kind.into(), [lent], &mut first, &mut second));
         (status != 0).then_some((status, first, second))
     }
 
     fn get(&self, kind: u8, bytes: &[u8], key: &[u8]) -> Option<usize> {
         let mut value = 0;
-        unsafe {
-            zerotrie_get(
-                kind.into(),
-                bytes.as_ptr(),
-                bytes.len(),
-                key.as_ptr(),
-                key.len(),
-                &mut value,
-            )
-        }
+        call!(zerotrie_get(kind.into(), [bytes], [key], &mut value))
         .then_some(value)
     }
 
     fn get_many(&self, kind: u8, bytes: &[u8], keys: &[Vec<u8>], missing: usize) -> Vec<usize> {
         let (joined, ends) = joined(keys.iter());
         let mut values = vec![0; keys.len()];
-        let status = unsafe {
-            zerotrie_get_many(
-                kind.into(),
-                bytes.as_ptr(),
-                bytes.len(),
-                joined.as_ptr(),
-                joined.len(),
-                ends.as_ptr(),
-                ends.len(),
-                missing,
-                values.as_mut_ptr(),
-                values.len(),
-            )
-        };
+        let status = call!(zerotrie_get_many(kind.into(), [bytes], [joined], [ends], missing, [mut values]));
         assert_eq!(status, 0);
         values
     }
 
     fn longest_prefix(&self, kind: u8, bytes: &[u8], text: &[u8]) -> Option<(usize, usize)> {
         let (mut len, mut value) = (0, 0);
-        unsafe {
-            zerotrie_longest_prefix(
-                kind.into(),
-                bytes.as_ptr(),
-                bytes.len(),
-                text.as_ptr(),
-                text.len(),
-                &mut len,
-                &mut value,
-            )
-        }
+        call!(zerotrie_longest_prefix(kind.into(), [bytes], [text], &mut len, &mut value))
         .then_some((len, value))
     }
 
     fn longest_prefix_at(&self, kind: u8, bytes: &[u8], text: &[u8], delimiters: &[u8]) -> Option<(usize, usize)> {
         let (mut len, mut value) = (0, 0);
-        unsafe {
-            zerotrie_longest_prefix_at(
-                kind.into(),
-                bytes.as_ptr(),
-                bytes.len(),
-                text.as_ptr(),
-                text.len(),
-                delimiters.as_ptr(),
-                delimiters.len(),
-                &mut len,
-                &mut value,
-            )
-        }
+        call!(zerotrie_longest_prefix_at(kind.into(), [bytes], [text], [delimiters], &mut len, &mut value))
         .then_some((len, value))
     }
 
     fn common_prefixes(&self, kind: u8, bytes: &[u8], text: &[u8]) -> Vec<(usize, usize)> {
         let room = text.len() + 1;
         let (mut lens, mut values) = (vec![0; room], vec![0; room]);
-        let count = unsafe {
-            zerotrie_common_prefixes(
-                kind.into(),
-                bytes.as_ptr(),
-                bytes.len(),
-                text.as_ptr(),
-                text.len(),
-                lens.as_mut_ptr(),
-                room,
-                values.as_mut_ptr(),
-                room,
-            )
-        };
+        let count = call!(zerotrie_common_prefixes(
+            kind.into(), [bytes], [text], lens.as_mut_ptr(), room, values.as_mut_ptr(), room
+        ));
         lens.into_iter().zip(values).take(count).collect()
     }
 
     fn is_well_formed(&self, kind: u8, bytes: &[u8]) -> bool {
-        unsafe { zerotrie_is_well_formed(kind.into(), bytes.as_ptr(), bytes.len()) }
+        call!(zerotrie_is_well_formed(kind.into(), [bytes]))
     }
 
     fn first_fault(&self, kind: u8, bytes: &[u8]) -> Option<(u32, usize)> {
         let mut at = 0;
-        let fault = unsafe { zerotrie_first_fault(kind.into(), bytes.as_ptr(), bytes.len(), &mut at) };
+        let fault = call!(zerotrie_first_fault(kind.into(), [bytes], &mut at));
         (fault != 0).then_some((fault, at))
     }
 
     fn list(&self, kind: u8, bytes: &[u8], prefix: &[u8]) -> Found {
         let (mut rooms, mut key_bytes, mut count) = (Rooms::of(bytes.len()), 0, 0);
         let Rooms { keys, ends, values } = &mut rooms;
-        let status = unsafe {
-            zerotrie_list(
-                kind.into(),
-                bytes.as_ptr(),
-                bytes.len(),
-                prefix.as_ptr(),
-                prefix.len(),
-                keys.as_mut_ptr(),
-                keys.len(),
-                ends.as_mut_ptr(),
-                ends.len(),
-                values.as_mut_ptr(),
-                values.len(),
-                &mut key_bytes,
-                &mut count,
-            )
-        };
+        let status = call!(zerotrie_list(
+            kind.into(), [bytes], [prefix], [mut keys], [mut ends], [mut values], &mut key_bytes, &mut count
+        ));
         assert_eq!(status, 0);
         let found = rooms.found(count);
         if let Some(in_parts) = listed_in_parts(kind, bytes, prefix) {
@@ -306,66 +207,25 @@ impl Library for Proved {
         let (mut rooms, mut count, mut next_len) = (Rooms::of(bytes.len()), 0, 0);
         let ((from_bound, from), (to_bound, to)) = (bound(from), bound(to));
         let Rooms { keys, ends, values } = &mut rooms;
-        unsafe {
-            zerotrie_sorted_some(
-                kind.into(),
-                bytes.as_ptr(),
-                bytes.len(),
-                from_bound,
-                from.as_ptr(),
-                from.len(),
-                to_bound,
-                to.as_ptr(),
-                to.len(),
-                keys.as_mut_ptr(),
-                keys.len(),
-                ends.as_mut_ptr(),
-                ends.len(),
-                values.as_mut_ptr(),
-                values.len(),
-                &mut count,
-                &mut next_len,
-            )
-        };
+        call!(zerotrie_sorted_some(
+            kind.into(), [bytes], from_bound, [from], to_bound, [to], [mut keys], [mut ends], [mut values], &mut count,
+            &mut next_len
+        ));
         rooms.found(count)
     }
 
     fn last_within(&self, kind: u8, bytes: &[u8], from: Bound<&[u8]>, to: Bound<&[u8]>) -> Option<(Vec<u8>, usize)> {
         let ((from_bound, from), (to_bound, to)) = (bound(from), bound(to));
         let (mut key, mut key_len, mut value) = (vec![0; bytes.len()], 0, 0);
-        let status = unsafe {
-            zerotrie_last_within(
-                kind.into(),
-                bytes.as_ptr(),
-                bytes.len(),
-                from_bound,
-                from.as_ptr(),
-                from.len(),
-                to_bound,
-                to.as_ptr(),
-                to.len(),
-                key.as_mut_ptr(),
-                key.len(),
-                &mut key_len,
-                &mut value,
-            )
-        };
+        let status = call!(zerotrie_last_within(
+            kind.into(), [bytes], from_bound, [from], to_bound, [to], [mut key], &mut key_len, &mut value
+        ));
         found_key(status, key, key_len).map(|key| (key, value))
     }
 
     fn first_key_of(&self, kind: u8, bytes: &[u8], value: usize) -> Option<Vec<u8>> {
         let (mut key, mut key_len) = (vec![0; bytes.len()], 0);
-        let status = unsafe {
-            zerotrie_first_key_of(
-                kind.into(),
-                bytes.as_ptr(),
-                bytes.len(),
-                value,
-                key.as_mut_ptr(),
-                key.len(),
-                &mut key_len,
-            )
-        };
+        let status = call!(zerotrie_first_key_of(kind.into(), [bytes], value, [mut key], &mut key_len));
         found_key(status, key, key_len)
     }
 
@@ -375,18 +235,9 @@ impl Library for Proved {
             .map(|(kind, bytes)| Trie((*kind).into(), all(bytes)))
             .collect();
         let room = tries.iter().map(|trie| 64 + 20 * trie.1.len()).sum();
-        written(room, |out, room, len| unsafe {
-            zerotrie_combine(
-                selection as u32,
-                number_of(rule),
-                lent.as_ptr(),
-                lent.len(),
-                kind.into(),
-                out,
-                room,
-                len,
-            )
-        })
+        written(room, |out, room, len| call!(zerotrie_combine(
+            selection as u32, number_of(rule), [lent], kind.into(), out, room, len
+        )))
     }
 
     fn search(&self, kind: u8, bytes: &[u8], prefix: &[u8], search: Search, beginnings: bool) -> Result<Found, Status> {
@@ -443,27 +294,10 @@ impl Library for Proved {
         }
         let (mut rooms, mut count, mut next_len) = (Rooms::of(bytes.len()), 0, 0);
         let Rooms { keys, ends, values } = &mut rooms;
-        let status = unsafe {
-            zerotrie_search_some(
-                kind.into(),
-                bytes.as_ptr(),
-                bytes.len(),
-                prefix.as_ptr(),
-                prefix.len(),
-                &by,
-                false,
-                null(),
-                0,
-                keys.as_mut_ptr(),
-                keys.len(),
-                ends.as_mut_ptr(),
-                ends.len(),
-                values.as_mut_ptr(),
-                values.len(),
-                &mut count,
-                &mut next_len,
-            )
-        };
+        let status = call!(zerotrie_search_some(
+            kind.into(), [bytes], [prefix], &by, false, null(), 0, [mut keys], [mut ends], [mut values], &mut count,
+            &mut next_len
+        ));
         if status == 0 {
             Ok(rooms.found(count))
         } else {
@@ -474,28 +308,26 @@ impl Library for Proved {
     fn walk(&self, kind: u8, bytes: &[u8], prefix: &[u8], moves: &[Move]) -> Vec<Moved> {
         let (pointer, len) = (bytes.as_ptr(), bytes.len());
         let mut cursor = if prefix.is_empty() {
-            unsafe { zerotrie_cursor_new(pointer, len) }
+            call!(zerotrie_cursor_new(pointer, len))
         } else {
-            unsafe { zerotrie_with_prefix(kind.into(), pointer, len, prefix.as_ptr(), prefix.len()) }
+            call!(zerotrie_with_prefix(kind.into(), pointer, len, [prefix]))
         };
         let moved = |it: &Move| match *it {
             Move::Step(byte) => {
                 let mut edge = 0;
-                let found = unsafe { zerotrie_cursor_step(kind.into(), pointer, len, &mut cursor, byte, &mut edge) };
+                let found = call!(zerotrie_cursor_step(kind.into(), pointer, len, &mut cursor, byte, &mut edge));
                 // where case matters the face returns nothing
                 Moved::Edge((found && kind != 0).then_some(edge))
             }
             Move::Probe(index) => {
                 let (mut edge, mut siblings) = (0, 0);
-                let found = unsafe {
-                    zerotrie_cursor_probe(kind.into(), pointer, len, &mut cursor, index, &mut edge, &mut siblings)
-                };
+                let found = call!(zerotrie_cursor_probe(kind.into(), pointer, len, &mut cursor, index, &mut edge, &mut siblings));
                 Moved::Sibling(found.then_some((edge, siblings)))
             }
             Move::Take => {
                 let mut value = 0;
                 Moved::Value(
-                    unsafe { zerotrie_cursor_take_value(pointer, len, &mut cursor, &mut value) }.then_some(value),
+                    call!(zerotrie_cursor_take_value(pointer, len, &mut cursor, &mut value)).then_some(value),
                 )
             }
         };
@@ -508,30 +340,26 @@ impl Library for Proved {
     }
 
     fn tagged(&self, kind: u8, bytes: &[u8]) -> Vec<u8> {
-        written(bytes.len() + 1, |out, room, len| unsafe {
-            zerotrie_tagged(kind.into(), bytes.as_ptr(), bytes.len(), out, room, len)
-        })
+        written(bytes.len() + 1, |out, room, len| call!(zerotrie_tagged(kind.into(), [bytes], out, room, len)))
         .unwrap()
     }
 
     fn tagged_kind(&self, tagged: &[u8]) -> Result<u8, Status> {
         let mut kind = 0;
-        match unsafe { zerotrie_tagged_kind(tagged.as_ptr(), tagged.len(), &mut kind) } {
+        match call!(zerotrie_tagged_kind([tagged], &mut kind)) {
             0 => Ok(kind as u8),
             status => Err(status),
         }
     }
 
     fn seal(&self, kind: u8, bytes: &[u8]) -> Vec<u8> {
-        written(bytes.len() + 24, |out, room, len| unsafe {
-            zerotrie_seal(kind.into(), bytes.as_ptr(), bytes.len(), out, room, len)
-        })
+        written(bytes.len() + 24, |out, room, len| call!(zerotrie_seal(kind.into(), [bytes], out, room, len)))
         .unwrap()
     }
 
     fn open(&self, file: &[u8]) -> Result<(u8, Vec<u8>), Status> {
         let (mut kind, mut at, mut len) = (0, 0, 0);
-        match unsafe { zerotrie_open(file.as_ptr(), file.len(), &mut kind, &mut at, &mut len) } {
+        match call!(zerotrie_open([file], &mut kind, &mut at, &mut len)) {
             0 => Ok((kind as u8, file[at..at + len].to_vec())),
             status => Err(status),
         }
@@ -541,86 +369,46 @@ impl Library for Proved {
         let (prefixes, prefix_ends) = joined(entries.iter().map(|entry| entry.0));
         let (suffixes, suffix_ends) = joined(entries.iter().map(|entry| entry.1));
         let values: Vec<usize> = entries.iter().map(|entry| entry.2).collect();
-        written(1 << 16, |out, room, len| unsafe {
-            zerotrie_dense_build(
-                prefixes.as_ptr(),
-                prefixes.len(),
-                prefix_ends.as_ptr(),
-                prefix_ends.len(),
-                suffixes.as_ptr(),
-                suffixes.len(),
-                suffix_ends.as_ptr(),
-                suffix_ends.len(),
-                values.as_ptr(),
-                values.len(),
-                delimiter,
-                out,
-                room,
-                len,
-            )
-        })
+        written(1 << 16, |out, room, len| call!(zerotrie_dense_build(
+            [prefixes], [prefix_ends], [suffixes], [suffix_ends], [values], delimiter, out, room, len
+        )))
     }
 
     fn dense_get(&self, record: &[u8], prefix: &[u8], suffix: &[u8]) -> Result<usize, Status> {
         let mut value = 0;
-        let status = unsafe {
-            zerotrie_dense_get(
-                record.as_ptr(),
-                record.len(),
-                prefix.as_ptr(),
-                prefix.len(),
-                suffix.as_ptr(),
-                suffix.len(),
-                &mut value,
-            )
-        };
+        let status = call!(zerotrie_dense_get([record], [prefix], [suffix], &mut value));
         if status == 0 { Ok(value) } else { Err(status) }
     }
 
     fn index_build(&self, seed: u64, pairs: &[Pair]) -> Result<Vec<u8>, Status> {
         let lent = lent(pairs);
         let room = 64 + pairs.iter().map(|pair| pair.0.len() + 40).sum::<usize>();
-        let built = written(room, |out, room, len| unsafe {
-            zerotrie_index_build(seed, lent.as_ptr(), lent.len(), out, room, len)
-        });
+        let built = written(room, |out, room, len| call!(zerotrie_index_build(seed, [lent], out, room, len)));
         let (keys, ends, values) = parts(pairs);
-        let of_parts = written(room, |out, room, len| unsafe {
-            zerotrie_index_build_many(
-                seed,
-                keys.as_ptr(),
-                keys.len(),
-                ends.as_ptr(),
-                ends.len(),
-                values.as_ptr(),
-                values.len(),
-                out,
-                room,
-                len,
-            )
-        });
+        let of_parts = written(room, |out, room, len| call!(zerotrie_index_build_many(
+            seed, [keys], [ends], [values], out, room, len
+        )));
         assert_eq!(built, of_parts);
         built
     }
 
     fn index_get(&self, bytes: &[u8], key: &[u8]) -> Option<usize> {
         let mut value = 0;
-        unsafe { zerotrie_index_get(bytes.as_ptr(), bytes.len(), key.as_ptr(), key.len(), &mut value) }.then_some(value)
+        call!(zerotrie_index_get([bytes], [key], &mut value)).then_some(value)
     }
 
     fn index_is_valid(&self, bytes: &[u8]) -> bool {
-        unsafe { zerotrie_index_is_valid(bytes.as_ptr(), bytes.len()) }
+        call!(zerotrie_index_is_valid([bytes]))
     }
 
     fn index_seal(&self, bytes: &[u8]) -> Vec<u8> {
-        written(bytes.len() + 36, |out, room, len| unsafe {
-            zerotrie_seal_index(bytes.as_ptr(), bytes.len(), out, room, len)
-        })
+        written(bytes.len() + 36, |out, room, len| call!(zerotrie_seal_index([bytes], out, room, len)))
         .unwrap()
     }
 
     fn index_open(&self, file: &[u8]) -> Result<Vec<u8>, Status> {
         let (mut at, mut len) = (0, 0);
-        match unsafe { zerotrie_open_index(file.as_ptr(), file.len(), &mut at, &mut len) } {
+        match call!(zerotrie_open_index([file], &mut at, &mut len)) {
             0 => Ok(file[at..at + len].to_vec()),
             status => Err(status),
         }
