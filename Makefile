@@ -1,5 +1,5 @@
 # What a developer asks for. Each target calls what is there, and CONTRIBUTING.md says more of it. `make` prints this list.
-.PHONY: help prove gate test test-bindings test-python test-cli test-faults test-memory test-sizes wrong fuzz library library-plain bench speed docs release
+.PHONY: help prove gate test test-bindings test-python test-cli test-faults test-memory test-sizes wrong uncited fuzz library library-plain bench speed docs release
 
 help:           ## prints this list
 	@sed -n 's/^\([a-z-]*\):.*## /\1\t/p' Makefile
@@ -24,6 +24,8 @@ test-sizes:     ## that time and memory grow as hostile inputs do
 	tests/hostile/run sizes
 wrong:          ## tries all planted mistakes
 	.ci/wrong --all
+uncited:        ## lemmas that nothing cites, and imports that nothing uses
+	python3 .ci/uncited.py --imports
 fuzz:           ## what plain Rust finds, beside brute force, in a minute
 	PROFILE=gate fuzz/run 3000
 library:        ## proves and makes the library for C
