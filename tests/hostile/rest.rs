@@ -1,5 +1,6 @@
 //! The calls that the library for C lacks, by those of lib.rt.in. What they return is written to `out`, and told by a number: its length
 //! or a refusal.
+#![allow(dead_code)]
 
 // SAFETY of all below: each pointer is that of a slice, with its length.
 

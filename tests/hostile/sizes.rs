@@ -346,8 +346,8 @@ fn compared(call: &Call, inputs: &[Input; 2], growth: f64, room: &mut Room) -> L
     let (time, peak) = measured(call, &inputs[0], room);
     let (later_time, later_peak) = measured(call, &inputs[1], room);
     let (slower, larger) = (later_time / time, later_peak as f64 / peak.max(1) as f64);
-    // Below these what is measured is the machine.
-    let is_slow = later_time > 0.05 && slower > 2.0 * growth;
+    // Below these what is measured is the machine. What is quadratic takes nearly twice the growth.
+    let is_slow = later_time > 0.05 && slower > 1.9 * growth;
     // A list that doubles may have done so between the sizes.
     let is_large = later_peak > 1 << 20 && larger > 1.5 * growth;
     let peak = peak as f64 / f64::from(1 << 20);
