@@ -3,35 +3,11 @@
  * whether the bytes are an index, the bytes with their length in front, the number of keys, and each
  * key with its length in front; of an index also whether it has the key, and its value or 0. Half of
  * the indexes have some bytes changed. */
+#include "rows.h"
 #include "zerotrie.h"
-#include <stdio.h>
-#include <stdlib.h>
 #include <string.h>
 
 enum { KEYS = 400, KEY = 60, INDEX = 1 << 16, ASKED = 16 };
-
-static uint64_t state = 88172645463325252u;
-
-static uint64_t next(void) {
-    state ^= state << 13;
-    state ^= state >> 7;
-    state ^= state << 17;
-    return state >> 8;
-}
-
-static size_t below(size_t limit) {
-    return (size_t)(next() % limit);
-}
-
-static void put(uint64_t number) {
-    for (int i = 0; i < 8; i++)
-        putchar((int)(number >> (8 * i) & 0xFF));
-}
-
-static void put_bytes(const uint8_t *bytes, size_t len) {
-    put(len);
-    fwrite(bytes, 1, len, stdout);
-}
 
 /* Of each length that the hash takes apart in another way. */
 static size_t random_key(uint8_t *key) {

@@ -1,43 +1,12 @@
 /* Holds zerotrie_read.h against the rows of reader_rows.c, which it reads from standard input: the
  * answers of the library, of which it needs nothing. Of bytes that are no trie, only what holds of
  * any bytes is tested; build it with sanitizers for that. */
+#include "rows.h"
 #include "zerotrie_read.h"
-#include <stdio.h>
-#include <stdlib.h>
 
 enum { TEXT = 512, ROOM = 1 << 16 };
 
-static unsigned long long tries, well_formed, answers, differ;
-
-static void same(bool is) {
-    answers++;
-    differ += !is;
-}
-
-static uint64_t take(void) {
-    uint64_t number = 0;
-    for (int i = 0; i < 8; i++) {
-        const int byte = getchar();
-        if (byte == EOF)
-            exit(3);
-        number |= (uint64_t)byte << (8 * i);
-    }
-    return number;
-}
-
-/* Bytes in a block of their own, so that a sanitizer sees each read outside them. */
-static uint8_t *take_bytes(size_t *len) {
-    uint8_t *bytes;
-    *len = (size_t)take();
-    bytes = malloc(*len ? *len : 1);
-    if (!bytes || fread(bytes, 1, *len, stdin) != *len)
-        exit(3);
-    if (*len == 0) {
-        free(bytes);
-        return NULL;
-    }
-    return bytes;
-}
+static unsigned long long tries, well_formed;
 
 /* What the library tells of a text, step by step. */
 static void compare_steps(uint32_t kind, const uint8_t *bytes, size_t len, const uint8_t *text,

@@ -1,41 +1,10 @@
 /* Holds the calls of zerotrie_read.h for indexes against the rows of index_rows.c, which it reads
  * from standard input, and against the example of FORMAT.md. Of bytes that are no index, only what
  * holds of any bytes is tested; build it with sanitizers for that. */
+#include "rows.h"
 #include "zerotrie_read.h"
-#include <stdio.h>
-#include <stdlib.h>
 
-static unsigned long long indexes, valid, answers, differ;
-
-static void same(bool is) {
-    answers++;
-    differ += !is;
-}
-
-static uint64_t take(void) {
-    uint64_t number = 0;
-    for (int i = 0; i < 8; i++) {
-        const int byte = getchar();
-        if (byte == EOF)
-            exit(3);
-        number |= (uint64_t)byte << (8 * i);
-    }
-    return number;
-}
-
-/* Bytes in a block of their own, so that a sanitizer sees each read outside them. */
-static uint8_t *take_bytes(size_t *len) {
-    uint8_t *bytes;
-    *len = (size_t)take();
-    bytes = malloc(*len ? *len : 1);
-    if (!bytes || fread(bytes, 1, *len, stdin) != *len)
-        exit(3);
-    if (*len == 0) {
-        free(bytes);
-        return NULL;
-    }
-    return bytes;
-}
+static unsigned long long indexes, valid;
 
 /* The sealed file of a content, in a block of exactly its length. */
 static uint8_t *sealed(uint8_t number, const uint8_t *content, size_t len) {

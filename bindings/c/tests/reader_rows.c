@@ -4,38 +4,14 @@
  * processor. Of bytes that are no trie there are no answers.
  *
  * Compiled with BY_READER it writes the answers of zerotrie_read.h, to all bytes. */
+#include "rows.h"
 #include "zerotrie.h"
-#include <stdio.h>
-#include <stdlib.h>
 #include <string.h>
 
 enum { KEYS = 700, KEY = 48, TRIE = 1 << 17, ASKED = 24 };
 
 static const uint32_t kinds[] = { ZEROTRIE_SIMPLE_ASCII, ZEROTRIE_PERFECT_HASH,
                                   ZEROTRIE_EXTENDED_CAPACITY, ZEROTRIE_IGNORE_CASE };
-static uint64_t state = 88172645463325252u;
-
-static uint64_t next(void) {
-    state ^= state << 13;
-    state ^= state >> 7;
-    state ^= state << 17;
-    return state >> 8;
-}
-
-static size_t below(size_t limit) {
-    return (size_t)(next() % limit);
-}
-
-static void put(uint64_t number) {
-    for (int i = 0; i < 8; i++)
-        putchar((int)(number >> (8 * i) & 0xFF));
-}
-
-static void put_bytes(const uint8_t *bytes, size_t len) {
-    put(len);
-    fwrite(bytes, 1, len, stdout);
-}
-
 /* A byte that a trie is likely to have. */
 static uint8_t likely(void) {
     switch (below(8)) {
