@@ -21,7 +21,9 @@ fn look(bytes: &[u8], pairs: &[Pair], others: &[Vec<u8>]) {
     assert!(is_index(bytes), "a built index is none: {bytes:02x?}");
     for key in pairs.iter().map(|pair| &pair.0).chain(others) {
         let wanted = pairs.iter().find(|pair| pair.0 == *key).map(|pair| pair.1);
-        assert_eq!(ZeroIndex::from_store(bytes).get(key), wanted, "{key:02x?} in the index {bytes:02x?}");
+        let index = ZeroIndex::from_store(bytes);
+        assert_eq!(index.get(key), wanted, "{key:02x?} in the index {bytes:02x?}");
+        assert_eq!(index.opened().get(key), wanted, "{key:02x?} in the opened index {bytes:02x?}");
     }
     for wrong in [&bytes[..bytes.len() - 1], &bytes[1..], &[bytes, &[0]].concat()] {
         assert!(!is_index(wrong), "an index with fewer bytes or more: {wrong:02x?}");
@@ -48,8 +50,11 @@ pub fn compare(random: &mut Random) {
     random.damage(if front.is_empty() { &mut bytes } else { &mut front }, times);
     let damaged = ZeroIndex::from_store([front, bytes].concat());
     let is_index = damaged.is_well_formed();
-    let found = pairs.iter().map(|pair| &pair.0).chain(&keys).filter(|key| damaged.get(key).is_some()).count();
-    std::hint::black_box((is_index, found));
+    let opened = damaged.opened();
+    for key in pairs.iter().map(|pair| &pair.0).chain(&keys) {
+        assert_eq!(damaged.get(key), opened.get(key), "{key:02x?} in the damaged index {:02x?}", damaged.as_bytes());
+    }
+    std::hint::black_box(is_index);
 }
 
 /// The hash of a key of eight bytes, by docs/FORMAT.md.

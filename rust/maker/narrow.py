@@ -19,8 +19,9 @@ FITS = {
     "zerotrie_index/builder.rs": "bytes:n",
     "zerotrie_index/in_blocks.rs": "bytes:crc32c()",
     "zerotrie_index/hash.rs": "1<<64",  # of 128 bits
+    "zerotrie_index/opened.rs": "bucket_of() >>32",
     "zerotrie_index/placed.rs": "len",
-    "zerotrie_index/reader.rs": "bucket_of() count >>32",
+    "zerotrie_index/reader.rs": "count",
     "zerotrie_index/well_formed.rs": "len",
     "zerotrie_lines/": "-b'0'",
     "zerotrie_queries/reports/lines.rs": "/keysasu128",  # hundredths

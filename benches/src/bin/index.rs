@@ -27,6 +27,7 @@ fn look_ups(title: &str, sets: &[Set], rounds: usize, asked: impl Fn(&Set) -> Ve
         let peers = Peers::of(set);
         let bytes = &index_of(set);
         let plain = ZeroIndex::try_from_store(bytes.as_slice()).unwrap();
+        let opened = plain.opened();
         let is_ascii = set.keys.iter().all(|key| key.is_ascii());
         let trie = is_ascii.then(|| library::built(Kind::Simple, set.pairs()));
         let owned = asked(set);
@@ -36,6 +37,7 @@ fn look_ups(title: &str, sets: &[Set], rounds: usize, asked: impl Fn(&Set) -> Ve
         let mut contestants: Contestants<'_> = vec![
             ("the index", all(turns, &keys, |key| library::index_get(bytes, key))),
             ("the index of plain Rust", all(turns, &keys, |key| plain.get(key))),
+            ("the same, opened once", all(turns, &keys, |key| opened.get(key))),
         ];
         if let Some(trie) = &trie {
             contestants.push(("a trie", all(turns, &keys, |key| library::get(Kind::Simple, trie, key))));

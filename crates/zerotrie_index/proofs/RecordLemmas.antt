@@ -1,5 +1,5 @@
 -- Numbers and records.
-use Rattle.std.specs.Prelude.{◌≡◌, ℕ, ◌/◌, ◌<◌, List, [], ◌∷◌, ◌++◌, length, IfSome, IfNone, MatchOption}
+use Rattle.std.specs.Prelude.{◌≡◌, ℕ, ◌+◌, ◌-◌, ◌/◌, ◌<◌, ◌≤◌, List, [], ◌∷◌, ◌++◌, length, IfSome, IfNone, MatchOption}
 use Rattle.std.proofs.Common.{refl, sym, subst, ap, ◌∙◌, arith, take, drop, length-append, Option, Some, None, Bor}
 use Rattle.std.proofs.Math.Seq.{take-append_seam, drop-append_seam}
 use Rattle.std.proofs.lemmas.Bool.{false_from_ne_true}
@@ -60,3 +60,14 @@ pub read_none : (left : Pairs) (bytes key : List ℕ) → ((e : List ℕ × ℕ)
     → AreRecords left bytes → None ≡ value_at simple_ascii left key
 read_none [] bytes key none are = refl
 read_none (e ∷ pairs) bytes key none are = absurd (none e pairs are)
+
+-- the bytes between two places
+pub cut_between : (start end : ℕ) (bytes before part after : List ℕ) → bytes ≡ before ++ (part ++ after) → start ≡ length before → end ≡ length before + length part
+    → take (end - start) (drop start bytes) ≡ part
+cut_between start end bytes before part after is from to =
+    (cut_at (end - start) (drop start bytes) part after (cut_at start bytes before (part ++ after) is from).1 (omega arith)).0
+
+-- they are there
+pub reaches : (end : ℕ) (bytes before part after : List ℕ) → bytes ≡ before ++ (part ++ after) → end ≡ length before + length part → end ≤ length bytes
+reaches end bytes before part after is to =
+    let long = ap length is ∙ length-append before (part ++ after) in let behind = length-append part after in omega arith

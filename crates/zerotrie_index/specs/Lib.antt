@@ -5,5 +5,6 @@ pub mod InBlocks
 pub mod Hashed
 pub mod Built
 pub mod Valid
+pub mod Opened
 pub mod Lent
 pub mod Tries

@@ -12,8 +12,7 @@ ghost use Rattle.zerotrie_index.specs.Built.{IsIndexOf, IsIndexBuild, IsSortedIn
 
 use crate::builder::{build, build_all, build_sorted};
 use crate::error::{NotAnIndex, ZeroIndexBuildError};
-use crate::laws;
-use crate::reader::get;
+use crate::opened::OpenedIndex;
 use crate::well_formed::is_well_formed;
 use std::alloc::{AllocError, Global};
 use zerotrie_base::{ConvertStore, TrieKey, TrieStore};
@@ -180,15 +179,27 @@ impl<S: TrieStore> ZeroIndex<S> {
         self.store.bytes()
     }
 
-    /// Returns the value of a key.
+    /// Opens the index for many look-ups. Does not allocate.
+    ///
+    /// ```
+    /// let index = ZeroIndex::try_from_sorted_slice(rt.alloc(), &[("ad", 22)])?;
+    /// let opened = index.opened();
+    /// assert_eq!(rt; (opened.get(b"ad"), opened.get(b"a")), (Some(22), None));
+    /// ```
+    pub fn opened(&self) -> OpenedIndex<'_>
+        ensures { result ≡ S.stored self.now.store }
+    {
+        OpenedIndex::new(self.store.bytes())
+    }
+
+    /// Returns the value of a key. For many keys, ask an `OpenedIndex`.
     pub fn get(&self, key: &[u8]) -> Option<usize>
         ensures index { (pairs : Pairs) → IsIndex pairs (S.stored self.now.store)
             → result ≡ value_at simple_ascii pairs key.now }
         ensures given { (given : Pairs) → IsIndexOf given (S.stored self.now.store)
             → result ≡ value_at simple_ascii given key.now }
     {
-        laws::built_answers_as_given();
-        get(self.store.bytes(), key)
+        self.opened().get(key)
     }
 
     /// Returns whether a key is there.

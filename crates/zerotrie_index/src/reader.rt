@@ -1,14 +1,13 @@
-//! Look-ups in the bytes of an index.
+//! What the bytes of an index are read by.
 
 ghost use Rattle.std.specs.Prelude.{◌≡◌, ℕ, ◌+◌, ◌*◌, ◌/◌, ◌%◌, ◌^◌, ◌<◌, List, ◌∷◌, ◌++◌, length, get_or, All, Some, IfSome, IfNone, MatchOption};
 ghost use Rattle.std.specs.List.{flat_map};
 ghost use Rattle.zerotrie_base.specs.Kind.{simple_ascii};
 ghost use Rattle.zerotrie_base.specs.Numbers.{BeginsWith};
 ghost use Rattle.zerotrie_base.specs.Maps.{Pairs, value_at};
-ghost use Rattle.zerotrie_index.specs.Hash.{hash_of};
 ghost use Rattle.zerotrie_index.specs.Layout.{word, place_of, mark_of, AreRecords, IsIndex};
 
-use crate::hash::hash_of;
+use crate::hash::eight_at;
 use zerotrie_base::read_varint_meta2;
 
 /// Returns the number of a hash's bucket.
@@ -118,45 +117,16 @@ pub(crate) fn parts_of(bytes: &[u8]) -> Option<Parts<'_>>
     })
 }
 
-/// Reads the entry of this number in a table.
+/// Reads the entry of this number in a table, and the next one.
 #[inline(always)]
-fn entry_at(table: &[u8], number: usize) -> Option<u64>
+pub(crate) fn entries_at(table: &[u8], number: usize) -> Option<(u64, u64)>
     requires { number < 2 ^ 32 }
     ensures { (entries : List ℕ) → table.now ≡ flat_map word entries
-        → All (λ entry. entry < 2 ^ 64) entries
-        → number < length entries → result ≡ Some (get_or entries number 0) }
+        → All (λ entry. entry < 2 ^ 64) entries → number + 1 < length entries
+        → MatchOption result ⊥ (λ r. (r.0 ≡ get_or entries number 0)
+        × (r.1 ≡ get_or entries (number + 1) 0)) }
 {
     let (_, from) = table.split_at_checked(8 * number)?;
-    let (entry, _) = read_word(from)?;
-    Some(entry)
-}
-
-/// Returns the bytes of a pool from one place to another.
-#[inline(always)]
-fn between(pool: &[u8], start: usize, end: usize) -> Option<&[u8]>
-    ensures { (before records after : List ℕ) → pool.now ≡ before ++ (records ++ after)
-        → start ≡ length before → end ≡ length before + length records
-        → MatchOption result ⊥ (λ r. r.now ≡ records) }
-{
-    let len = end.checked_sub(start)?;
-    let (_, from) = pool.split_at_checked(start)?;
-    let (records, _) = from.split_at_checked(len)?;
-    Some(records)
-}
-
-/// Returns the value of a key in an index.
-pub fn get(bytes: &[u8], key: &[u8]) -> Option<usize>
-    ensures { (pairs : Pairs) → IsIndex pairs bytes.now
-        → result ≡ value_at simple_ascii pairs key.now }
-{
-    let parts = parts_of(bytes)?;
-    let hash = hash_of(parts.seed, key);
-    let number = bucket_of(parts.count, hash) as usize;
-    let entry = entry_at(parts.table, number)?;
-    if (entry >> (hash % 32)) % 2 == 0 {
-        return None;
-    }
-    let next = entry_at(parts.table, number + 1)?;
-    let records = between(parts.pool, (entry >> 32) as usize, (next >> 32) as usize)?;
-    find_in(records, key)
+    let both = from.first_chunk::<16>()?;
+    Some((eight_at(both, 0), eight_at(both, 8)))
 }

@@ -70,7 +70,23 @@ impl<Store: AsRef<[u8]>> ZeroIndex<Store> {
         zerotrie_index::is_well_formed(self.as_bytes())
     }
 
-    /// Returns the value of a key.
+    /// Opens the index for many look-ups.
+    ///
+    /// ```
+    /// use zerotrie::index::ZeroIndex;
+    ///
+    /// let index = ZeroIndex::try_from_iter([("in", 1), ("on", 2)])?;
+    /// let opened = index.opened();
+    /// let values: Vec<_> = ["on", "to"].iter().map(|key| opened.get(key)).collect();
+    /// assert_eq!(values, [Some(2), None]);
+    /// # Ok::<(), zerotrie::index::ZeroIndexBuildError>(())
+    /// ```
+    #[inline]
+    pub fn opened(&self) -> OpenedIndex<'_> {
+        OpenedIndex(zerotrie_index::OpenedIndex::new(self.as_bytes()))
+    }
+
+    /// Returns the value of a key. Ask for many keys by [`ZeroIndex::opened`].
     ///
     /// ```
     /// use zerotrie::index::ZeroIndex;
@@ -268,6 +284,52 @@ impl<K: AsRef<[u8]>> FromIterator<(K, usize)> for ZeroIndex<Vec<u8>> {
     /// Where `try_from_iter` returns an error.
     fn from_iter<T: IntoIterator<Item = (K, usize)>>(pairs: T) -> Self {
         Self::try_from_iter(pairs).expect("the pairs should be those of an index")
+    }
+}
+
+/// An index that is open for look-ups: where its table and its pool are was read once.
+///
+/// ```
+/// use zerotrie::index::ZeroIndex;
+///
+/// let index = ZeroIndex::try_from_iter([("in", 1)])?;
+/// assert_eq!(index.opened().get("in"), Some(1));
+/// # Ok::<(), zerotrie::index::ZeroIndexBuildError>(())
+/// ```
+pub struct OpenedIndex<'a>(zerotrie_index::OpenedIndex<'a>);
+
+impl<'a> OpenedIndex<'a> {
+    /// Returns the value of a key.
+    ///
+    /// ```
+    /// use zerotrie::index::ZeroIndex;
+    ///
+    /// let index = ZeroIndex::try_from_iter([("in", 1)])?;
+    /// assert_eq!(index.opened().get("on"), None);
+    /// # Ok::<(), zerotrie::index::ZeroIndexBuildError>(())
+    /// ```
+    #[inline]
+    pub fn get<K: AsRef<[u8]>>(&self, key: K) -> Option<usize> {
+        self.0.get(key.as_ref())
+    }
+
+    /// Returns the bytes.
+    ///
+    /// ```
+    /// use zerotrie::index::ZeroIndex;
+    ///
+    /// let index = ZeroIndex::try_from_iter([("in", 1)])?;
+    /// assert_eq!(index.opened().as_bytes(), index.as_bytes());
+    /// # Ok::<(), zerotrie::index::ZeroIndexBuildError>(())
+    /// ```
+    pub fn as_bytes(&self) -> &'a [u8] {
+        self.0.as_bytes()
+    }
+}
+
+impl fmt::Debug for OpenedIndex<'_> {
+    fn fmt(&self, f: &mut fmt::Formatter<'_>) -> fmt::Result {
+        f.debug_struct("OpenedIndex").finish_non_exhaustive()
     }
 }
 

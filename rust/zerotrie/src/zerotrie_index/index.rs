@@ -4,8 +4,7 @@
 use crate::rstd::prelude::*;
 use crate::zerotrie_index::builder::{build, build_all, build_sorted};
 use crate::zerotrie_index::error::{NotAnIndex, ZeroIndexBuildError};
-use crate::zerotrie_index::laws;
-use crate::zerotrie_index::reader::get;
+use crate::zerotrie_index::opened::OpenedIndex;
 use crate::zerotrie_index::well_formed::is_well_formed;
 use crate::rstd::alloc::{AllocError, Global};
 use crate::zerotrie_base::{ConvertStore, TrieKey, TrieStore};
@@ -163,10 +162,22 @@ impl<S: TrieStore> ZeroIndex<S> {
         self.store.bytes()
     }
 
-    /// Returns the value of a key.
+    /// Opens the index for many look-ups. Does not allocate.
+    ///
+    /// ```
+    /// # use zerotrie::{rstd::examples::*, zerotrie_index::*, zerotrie_base::*, zerotrie_core::*, zerotrie_sealed::*};
+    /// let index = ZeroIndex::try_from_sorted_slice(Global, &[("ad", 22)])?;
+    /// let opened = index.opened();
+    /// assert_eq!((opened.get(b"ad"), opened.get(b"a")), (Some(22), None));
+    /// # Ok::<(), Fail>(())
+    /// ```
+    pub fn opened(&self) -> OpenedIndex<'_> {
+        OpenedIndex::new(self.store.bytes())
+    }
+
+    /// Returns the value of a key. For many keys, ask an `OpenedIndex`.
     pub fn get(&self, key: &[u8]) -> Option<usize> {
-        laws::built_answers_as_given();
-        get(self.store.bytes(), key)
+        self.opened().get(key)
     }
 
     /// Returns whether a key is there.

@@ -1,7 +1,7 @@
 // Made from crates/zerotrie_index/src/reader.rt by rust/make: edit that.
-//! Look-ups in the bytes of an index.
+//! What the bytes of an index are read by.
 
-use crate::zerotrie_index::hash::hash_of;
+use crate::zerotrie_index::hash::eight_at;
 use crate::zerotrie_base::read_varint_meta2;
 
 /// Returns the number of a hash's bucket.
@@ -83,33 +83,10 @@ pub(in crate::made::zerotrie_index) fn parts_of(bytes: &[u8]) -> Option<Parts<'_
     })
 }
 
-/// Reads the entry of this number in a table.
+/// Reads the entry of this number in a table, and the next one.
 #[inline(always)]
-fn entry_at(table: &[u8], number: usize) -> Option<u64> {
+pub(in crate::made::zerotrie_index) fn entries_at(table: &[u8], number: usize) -> Option<(u64, u64)> {
     let (_, from) = table.split_at_checked(8 * number)?;
-    let (entry, _) = read_word(from)?;
-    Some(entry)
-}
-
-/// Returns the bytes of a pool from one place to another.
-#[inline(always)]
-fn between(pool: &[u8], start: usize, end: usize) -> Option<&[u8]> {
-    let len = end.checked_sub(start)?;
-    let (_, from) = pool.split_at_checked(start)?;
-    let (records, _) = from.split_at_checked(len)?;
-    Some(records)
-}
-
-/// Returns the value of a key in an index.
-pub fn get(bytes: &[u8], key: &[u8]) -> Option<usize> {
-    let parts = parts_of(bytes)?;
-    let hash = hash_of(parts.seed, key);
-    let number = bucket_of(parts.count, hash) as usize;
-    let entry = entry_at(parts.table, number)?;
-    if (entry >> (hash % 32)) % 2 == 0 {
-        return None;
-    }
-    let next = entry_at(parts.table, number + 1)?;
-    let records = between(parts.pool, (entry >> 32) as usize, (next >> 32) as usize)?;
-    find_in(records, key)
+    let both = from.first_chunk::<16>()?;
+    Some((eight_at(both, 0), eight_at(both, 8)))
 }
