@@ -35,7 +35,7 @@ def by_program(player, program):
 
 def says_what_it_is():
     """The program for ARM is plain Rust, of the sources that the release has."""
-    commit = re.search(r"^commit: (\w+)", (dist / "ORIGIN").read_text(), re.M)[1]
+    commit = re.search(r"^commit: (\w{12})", (dist / "ORIGIN").read_text(), re.M)[1]
     said = run(*arm, of_arm, "--version")
     assert said.splitlines()[1:] == [f"plain Rust, made from the proved sources of commit {commit}"], said
 
