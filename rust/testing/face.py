@@ -56,6 +56,7 @@ INSTEAD = {
     "a failed allocation ends the program": "ListError Error",
     "`wanted` of an automaton": "ZeroTrieStream::advance_node ZeroTrieStream::next_branch ZeroTrieStream::pass",
     "`seal` and `open` of what is sealed": "open seal open_index seal_index",
+    "`opened` of an index": "OpenedIndex::new",
     "`stream` of a cursor": "ZeroTrieCursor::iter AsciiCursor::iter HashedCursor::iter",
     "`is_well_formed` before": "ZeroTrieSorted::is_well_formed KeysOf::validated",
     "of the kind's own type, `into_zerotrie`": "ZeroTrie::of_kind ZeroTrie::try_from_bytes ZeroTrie::empty",
