@@ -25,6 +25,10 @@ if_some_weaker (Ok None) f p = tt
 if_some_weaker (Ok (Some k)) f p = f k p
 if_some_weaker (Err e) f p = tt
 
+pub if_ok_so : {A E : Type 0} {P Q R S : A → Type 0} (r : Result A E) → ((x : A) → P x → Q x → R x → S x) → IfOk r P → IfOk r Q → IfOk r R → IfOk r S
+if_ok_so (Ok x) f p q r = f x p q r
+if_ok_so (Err e) f p q r = tt
+
 pub on_ok_so : {T E P Q : Type 0} (r : Result T E) → (P → Q) → OnOk r P → OnOk r Q
 on_ok_so (Ok x) f p = f p
 on_ok_so (Err e) f p = tt
@@ -57,15 +61,6 @@ and_true false = refl
 pub by_all : (kind : TrieKind) (c : Choice) (keeps accepts : List ℕ → Bool) → ((key : List ℕ) → keeps key ≡ is_kept kind c key) → ((key : List ℕ) → accepts key ≡ is_matched kind c.sought key)
     → (key : List ℕ) → (keeps key && accepts key) ≡ is_chosen kind c key
 by_all kind c keeps accepts kept is key = ap (λ b. b && accepts key) (kept key) ∙ ap (λ b. is_kept kind c key && b) (is key)
-
--- without a word those are chosen that are kept
-pub kept_alone : (kind : TrieKind) (c : Choice) → c.sought ≡ None → (key : List ℕ) → is_kept kind c key ≡ is_chosen kind c key
-kept_alone kind c none key = sym (ap (λ o. is_kept kind c key && is_matched kind o key) none ∙ and_true (is_kept kind c key))
-
--- and with a prefix alone
-pub by_prefix_alone : (kind : TrieKind) (c : Choice) → c.sought ≡ None → ((key : List ℕ) → is_kept kind c key ≡ begins_with (kind_of kind) c.prefix.now key) → (pairs : Pairs) → beginning (kind_of kind) c.prefix.now pairs ≡ chosen kind c pairs
-by_prefix_alone kind c none kept = accepted_alike (begins_with (kind_of kind) c.prefix.now) (is_chosen kind c)
-    (λ key. sym (ap (λ o. is_kept kind c key && is_matched kind o key) none ∙ and_true (is_kept kind c key) ∙ kept key))
 
 -- a prefix is at its end if it has no byte left
 pub ends_here : (kind : TrieKind) (left : List ℕ) → (length left == 0) ≡ begins_left kind (Some left) []

@@ -1,6 +1,7 @@
 -- Keys, bounds and words as a kind compares them.
 use Rattle.std.proofs.Common.{◌≡◌, ◌≢◌, ℕ, zero, suc, List, [], ◌∷◌, Bool, true, false, ◌+◌, ◌-◌, ◌<◌, ◌^◌, arith, length, not, refl, sym, ap, ◌∙◌, subst, Option, Some, None, Result, Ok, Err, IfOk}
-use Rattle.std.specs.Prelude.{◌&&◌, ◌==◌, ◌||◌, unwrap_or, if◌then◌else◌}
+use Rattle.std.specs.Prelude.{◌&&◌, ◌==◌, ◌||◌, is_some, unwrap_or, if◌then◌else◌}
+use Rattle.std.specs.Borrow.{Bor}
 use Rattle.std.specs.Option.{option_map}
 use Rattle.std.specs.Range.Bound.{bound_map, bounds_contain}
 use Rattle.std.specs.declared.ops.Bound.{Bound}
@@ -21,14 +22,14 @@ use Rattle.zerotrie_search.specs.Automata.{edits_to, finds_by, finds_in, free_if
 use Rattle.zerotrie_search.specs.Searches.{accepted}
 use Rattle.zerotrie_search.specs.Sets.{by_bytes, some_front}
 use Rattle.zerotrie_search.specs.Sorted.{within}
-use Rattle.zerotrie_queries.specs.Chosen.{at_edits, by_edits, found_from, sought_at, closest, edits_matched, edits_of, folded_bound, measured, is_in, is_kept, is_matched, is_chosen, is_word, word_of, chosen, IsFolded, AreWordsOf, HasWords}
-use Rattle.zerotrie_queries.specs.Sorted.{picked}
+use Rattle.zerotrie_queries.specs.Chosen.{at_edits, by_edits, found_from, sought_at, closest, edits_matched, edits_of, folded_bound, measured, is_in, is_kept, is_matched, is_chosen, is_word, told_edits, word_of, chosen, IsFolded, AreWordsOf, HasWords}
+use Rattle.zerotrie_queries.specs.Sorted.{is_free, is_prefix_alone, picked}
 use Rattle.zerotrie_queries.specs.declared.folding.FoldedWords.{FoldedWords}
 use Rattle.zerotrie_queries.specs.declared.question.Choice.{Choice}
 use Rattle.zerotrie_queries.specs.declared.question.Order.{Order}
 use Rattle.zerotrie_queries.specs.declared.question.Order.TheVariants.{Stored, ByBytes, Closest, Nearest}
 use Rattle.zerotrie_queries.specs.declared.question.Sought.{Sought}
-use Rattle.zerotrie_search.specs.Nearest.{nearest}
+use Rattle.zerotrie_search.specs.Nearest.{measured_up_to, nearest}
 use Rattle.zerotrie_search.specs.declared.any.SearchBy.{SearchBy}
 use Rattle.zerotrie_search.specs.declared.any.SearchBy.TheVariants as by
 use Rattle.zerotrie_queries.proofs.BeginsLemmas.{no_front}
@@ -167,6 +168,18 @@ measured_folded kind c words d are has key =
     ap (λ b. if b then edits_matched kind d.sought key else None) (kept_folded kind c words d are has key)
     ∙ ap (λ o. if is_kept kind c key then o else None) (edits_folded kind c.sought d.sought words.word.items key are.word has.by has.word has.begins)
 
+-- and allows as many edits, so that lines say the same edits
+pub edits_alike : (o p : Option Sought) → option_map (λ s. s.by) p ≡ option_map (λ s. s.by) o → unwrap_or (option_map (λ s. most_by s.by) p) 0 ≡ unwrap_or (option_map (λ s. most_by s.by) o) 0
+edits_alike None None h = refl
+edits_alike None (Some t) h = absurd (cc)
+edits_alike (Some s) None h = absurd (cc)
+edits_alike (Some s) (Some t) h = ap most_by (some_inj h)
+
+pub told_folded : (kind : TrieKind) (c : Choice) (words : FoldedWords) (d : Choice) → AreWordsOf kind c words → HasWords words c d → (key : List ℕ) → told_edits kind d key ≡ told_edits kind c key
+told_folded kind c words d are has key =
+    ap (λ n. unwrap_or (measured_up_to n (edits_matched kind d.sought key)) 0) (edits_alike c.sought d.sought has.by)
+    ∙ ap (λ o. unwrap_or (measured_up_to (edits_of c) o) 0) (edits_folded kind c.sought d.sought words.word.items key are.word has.by has.word has.begins)
+
 -- other edits leave words as they are
 words_at : (kind : TrieKind) (e : ℕ) (o : Option Sought) → word_of kind (option_map (sought_at e) o) ≡ word_of kind o
 words_at kind e None = refl
@@ -212,23 +225,47 @@ has_at e c words d h = record {
   begins = has_begins e c.sought d.sought h.begins;
 }
 
-pub edits_alike : (o p : Option Sought) → option_map (λ s. s.by) p ≡ option_map (λ s. s.by) o → unwrap_or (option_map (λ s. most_by s.by) p) 0 ≡ unwrap_or (option_map (λ s. most_by s.by) o) 0
-edits_alike None None h = refl
-edits_alike None (Some t) h = absurd (cc)
-edits_alike (Some s) None h = absurd (cc)
-edits_alike (Some s) (Some t) h = ap most_by (some_inj h)
-
 -- so do the fewest edits
 closest_alike : (kind : TrieKind) (c d : Choice) (pairs : Pairs) → ((e : ℕ) → chosen kind (at_edits e d) pairs ≡ chosen kind (at_edits e c) pairs) → (e n : ℕ) → closest kind d pairs e n ≡ closest kind c pairs e n
 closest_alike kind c d pairs h e zero = h e
 closest_alike kind c d pairs h e (suc n) = rw (h e, closest_alike kind c d pairs h (suc e) n) refl
 
+-- it has a word if the other has, and bounds if the other has
+some_as : {A B : Type 0} (f : A → B) (o p : Option A) → option_map f o ≡ option_map f p → is_some o ≡ is_some p
+some_as f None None h = refl
+some_as f None (Some x) h = absurd (cc)
+some_as f (Some x) None h = absurd (cc)
+some_as f (Some x) (Some y) h = refl
+
+free_as : (kind : Kind) (a b : Bound (Bor (List ℕ))) → bound_map (λ b. b.now) a ≡ bound_map (folded_key kind) (bound_map (λ b. b.now) b) → is_free a ≡ is_free b
+free_as kind Unbounded Unbounded h = refl
+free_as kind (Included x) (Included y) h = refl
+free_as kind (Excluded x) (Excluded y) h = refl
+free_as kind (Included x) (Excluded y) h = refl
+free_as kind (Excluded x) (Included y) h = refl
+free_as kind Unbounded (Included y) h = absurd (cc)
+free_as kind Unbounded (Excluded y) h = absurd (cc)
+free_as kind (Included x) Unbounded h = absurd (cc)
+free_as kind (Excluded x) Unbounded h = absurd (cc)
+
 module _ (kind : TrieKind) (c : Choice) (words : FoldedWords) (d : Choice) (are : AreWordsOf kind c words) (has : HasWords words c d) where
   chosen_as : (pairs : Pairs) → chosen kind d pairs ≡ chosen kind c pairs
   chosen_as pairs = accepted_alike (is_chosen kind d) (is_chosen kind c) (chosen_folded kind c words d are has) pairs
 
+  alone_as : is_prefix_alone d ≡ is_prefix_alone c
+  alone_as = rw (
+    some_as (λ s. s.begins) d.sought c.sought has.begins,
+    has.without,
+    free_as (kind_of kind) d.range.from c.range.from (has.from ∙ are.from),
+    free_as (kind_of kind) d.range.to c.range.to (has.to ∙ are.to),
+  ) refl
+
   pub picked_folded : (order : Order) (pairs : Pairs) → picked order kind d pairs ≡ picked order kind c pairs
-  picked_folded Stored pairs = chosen_as pairs
+  picked_folded Stored pairs = ap (λ b. if b then chosen kind d pairs else chosen kind d (entries (map_of pairs))) alone_as ∙ go (is_prefix_alone c)
+    where
+      go : (b : Bool) → (if b then chosen kind d pairs else chosen kind d (entries (map_of pairs))) ≡ (if b then chosen kind c pairs else chosen kind c (entries (map_of pairs)))
+      go true = chosen_as pairs
+      go false = chosen_as (entries (map_of pairs))
   picked_folded ByBytes pairs = chosen_as (entries (map_of pairs))
   picked_folded Closest pairs =
       let each : (e : ℕ) → chosen kind (at_edits e d) (entries (map_of pairs)) ≡ chosen kind (at_edits e c) (entries (map_of pairs)) = λ e. accepted_alike (is_chosen kind (at_edits e d)) (is_chosen kind (at_edits e c)) (chosen_folded kind (at_edits e c) words (at_edits e d) (are_at kind e c words are) (has_at e c words d has)) (entries (map_of pairs)) in

@@ -1,6 +1,6 @@
 -- What the listings of a choice give.
-use Rattle.std.proofs.Common.{◌≡◌, ◌≤◌, ◌<◌, ◌+◌, ◌^◌, ◌∙◌, ℕ, zero, suc, List, [], ◌∷◌, Bool, true, false, not, take, length, Option, Some, None, Result, Ok, Err, IfOk, IfNone, OnOk, OnErr, refl, sym, ap, subst, arith}
-use Rattle.std.specs.Prelude.{◌==◌, ◌&&◌}
+use Rattle.std.proofs.Common.{◌≡◌, ◌≤◌, ◌<◌, ◌+◌, ◌^◌, ◌∙◌, ℕ, zero, suc, List, [], ◌∷◌, ◌++◌, Bool, true, false, not, take, length, Option, Some, None, Result, Ok, Err, IfOk, IfNone, OnOk, OnErr, refl, sym, ap, subst, arith}
+use Rattle.std.specs.Prelude.{◌==◌, ◌&&◌, if◌then◌else◌}
 use Rattle.std.specs.Range.Bound.{bound_map}
 use Rattle.std.specs.FinMap.{entries}
 use Rattle.std.specs.Io.KnownBytes.{Appends}
@@ -14,49 +14,37 @@ use Rattle.zerotrie_core.specs.declared.TrieKind.{TrieKind}
 use Rattle.zerotrie_files.specs.Parts.{AppendsPart}
 use Rattle.zerotrie_search.proofs.PathLemmas.{lists_few}
 use Rattle.zerotrie_search.specs.Nearest.{nearest}
-use Rattle.zerotrie_search.specs.Searches.{IsSearch, accepted, accepted_left}
+use Rattle.zerotrie_search.specs.Searches.{accepted, accepted_left}
 use Rattle.zerotrie_search.specs.Sorted.{within}
-use Rattle.zerotrie_queries.specs.Readings.{IsReadWithin, read_order, read_so}
-use Rattle.zerotrie_queries.specs.declared.listing.listed.Reading.{Reading}
-use Rattle.zerotrie_queries.specs.declared.listing.listed.Reading.TheVariants as reading
-use Rattle.zerotrie_queries.specs.Chosen.{at_edits, chosen, closest, edits_matched, edits_of, is_chosen, is_kept, is_matched, measured, AreWordsOf, HasWords}
-use Rattle.zerotrie_queries.specs.Listed.{limited, first_left, first_picked, Gives, IsPrintable, AreListed, AreListedInPart, AreNoText}
-use Rattle.zerotrie_any.specs.Json.{are_text}
-use Rattle.zerotrie_queries.specs.Json.{IsFirstNoText}
-use Rattle.zerotrie_queries.specs.Printed.{lines_of, listed}
-use Rattle.zerotrie_queries.specs.Sorted.{picked}
+use Rattle.zerotrie_search.specs.declared.range.KeyRange.{KeyRange}
+use Rattle.zerotrie_queries.specs.Chosen.{at_edits, chosen, closest, edits_matched, edits_of, is_chosen, is_kept, is_matched, measured, told_edits, AreWordsOf, HasWords}
+use Rattle.zerotrie_queries.specs.Listed.{limited, first_left, first_picked, printed, Gives, IsPrintable, AreListed, AreListedInPart, AreUnprintable}
+use Rattle.zerotrie_queries.specs.Printed.{are_printable, can_print, edits_line, listed, IsFirstUnprintable}
+use Rattle.zerotrie_queries.specs.Sorted.{found_between, is_prefix_alone, picked, AreWithin}
 use Rattle.zerotrie_queries.specs.declared.folding.FoldedWords.{FoldedWords}
 use Rattle.zerotrie_queries.specs.declared.print.Form.{Form}
-use Rattle.zerotrie_queries.specs.declared.print.Form.TheVariants.{Json}
+use Rattle.zerotrie_queries.specs.declared.print.Form.TheVariants.{Lines, Distances, Json, Count}
 use Rattle.zerotrie_queries.specs.declared.question.Choice.{Choice}
 use Rattle.zerotrie_queries.specs.declared.question.Order.{Order}
 use Rattle.zerotrie_queries.specs.declared.question.Order.TheVariants.{Stored, ByBytes, Closest, Nearest}
 use Rattle.zerotrie_queries.specs.declared.question.ListQuery.{ListQuery}
-use Rattle.zerotrie_queries.proofs.ChoiceLemmas.{accepted_alike, by_all, by_prefix_alone, few_accepted, kept_alone}
+use Rattle.zerotrie_queries.proofs.ChoiceLemmas.{accepted_alike, by_all, few_accepted}
 use Rattle.zerotrie_queries.proofs.FoldLemmas.{picked_folded}
 use Rattle.zerotrie_queries.proofs.NearLemmas.{few_of_nearest, near_kept, two_as_one}
 use Rattle.zerotrie_queries.proofs.PartLemmas.{part_none}
 use Rattle.zerotrie_queries.proofs.SortedLemmas.{chosen_within}
 
--- a search of all that are chosen, in the order of the trie
-pub gives_stored : (kind : TrieKind) (c : Choice) (accepts : List ℕ → Bool) → c.sought ≡ None → ((key : List ℕ) → accepts key ≡ is_kept kind c key) → (bytes : List ℕ) (stream left : Left) → IsSearch (kind_of kind) bytes (λ pairs. pairs) accepts stream left
-    → (pairs : Pairs) → Lists (kind_of kind) bytes pairs → Unit {0} × (left ≡ to_come (picked Stored kind c pairs))
-gives_stored kind c accepts none kept bytes stream left h pairs lists =
-    (tt, h.lists pairs lists ∙ ap to_come (accepted_alike accepts (is_chosen kind c) (λ key. kept key ∙ kept_alone kind c none key) pairs))
-
 -- of the pairs that its word finds those of which the other conditions of a choice hold
-chosen_so : (kind : TrieKind) (c : Choice) (keep : List ℕ → Bool) → ((key : List ℕ) → keep key ≡ is_kept kind c key) → (r : Reading) → IsReadWithin kind c r → (pairs : Pairs)
-    → accepted keep (read_so r (is_matched kind c.sought) pairs) ≡ picked (read_order r) kind c pairs
-chosen_so kind c keep kept reading.Stored inside pairs =
-    two_as_one keep (is_matched kind c.sought) pairs ∙ accepted_alike (λ key. keep key && is_matched kind c.sought key) (is_chosen kind c) (by_all kind c keep (is_matched kind c.sought) kept (λ key. refl)) pairs
-chosen_so kind c keep kept (reading.Between from to) inside pairs =
-    let between = within (bound_map (λ b. b.now) from) (bound_map (λ b. b.now) to) (map_of pairs) in
+chosen_so : (kind : TrieKind) (c : Choice) (keep : List ℕ → Bool) → ((key : List ℕ) → keep key ≡ is_kept kind c key) → (r : KeyRange) → AreWithin kind c (bound_map (λ b. b.now) r.from) (bound_map (λ b. b.now) r.to) → (pairs : Pairs)
+    → accepted keep (found_between r (is_matched kind c.sought) pairs) ≡ picked ByBytes kind c pairs
+chosen_so kind c keep kept r inside pairs =
+    let between = within (bound_map (λ b. b.now) r.from) (bound_map (λ b. b.now) r.to) (map_of pairs) in
     two_as_one keep (is_matched kind c.sought) between ∙ accepted_alike (λ key. keep key && is_matched kind c.sought key) (is_chosen kind c) (by_all kind c keep (is_matched kind c.sought) kept (λ key. refl)) between
-    ∙ chosen_within kind c (bound_map (λ b. b.now) from) (bound_map (λ b. b.now) to) (map_of pairs) inside
+    ∙ chosen_within kind c (bound_map (λ b. b.now) r.from) (bound_map (λ b. b.now) r.to) (map_of pairs) inside
 
 -- what is kept of what a listing gives
-pub gives_kept : {P : Type 0} (IsValid : P → Type 0) (left : P → Left) (kind : TrieKind) (c : Choice) (keep : List ℕ → Bool) → ((key : List ℕ) → keep key ≡ is_kept kind c key) → (r : Reading) → IsReadWithin kind c r → (bytes : List ℕ) (p : P)
-    → Gives IsValid left (read_so r (is_matched kind c.sought)) kind bytes p → (pairs : Pairs) → Lists (kind_of kind) bytes pairs → IsValid p × (accepted_left keep (left p) ≡ to_come (picked (read_order r) kind c pairs))
+pub gives_kept : {P : Type 0} (IsValid : P → Type 0) (left : P → Left) (kind : TrieKind) (c : Choice) (keep : List ℕ → Bool) → ((key : List ℕ) → keep key ≡ is_kept kind c key) → (r : KeyRange) → AreWithin kind c (bound_map (λ b. b.now) r.from) (bound_map (λ b. b.now) r.to)
+    → (bytes : List ℕ) (p : P) → Gives IsValid left (found_between r (is_matched kind c.sought)) kind bytes p → (pairs : Pairs) → Lists (kind_of kind) bytes pairs → IsValid p × (accepted_left keep (left p) ≡ to_come (picked ByBytes kind c pairs))
 gives_kept IsValid left kind c keep kept r inside bytes p h pairs lists =
     let given = h pairs lists in
     (given.0, ap (accepted_left keep) given.1 ∙ ap to_come (chosen_so kind c keep kept r inside pairs))
@@ -73,17 +61,22 @@ all_accepted : (pairs : Pairs) → accepted (λ _. true) pairs ≡ pairs
 all_accepted [] = refl
 all_accepted (e ∷ pairs) = ap (λ l. e ∷ l) (all_accepted pairs)
 
-pub gives_all : {P : Type 0} (IsValid : P → Type 0) (left : P → Left) (pick : Pairs → Pairs) (kind : TrieKind) (bytes : List ℕ) (p : P)
-    → Gives IsValid left pick kind bytes p → (pairs : Pairs) → Lists (kind_of kind) bytes pairs → IsValid p × (accepted_left (λ _. true) (left p) ≡ to_come (pick pairs))
-gives_all IsValid left pick kind bytes p h pairs lists =
-    let given = h pairs lists in
-    (given.0, ap (accepted_left (λ _. true)) given.1 ∙ ap to_come (all_accepted (pick pairs)))
-
--- and the pairs with a prefix
-pub gives_prefix : (kind : TrieKind) (c : Choice) → c.sought ≡ None → ((key : List ℕ) → is_kept kind c key ≡ begins_with (kind_of kind) c.prefix.now key) → (bytes : List ℕ) (left : Left)
+-- and the pairs with a prefix are those of a choice that has no other condition
+pub gives_prefix : (kind : TrieKind) (c : Choice) → is_prefix_alone c ≡ true → ((key : List ℕ) → is_chosen kind c key ≡ begins_with (kind_of kind) c.prefix.now key) → (bytes : List ℕ) (left : Left)
     → ((pairs : Pairs) → Lists (kind_of kind) bytes pairs → left ≡ to_come (beginning (kind_of kind) c.prefix.now pairs))
-    → (pairs : Pairs) → Lists (kind_of kind) bytes pairs → Unit {0} × (left ≡ to_come (picked Stored kind c pairs))
-gives_prefix kind c none kept bytes left h pairs lists = (tt, h pairs lists ∙ ap to_come (by_prefix_alone kind c none kept pairs))
+    → (pairs : Pairs) → Lists (kind_of kind) bytes pairs → Unit {0} × (accepted_left (λ _. true) left ≡ to_come (picked Stored kind c pairs))
+gives_prefix kind c alone same bytes left h pairs lists =
+    let begun = beginning (kind_of kind) c.prefix.now pairs in
+    let one : begun ≡ chosen kind c pairs = accepted_alike (begins_with (kind_of kind) c.prefix.now) (is_chosen kind c) (λ key. sym (same key)) pairs in
+    let as_stored : chosen kind c pairs ≡ picked Stored kind c pairs = ap (λ b. if b then chosen kind c pairs else chosen kind c (entries (map_of pairs))) (sym alone) in
+    (tt, ap (accepted_left (λ _. true)) (h pairs lists) ∙ ap to_come (all_accepted begun ∙ one ∙ as_stored))
+
+-- any other choice is listed in the order of bytes
+pub gives_else : {P : Type 0} (IsValid : P → Type 0) (left : P → Left) (kind : TrieKind) (c : Choice) → is_prefix_alone c ≡ false → (bytes : List ℕ) (p : P)
+    → Gives IsValid left (picked ByBytes kind c) kind bytes p → (pairs : Pairs) → Lists (kind_of kind) bytes pairs → IsValid p × (left p ≡ to_come (picked Stored kind c pairs))
+gives_else IsValid left kind c other bytes p h pairs lists =
+    let given = h pairs lists in
+    (given.0, given.1 ∙ ap to_come (ap (λ b. if b then chosen kind c pairs else chosen kind c (entries (map_of pairs))) (sym other)))
 
 -- what is picked alike is given alike
 pub gives_same : {P : Type 0} (IsValid : P → Type 0) (left : P → Left) (p q : Pairs → Pairs) (kind : TrieKind) (bytes : List ℕ) (s : P)
@@ -126,7 +119,11 @@ few_closest kind c pairs e (suc n) = go (length (chosen kind (at_edits e c) pair
     go false is more = rw is (few_accepted (is_chosen kind (at_edits e c)) pairs)
 
 few_picked : (order : Order) (kind : TrieKind) (c : Choice) (pairs : Pairs) → length (picked order kind c pairs) ≤ length pairs
-few_picked Stored kind c pairs = few_accepted (is_chosen kind c) pairs
+few_picked Stored kind c pairs = go (is_prefix_alone c)
+  where
+    go : (b : Bool) → length (if b then chosen kind c pairs else chosen kind c (entries (map_of pairs))) ≤ length pairs
+    go true = few_accepted (is_chosen kind c) pairs
+    go false = let few = few_accepted (is_chosen kind c) (entries (map_of pairs)) in let all = entries_count pairs in omega (arith, few, all)
 few_picked ByBytes kind c pairs = let few = few_accepted (is_chosen kind c) (entries (map_of pairs)) in let all = entries_count pairs in omega (arith, few, all)
 few_picked Closest kind c pairs = let few = few_closest kind c (entries (map_of pairs)) 0 (edits_of c) in let all = entries_count pairs in omega (arith, few, all)
 few_picked Nearest kind c pairs = let few = few_of_nearest (measured kind c) (entries (map_of pairs)) 0 (suc (edits_of c)) in let all = entries_count pairs in omega (arith, few, all)
@@ -139,38 +136,44 @@ few_first s kind bytes short pairs lists =
     omega (arith, first, few, all, short)
 
 -- what is not begun is written in part
-pub none_written : (form : Form) (s : ListQuery) (kind : TrieKind) (bytes : List ℕ) (old : Option (List ℕ)) → AreListedInPart form (picked s.order kind s.choice) s.limit kind bytes old old
-none_written form s kind bytes old pairs lists = part_none old (listed form (first_picked s kind pairs))
+pub none_written : (form : Form) (s : ListQuery) (kind : TrieKind) (bytes : List ℕ) (old : Option (List ℕ)) → AreListedInPart form s kind bytes old old
+none_written form s kind bytes old pairs lists = part_none old (printed form s kind pairs)
+
+-- lines with the same edits are the same
+same_lines : (e f : List ℕ → ℕ) → ((key : List ℕ) → e key ≡ f key) → (pairs : Pairs) → listed Distances e pairs ≡ listed Distances f pairs
+same_lines e f same [] = refl
+same_lines e f same (p ∷ pairs) = rw (same p.0) (ap (λ l. edits_line p (f p.0) ++ l) (same_lines e f same pairs))
+
+listed_alike : (form : Form) (e f : List ℕ → ℕ) → ((key : List ℕ) → e key ≡ f key) → (pairs : Pairs) → listed form e pairs ≡ listed form f pairs
+listed_alike (Lines style) e f same pairs = refl
+listed_alike Distances e f same pairs = same_lines e f same pairs
+listed_alike Json e f same pairs = refl
+listed_alike Count e f same pairs = refl
 
 -- what is written of a listing is what is picked of the pairs that the bytes list
-module _ {P : Type 0} (IsValid : P → Type 0) (left : P → Left) (form : Form) (s : ListQuery) (kind : TrieKind) (bytes : List ℕ) (p : P) (short : length bytes < 2 ^ 64) (gives : Gives IsValid left (first_picked s kind) kind bytes p) (old new : Option (List ℕ)) where
-  pub written_all : ((pairs : Pairs) → Lists (kind_of kind) bytes pairs → IsPrintable form (first_picked s kind pairs)) → (IsValid p → length (left p).pairs < 2 ^ 64 → Appends old new (listed form (left p).pairs))
-      → AreListed form (picked s.order kind s.choice) s.limit kind bytes old new
+module _ {P : Type 0} (IsValid : P → Type 0) (left : P → Left) (form : Form) (s : ListQuery) (kind : TrieKind) (bytes : List ℕ) (p : P) (short : length bytes < 2 ^ 64) (gives : Gives IsValid left (first_picked s kind) kind bytes p)
+(edits : List ℕ → ℕ) (told : (key : List ℕ) → edits key ≡ told_edits kind s.choice key) (old new : Option (List ℕ)) where
+  pub written_all : ((pairs : Pairs) → Lists (kind_of kind) bytes pairs → IsPrintable form (first_picked s kind pairs)) → (IsValid p → length (left p).pairs < 2 ^ 64 → Appends old new (listed form edits (left p).pairs))
+      → AreListed form s kind bytes old new
   written_all printable wrote pairs lists =
       let given = gives pairs lists in
       let is : (left p).pairs ≡ first_picked s kind pairs = ap (λ l. l.pairs) given.1 in
-      (printable pairs lists, subst (λ l. Appends old new (listed form l)) is (wrote given.0 (subst (λ l. length l < 2 ^ 64) (sym is) (few_first s kind bytes short pairs lists))))
+      let same = listed_alike form edits (told_edits kind s.choice) told (first_picked s kind pairs) in
+      (printable pairs lists, subst (Appends old new) (ap (listed form edits) is ∙ same) (wrote given.0 (subst (λ l. length l < 2 ^ 64) (sym is) (few_first s kind bytes short pairs lists))))
 
-  pub written_part : (IsValid p → length (left p).pairs < 2 ^ 64 → AppendsPart old new (listed form (left p).pairs)) → AreListedInPart form (picked s.order kind s.choice) s.limit kind bytes old new
+  pub written_part : (IsValid p → length (left p).pairs < 2 ^ 64 → AppendsPart old new (listed form edits (left p).pairs)) → AreListedInPart form s kind bytes old new
   written_part wrote pairs lists =
       let given = gives pairs lists in
       let is : (left p).pairs ≡ first_picked s kind pairs = ap (λ l. l.pairs) given.1 in
-      subst (λ l. AppendsPart old new (listed form l)) is (wrote given.0 (subst (λ l. length l < 2 ^ 64) (sym is) (few_first s kind bytes short pairs lists)))
+      let same = listed_alike form edits (told_edits kind s.choice) told (first_picked s kind pairs) in
+      subst (AppendsPart old new) (ap (listed form edits) is ∙ same) (wrote given.0 (subst (λ l. length l < 2 ^ 64) (sym is) (few_first s kind bytes short pairs lists)))
 
--- what is written of its lines is what the lines of these pairs are
-pub written_lines : {P : Type 0} (IsValid : P → Type 0) (left : P → Left) (kind : TrieKind) (bytes : List ℕ) (p : P) {pick : Pairs → Pairs} → Gives IsValid left pick kind bytes p
-    → (line : List ℕ × ℕ → List ℕ) (text : Pairs → List ℕ) → ((pairs : Pairs) → lines_of line (pick pairs) ≡ text pairs) → (Wrote : List ℕ → Type 0)
-    → (IsValid p → Wrote (lines_of line (left p).pairs)) → (pairs : Pairs) → Lists (kind_of kind) bytes pairs → Wrote (text pairs)
-written_lines IsValid left kind bytes p gives line text same Wrote wrote pairs lists =
-    let given = gives pairs lists in
-    subst Wrote (ap (λ l. lines_of line l.pairs) given.1 ∙ same pairs) (wrote given.0)
+-- a key of a listing that can't be printed is one of what is picked
+pub unprintable_in : {P : Type 0} (IsValid : P → Type 0) (left : P → Left) (form : Form) (s : ListQuery) (kind : TrieKind) (bytes : List ℕ) (p : P) (key : List ℕ) → Gives IsValid left (first_picked s kind) kind bytes p
+    → (can_print form key ≡ false) × (IsValid p → IsFirstUnprintable form (left p).pairs key) → AreUnprintable form s kind bytes key
+unprintable_in IsValid left form s kind bytes p key gives found = (found.0, λ pairs lists. (let given = gives pairs lists in subst (λ l. IsFirstUnprintable form l.pairs key) given.1 (found.1 given.0)))
 
--- a key of a listing that is no text is one of what is picked
-pub no_text_in : {P : Type 0} (IsValid : P → Type 0) (left : P → Left) (form : Form) (s : ListQuery) (kind : TrieKind) (bytes : List ℕ) (p : P) (key : List ℕ) → form ≡ Json → Gives IsValid left (first_picked s kind) kind bytes p
-    → (IsValid p → IsFirstNoText (left p).pairs key) → AreNoText form (picked s.order kind s.choice) s.limit kind bytes key
-no_text_in IsValid left form s kind bytes p key is gives found = (is, λ pairs lists. (let given = gives pairs lists in subst (λ l. IsFirstNoText l.pairs key) given.1 (found given.0)))
-
--- and if all of them are, all can be printed
-pub printable_all : {P : Type 0} (IsValid : P → Type 0) (left : P → Left) (form : Form) (s : ListQuery) (kind : TrieKind) (bytes : List ℕ) (p : P) → form ≡ Json → Gives IsValid left (first_picked s kind) kind bytes p
-    → (IsValid p → are_text (left p).pairs ≡ true) → (pairs : Pairs) → Lists (kind_of kind) bytes pairs → IsPrintable form (first_picked s kind pairs)
-printable_all IsValid left form s kind bytes p is gives all pairs lists = let given = gives pairs lists in rw is (sym (ap (λ l. are_text l.pairs) given.1) ∙ all given.0)
+-- and if none is, all can be printed
+pub printable_all : {P : Type 0} (IsValid : P → Type 0) (left : P → Left) (form : Form) (s : ListQuery) (kind : TrieKind) (bytes : List ℕ) (p : P) → Gives IsValid left (first_picked s kind) kind bytes p
+    → (IsValid p → are_printable form (left p).pairs ≡ true) → (pairs : Pairs) → Lists (kind_of kind) bytes pairs → IsPrintable form (first_picked s kind pairs)
+printable_all IsValid left form s kind bytes p gives all pairs lists = let given = gives pairs lists in sym (ap (λ l. are_printable form l.pairs) given.1) ∙ all given.0

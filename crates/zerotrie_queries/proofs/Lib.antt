@@ -4,6 +4,7 @@ mod FoundLemmas
 pub mod AnswerLemmas
 pub mod NumberLemmas
 mod JsonLemmas
+mod PrintableLemmas
 mod CodeLemmas
 mod CountLemmas
 mod TextLemmas
@@ -20,5 +21,4 @@ mod EditsLemmas
 mod BeginsLemmas
 mod KeptLemmas
 mod WordLemmas
-mod MeasuredLemmas
 mod GivenLemmas

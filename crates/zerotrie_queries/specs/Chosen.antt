@@ -165,6 +165,10 @@ abbrev pub begins_left : TrieKind → Option (List ℕ) → List ℕ → Bool
 begins_left kind None key = false
 begins_left kind (Some left) key = begins_with (kind_of kind) left key
 
+-- how many edits make a key of the word of a choice, if at most as many do as it allows, and else 0
+abbrev pub told_edits : TrieKind → Choice → List ℕ → ℕ
+told_edits kind c key = unwrap_or (measured_up_to (edits_of c) (edits_matched kind c.sought key)) 0
+
 -- how many edits an automaton says that make a key of its word, and 0 without one, or if it does not accept as many
 abbrev pub told_by : Option AnyAutomaton → List ℕ → ℕ
 told_by None key = 0

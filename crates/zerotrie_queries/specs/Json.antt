@@ -1,19 +1,15 @@
 -- Pairs as JSON.
-use Rattle.std.specs.Prelude.{◌≡◌, ℕ, List, [], ◌∷◌, ◌++◌, Bool, true, false, decimal, map, if◌then◌else◌}
+use Rattle.std.specs.Prelude.{ℕ, List, [], ◌∷◌, ◌++◌, Bool, true, decimal, map, if◌then◌else◌}
 use Rattle.std.specs.Str.{is_utf8}
 use Rattle.json.specs.Print.{quoted}
 use Rattle.serde_json.specs.Data.{Data, string, object}
 use Rattle.serde_json.specs.Written.{compact_text, comma_if}
 use Rattle.zerotrie_core.specs.Maps.{Pairs}
-use Rattle.zerotrie_any.specs.Json.{whole, members, list_of, are_text}
+use Rattle.zerotrie_any.specs.Json.{whole, members, list_of}
 
 -- the object from the keys of pairs to their values as a text with no space, and a line feed
 abbrev pub object_line : Pairs → List ℕ
 object_line pairs = compact_text (object (members pairs)) ++ 10 ∷ []
-
--- the first of the keys that is not UTF-8
-abbrev pub IsFirstNoText : Pairs → List ℕ → Type 0
-IsFirstNoText pairs key = (front back : Pairs) × (value : ℕ) × (pairs ≡ front ++ (key, value) ∷ back) × (are_text front ≡ true) × (is_utf8 key ≡ false)
 
 -- a key as a value: a string if it is UTF-8, and else a list of its bytes
 abbrev pub key_data : List ℕ → Data

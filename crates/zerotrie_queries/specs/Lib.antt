@@ -7,7 +7,6 @@ pub mod Found
 pub mod Kept
 pub mod Pairs
 pub mod Sorted
-pub mod Readings
 pub mod Listed
 pub mod Recased
 pub mod Diffs

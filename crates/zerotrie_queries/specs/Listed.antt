@@ -6,20 +6,17 @@ use Rattle.zerotrie_core.specs.Maps.{Pairs}
 use Rattle.zerotrie_core.specs.Texts.{Lists}
 use Rattle.zerotrie_core.specs.Kinds.{kind_of}
 use Rattle.zerotrie_core.specs.declared.TrieKind.{TrieKind}
-use Rattle.zerotrie_any.specs.Json.{are_text}
 use Rattle.zerotrie_files.specs.Parts.{AppendsPart}
 use Rattle.zerotrie_files.specs.Faults.{IsOutOfMemory}
-use Rattle.zerotrie_queries.specs.Chosen.{measured}
-use Rattle.zerotrie_queries.specs.Json.{IsFirstNoText}
-use Rattle.zerotrie_queries.specs.Printed.{listed, measured_lines}
+use Rattle.zerotrie_index.specs.Tries.{folded_key}
+use Rattle.zerotrie_queries.specs.Chosen.{told_by, told_edits}
+use Rattle.zerotrie_queries.specs.Printed.{IsFirstUnprintable, are_printable, can_print, listed}
 use Rattle.zerotrie_queries.specs.Sorted.{picked}
 use Rattle.zerotrie_queries.specs.declared.print.Form.{Form}
-use Rattle.zerotrie_queries.specs.declared.print.Form.TheVariants.{Lines, Json, Count}
-use Rattle.zerotrie_queries.specs.declared.question.Choice.{Choice}
-use Rattle.zerotrie_queries.specs.declared.question.Order.TheVariants.{Nearest}
 use Rattle.zerotrie_queries.specs.declared.question.ListQuery.{ListQuery}
+use Rattle.zerotrie_queries.specs.declared.listing.distances.Distances.{Distances}
 use Rattle.zerotrie_queries.specs.declared.listing.ListError.{ListError}
-use Rattle.zerotrie_queries.specs.declared.listing.ListError.TheVariants.{NotText, Failed}
+use Rattle.zerotrie_queries.specs.declared.listing.ListError.TheVariants.{Unprintable, Failed}
 
 -- the first pairs, at most this many, or all
 abbrev pub limited : Option ℕ → Pairs → Pairs
@@ -49,48 +46,37 @@ Gives IsValid left pick kind bytes p = (pairs : Pairs) → Lists (kind_of kind) 
 abbrev pub first_picked : ListQuery → TrieKind → Pairs → Pairs
 first_picked s kind pairs = limited s.limit (picked s.order kind s.choice pairs)
 
--- pairs can be printed so: as one JSON value only if each key is UTF-8
+-- pairs can be printed so
 abbrev pub IsPrintable : Form → Pairs → Type 0
-IsPrintable (Lines style) pairs = Unit {0}
-IsPrintable Json pairs = are_text pairs ≡ true
-IsPrintable Count pairs = Unit {0}
+IsPrintable form pairs = are_printable form pairs ≡ true
 
--- pairs were printed
-abbrev pub ArePrinted : Form → Pairs → (old new : Option (List ℕ)) → Type 0
-ArePrinted form pairs old new = IsPrintable form pairs × Appends old new (listed form pairs)
+-- the pairs of a selection as they are printed
+abbrev pub printed : Form → ListQuery → TrieKind → Pairs → List ℕ
+printed form s kind pairs = listed form (told_edits kind s.choice) (first_picked s kind pairs)
 
--- the first of the pairs that are picked were printed, if the bytes list pairs
-abbrev pub AreListed : Form → (pick : Pairs → Pairs) → (limit : Option ℕ) → TrieKind → (bytes : List ℕ) → (old new : Option (List ℕ)) → Type 0
-AreListed form pick limit kind bytes old new = (pairs : Pairs) → Lists (kind_of kind) bytes pairs → ArePrinted form (limited limit (pick pairs)) old new
+-- the pairs of a selection were printed, if the bytes list pairs
+abbrev pub AreListed : Form → ListQuery → TrieKind → (bytes : List ℕ) → (old new : Option (List ℕ)) → Type 0
+AreListed form s kind bytes old new = (pairs : Pairs) → Lists (kind_of kind) bytes pairs → IsPrintable form (first_picked s kind pairs) × Appends old new (printed form s kind pairs)
 
 -- a beginning of what is printed of them was printed, if the bytes list pairs
-abbrev pub AreListedInPart : Form → (pick : Pairs → Pairs) → (limit : Option ℕ) → TrieKind → (bytes : List ℕ) → (old new : Option (List ℕ)) → Type 0
-AreListedInPart form pick limit kind bytes old new = (pairs : Pairs) → Lists (kind_of kind) bytes pairs
-    → AppendsPart old new (listed form (limited limit (pick pairs)))
+abbrev pub AreListedInPart : Form → ListQuery → TrieKind → (bytes : List ℕ) → (old new : Option (List ℕ)) → Type 0
+AreListedInPart form s kind bytes old new = (pairs : Pairs) → Lists (kind_of kind) bytes pairs → AppendsPart old new (printed form s kind pairs)
 
--- they can't be printed so, if the bytes list pairs: this is the first of their keys that is not UTF-8
-abbrev pub AreNoText : Form → (pick : Pairs → Pairs) → (limit : Option ℕ) → TrieKind → (bytes : List ℕ) → (key : List ℕ) → Type 0
-AreNoText form pick limit kind bytes key = (form ≡ Json) × ((pairs : Pairs) → Lists (kind_of kind) bytes pairs → IsFirstNoText (limited limit (pick pairs)) key)
+-- they can't be printed so, if the bytes list pairs: this is the first of their keys that can't
+abbrev pub AreUnprintable : Form → ListQuery → TrieKind → (bytes : List ℕ) → (key : List ℕ) → Type 0
+AreUnprintable form s kind bytes key = (can_print form key ≡ false) × ((pairs : Pairs) → Lists (kind_of kind) bytes pairs → IsFirstUnprintable form (first_picked s kind pairs) key)
 
 -- why they were not printed
-abbrev pub AreUnlisted : Form → (pick : Pairs → Pairs) → (limit : Option ℕ) → TrieKind → (bytes : List ℕ) → (old new : Option (List ℕ)) → ListError → Type 0
-AreUnlisted form pick limit kind bytes old new (NotText key) = AreNoText form pick limit kind bytes key.items × (new ≡ old)
-AreUnlisted form pick limit kind bytes old new (Failed e) = AreListedInPart form pick limit kind bytes old new
+abbrev pub AreUnlisted : Form → ListQuery → TrieKind → (bytes : List ℕ) → (old new : Option (List ℕ)) → ListError → Type 0
+AreUnlisted form s kind bytes old new (Unprintable key) = AreUnprintable form s kind bytes key.items × (new ≡ old)
+AreUnlisted form s kind bytes old new (Failed e) = AreListedInPart form s kind bytes old new
 
 -- what a listing notes of whether a write failed
 abbrev pub IsListingNoted : {T : Type 0} → Result T ListError → Bool → Bool → Type 0
 IsListingNoted (Ok value) old new = new ≡ old
-IsListingNoted (Err (NotText key)) old new = new ≡ old
+IsListingNoted (Err (Unprintable key)) old new = new ≡ old
 IsListingNoted (Err (Failed e)) old new = IsOutOfMemory e ⊎ (new ≡ true)
 
--- the lines of the first pairs of a choice, the nearest first, each with how many edits make its key of the word
-abbrev pub nearest_lines : TrieKind → Choice → (limit : Option ℕ) → Pairs → List ℕ
-nearest_lines kind c limit pairs = measured_lines (measured kind c) (limited limit (picked Nearest kind c pairs))
-
--- these lines were printed, if the bytes list pairs
-abbrev pub AreMeasured : Choice → (limit : Option ℕ) → TrieKind → (bytes : List ℕ) → (old new : Option (List ℕ)) → Type 0
-AreMeasured c limit kind bytes old new = (pairs : Pairs) → Lists (kind_of kind) bytes pairs → Appends old new (nearest_lines kind c limit pairs)
-
--- a beginning of them was printed, if the bytes list pairs
-abbrev pub AreMeasuredInPart : Choice → (limit : Option ℕ) → TrieKind → (bytes : List ℕ) → (old new : Option (List ℕ)) → Type 0
-AreMeasuredInPart c limit kind bytes old new = (pairs : Pairs) → Lists (kind_of kind) bytes pairs → AppendsPart old new (nearest_lines kind c limit pairs)
+-- how many edits a line of distances says that make a key of its word
+abbrev pub edits_said : Distances → List ℕ → ℕ
+edits_said line key = told_by line.word (folded_key (kind_of line.kind) key)

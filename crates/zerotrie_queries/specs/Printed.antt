@@ -1,6 +1,7 @@
 -- The lines that are printed, and the status that is answered.
-use Rattle.std.specs.Prelude.{ℕ, List, [], ◌∷◌, ◌++◌, ◌==◌, ◌&&◌, nat_le, not, Bool, true, codes, decimal, take, length, Option, Some, None, is_some, unwrap_or, if◌then◌else◌}
+use Rattle.std.specs.Prelude.{◌≡◌, ℕ, List, [], ◌∷◌, ◌++◌, ◌==◌, ◌&&◌, nat_le, not, Bool, true, false, codes, decimal, take, length, Option, Some, None, is_some, unwrap_or, if◌then◌else◌}
 use Rattle.std.specs.List.{list_all}
+use Rattle.std.specs.Str.{is_utf8}
 use Rattle.zerotrie_core.specs.Maps.{Pairs}
 use Rattle.zerotrie_lines.specs.Escapes.{escaped}
 use Rattle.zerotrie_lines.specs.Lines.{tsv_line}
@@ -8,7 +9,7 @@ use Rattle.zerotrie_queries.specs.Json.{object_line, pair_json}
 use Rattle.zerotrie_queries.specs.declared.print.Style.{Style}
 use Rattle.zerotrie_queries.specs.declared.print.Style.TheVariants.{Tsv, TsvRaw, Csv, JsonLines, Keys, Values}
 use Rattle.zerotrie_queries.specs.declared.print.Form.{Form}
-use Rattle.zerotrie_queries.specs.declared.print.Form.TheVariants.{Lines, Json, Count}
+use Rattle.zerotrie_queries.specs.declared.print.Form.TheVariants.{Lines, Distances, Json, Count}
 
 -- the line of a number
 abbrev pub number_line : ℕ → List ℕ
@@ -88,12 +89,33 @@ lines_of line (e ∷ pairs) = line e ++ lines_of line pairs
 abbrev pub edits_line : List ℕ × ℕ → (edits : ℕ) → List ℕ
 edits_line e edits = escaped e.0 ++ (9 ∷ (decimal e.1 ++ (9 ∷ number_line edits)))
 
--- the lines of pairs, each with the edits that make its key of a word, or 0 if no number does
-abbrev pub measured_lines : (measure : List ℕ → Option ℕ) → Pairs → List ℕ
-measured_lines measure = lines_of (λ e. edits_line e (unwrap_or (measure e.0) 0))
+-- pairs as they are printed, where this many edits make each key of a word
+abbrev pub listed : Form → (edits : List ℕ → ℕ) → Pairs → List ℕ
+listed (Lines style) edits pairs = lines_of (pair_line style) pairs
+listed Distances edits pairs = lines_of (λ e. edits_line e (edits e.0)) pairs
+listed Json edits pairs = object_line pairs
+listed Count edits pairs = number_line (length pairs)
 
--- pairs as they are printed
-abbrev pub listed : Form → Pairs → List ℕ
-listed (Lines style) pairs = lines_of (pair_line style) pairs
-listed Json pairs = object_line pairs
-listed Count pairs = number_line (length pairs)
+-- a byte that a key has as it is in a line of fields: no tab, and no line feed
+abbrev pub is_raw : ℕ → Bool
+is_raw b = not (b == 9) && not (b == 10)
+
+-- whether a key can be printed so: as JSON one that is UTF-8, and as it is before a tab one that has none
+abbrev pub can_print : Form → List ℕ → Bool
+can_print (Lines Tsv) key = true
+can_print (Lines TsvRaw) key = list_all is_raw key
+can_print (Lines Csv) key = true
+can_print (Lines JsonLines) key = true
+can_print (Lines Keys) key = true
+can_print (Lines Values) key = true
+can_print Distances key = true
+can_print Json key = is_utf8 key
+can_print Count key = true
+
+-- whether all keys of pairs can
+abbrev pub are_printable : Form → Pairs → Bool
+are_printable form pairs = list_all (λ (e : List ℕ × ℕ). can_print form e.0) pairs
+
+-- the key is the first that can't
+abbrev pub IsFirstUnprintable : Form → Pairs → List ℕ → Type 0
+IsFirstUnprintable form pairs key = (front back : Pairs) × (value : ℕ) × (pairs ≡ front ++ (key, value) ∷ back) × (are_printable form front ≡ true) × (can_print form key ≡ false)

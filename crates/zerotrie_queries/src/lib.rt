@@ -30,7 +30,7 @@ pub use any_case::{collect, look_up_all, of_sorted, recased};
 pub use code::{Language, is_name, write_trie_code};
 pub use diff::write_diff;
 pub use file::{OpenError, of_tagged, open, open_unchecked};
-pub use listing::{ListError, write_distances, write_list};
+pub use listing::{ListError, write_list};
 pub use lookups::{add_answers_at, write_answers};
 pub use print::{Form, Style};
 pub use question::{Asked, Choice, Finder, ListQuery, Order, Pattern, Query, Sought, Spelling};

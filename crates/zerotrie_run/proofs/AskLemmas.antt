@@ -11,11 +11,9 @@ use Rattle.zerotrie_queries.specs.code.Code.{whole_code}
 use Rattle.zerotrie_queries.specs.views.Views.{shown}
 use Rattle.zerotrie_queries.specs.reports.Reports.{report_of}
 use Rattle.zerotrie_queries.specs.reports.Forms.{reported}
-use Rattle.zerotrie_queries.specs.Printed.{listed}
 use Rattle.zerotrie_queries.specs.Answers.{AreAnswered}
 use Rattle.zerotrie_queries.specs.declared.question.Query.{Query}
-use Rattle.zerotrie_queries.specs.Sorted.{picked}
-use Rattle.zerotrie_queries.specs.Listed.{limited, nearest_lines}
+use Rattle.zerotrie_queries.specs.Listed.{printed}
 use Rattle.zerotrie_queries.proofs.PartLemmas.{part_all}
 use Rattle.zerotrie_queries.proofs.AnswerLemmas.{begun_all}
 use Rattle.zerotrie_files.specs.Disks.{Story}
@@ -26,7 +24,7 @@ use Rattle.zerotrie_run.specs.Runs.Content.{of_trie, of_index, in_blocks}
 use Rattle.zerotrie_run.specs.Runs.{Answers, AnswersInPart, Content, ContentAnswers, ContentAnswersInPart, IndexAnswers, IndexAnswersInPart, AreKeys, KeysAnswered, KeysAnsweredInPart, IsNoAnswer, IsRead, IsUnanswered, AreLines, HasNoKeys, HasNoLines, Opens, EndsAsk, ask_refusal, are_lines, of_lines, IsUnasked, LeavesKeys, LeavesInputOf}
 use Rattle.zerotrie_run.specs.Told.{HasReason}
 use Rattle.zerotrie_run.specs.declared.ask.AskError.{AskError}
-use Rattle.zerotrie_run.specs.declared.ask.AskError.TheVariants.{Unread, NoTrie, NotText, Unanswered}
+use Rattle.zerotrie_run.specs.declared.ask.AskError.TheVariants.{Unread, NoTrie, Unprintable, Unanswered}
 use Rattle.zerotrie_making.specs.declared.others.OtherFile.{OtherFile}
 use Rattle.zerotrie_run.specs.declared.stdin_lines.AnswerError.{AnswerError}
 use Rattle.zerotrie_run.specs.declared.stdin_lines.AnswerError.TheVariants.{Input, NoLines, Output}
@@ -37,7 +35,7 @@ use Rattle.zerotrie_run.specs.declared.status.Status.TheVariants.{BadUsage}
 use Rattle.zerotrie_run.specs.declared.command.Keys.{Keys}
 use Rattle.zerotrie_run.specs.declared.command.Keys.TheVariants.{Words, Lines}
 use Rattle.zerotrie_run.specs.declared.command.Question.{Question}
-use Rattle.zerotrie_run.specs.declared.command.Question.TheVariants.{LookUp, List as Listing, Distances, Code, Report, Verify, View}
+use Rattle.zerotrie_run.specs.declared.command.Question.TheVariants.{LookUp, List as Listing, Code, Report, Verify, View}
 
 -- a flush leaves what was answered
 pub kept_texts : (of : Query) (Has : Dictionary → Type 0) (texts : List (List ℕ)) (a b c : Option (List ℕ)) (all : Bool) → AreAnswered of Has texts a b all → Keeps b c
@@ -48,8 +46,7 @@ kept_texts of Has texts a b c all h k at has = let x = h at has in (x.0, x.1, Ap
 kept_answer : (q : Question) (input : Option (List ℕ)) (kind : TrieKind) (bytes : List ℕ) (a b c : Option (List ℕ)) (all : Bool) → Answers q input kind bytes a b all → Keeps b c
     → Answers q input kind bytes a c all
 kept_answer (LookUp of keys) input kind bytes a b c all h k = (h.0, h.1, kept_texts of (TrieFinds kind bytes) h.0 a b c all h.2 k)
-kept_answer (Listing form s) input kind bytes a b c all h k = (h.0, λ pairs lists. let x = h.1 pairs lists in (x.0, Appends-kept a b c (listed form (limited s.limit (picked s.order kind s.choice pairs))) x.1 k))
-kept_answer (Distances choice limit) input kind bytes a b c all h k = (h.0, λ pairs lists. Appends-kept a b c (nearest_lines kind choice limit pairs) (h.1 pairs lists) k)
+kept_answer (Listing form s) input kind bytes a b c all h k = (h.0, λ pairs lists. let x = h.1 pairs lists in (x.0, Appends-kept a b c (printed form s kind pairs) x.1 k))
 kept_answer (Code language name) input kind bytes a b c all h k = (h.0, Appends-kept a b c (whole_code language kind name.now bytes) h.1 k)
 kept_answer Verify input kind bytes a b c all h k = (h.0, Keeps-trans a b c h.1 k)
 kept_answer (Report form) input kind bytes a b c all h k = (h.0, Appends-kept a b c (reported form (report_of kind bytes)) h.1 k)
@@ -58,7 +55,6 @@ kept_answer (View view) input kind bytes a b c all h k = (h.0, Appends-kept a b 
 kept_index : (q : Question) (input : Option (List ℕ)) (bytes : List ℕ) (a b c : Option (List ℕ)) (all : Bool) → IndexAnswers q input bytes a b all → Keeps b c → IndexAnswers q input bytes a c all
 kept_index (LookUp of keys) input bytes a b c all h k = (h.0, h.1, kept_texts of (IndexFinds of.asked bytes) h.0 a b c all h.2 k)
 kept_index (Listing form s) input bytes a b c all h k = (h.0, Keeps-trans a b c h.1 k)
-kept_index (Distances choice limit) input bytes a b c all h k = (h.0, Keeps-trans a b c h.1 k)
 kept_index (Code language name) input bytes a b c all h k = (h.0, Keeps-trans a b c h.1 k)
 kept_index Verify input bytes a b c all h k = (h.0, Keeps-trans a b c h.1 k)
 kept_index (Report form) input bytes a b c all h k = (h.0, Keeps-trans a b c h.1 k)
@@ -83,7 +79,6 @@ other_input : (q : Question) (i j : Option (List ℕ)) (kind : TrieKind) (bytes 
     → Answers q j kind bytes a b all
 other_input (LookUp of keys) i j kind bytes a b all apart h = (h.0, (other_keys keys i j h.0 apart h.1.0, other_lines keys i j apart h.1.1), h.2)
 other_input (Listing form s) i j kind bytes a b all apart h = h
-other_input (Distances choice limit) i j kind bytes a b all apart h = h
 other_input (Code language name) i j kind bytes a b all apart h = h
 other_input Verify i j kind bytes a b all apart h = h
 other_input (Report form) i j kind bytes a b all apart h = h
@@ -92,7 +87,6 @@ other_input (View view) i j kind bytes a b all apart h = h
 other_input_index : (q : Question) (i j : Option (List ℕ)) (bytes : List ℕ) (a b : Option (List ℕ)) (all : Bool) → (of_lines q ≡ true → ⊥) → IndexAnswers q i bytes a b all → IndexAnswers q j bytes a b all
 other_input_index (LookUp of keys) i j bytes a b all apart h = (h.0, (other_keys keys i j h.0 apart h.1.0, other_lines keys i j apart h.1.1), h.2)
 other_input_index (Listing form s) i j bytes a b all apart h = h
-other_input_index (Distances choice limit) i j bytes a b all apart h = h
 other_input_index (Code language name) i j bytes a b all apart h = h
 other_input_index Verify i j bytes a b all apart h = h
 other_input_index (Report form) i j bytes a b all apart h = h
@@ -130,8 +124,7 @@ by_table kind bytes asked t k b is d h = (is, subst (λ x. KindFinds x t.bytes d
 -- an answer is a beginning of itself
 trie_in_part : (q : Question) (input : Option (List ℕ)) (kind : TrieKind) (bytes : List ℕ) (a b : Option (List ℕ)) (all : Bool) → Answers q input kind bytes a b all → AnswersInPart q input kind bytes a b
 trie_in_part (LookUp of keys) input kind bytes a b all h = keys_in_part of keys input (TrieFinds kind bytes) a b all h
-trie_in_part (Listing form s) input kind bytes a b all h = λ pairs lists. part_all a b (listed form (limited s.limit (picked s.order kind s.choice pairs))) (h.1 pairs lists).1
-trie_in_part (Distances choice limit) input kind bytes a b all h = λ pairs lists. part_all a b (nearest_lines kind choice limit pairs) (h.1 pairs lists)
+trie_in_part (Listing form s) input kind bytes a b all h = λ pairs lists. part_all a b (printed form s kind pairs) (h.1 pairs lists).1
 trie_in_part (Code language name) input kind bytes a b all h = part_all a b (whole_code language kind name.now bytes) h.1
 trie_in_part Verify input kind bytes a b all h = h.1
 trie_in_part (Report form) input kind bytes a b all h = part_all a b (reported form (report_of kind bytes)) h.1
@@ -140,7 +133,6 @@ trie_in_part (View view) input kind bytes a b all h = part_all a b (shown view k
 index_in_part : (q : Question) (input : Option (List ℕ)) (bytes : List ℕ) (a b : Option (List ℕ)) (all : Bool) → IndexAnswers q input bytes a b all → IndexAnswersInPart q input bytes a b
 index_in_part (LookUp of keys) input bytes a b all h = keys_in_part of keys input (IndexFinds of.asked bytes) a b all h
 index_in_part (Listing form s) input bytes a b all h = h.1
-index_in_part (Distances choice limit) input bytes a b all h = h.1
 index_in_part (Code language name) input bytes a b all h = h.1
 index_in_part Verify input bytes a b all h = h.1
 index_in_part (Report form) input bytes a b all h = h.1
@@ -155,7 +147,6 @@ answer_in_part (in_blocks start held) q input a b all h = λ bytes has. index_in
 other_part : (q : Question) (i j : Option (List ℕ)) (kind : TrieKind) (bytes : List ℕ) (a b : Option (List ℕ)) → (of_lines q ≡ true → ⊥) → AnswersInPart q i kind bytes a b → AnswersInPart q j kind bytes a b
 other_part (LookUp of keys) i j kind bytes a b apart h = (h.0, other_keys keys i j h.0 apart h.1, h.2)
 other_part (Listing form s) i j kind bytes a b apart h = h
-other_part (Distances choice limit) i j kind bytes a b apart h = h
 other_part (Code language name) i j kind bytes a b apart h = h
 other_part Verify i j kind bytes a b apart h = h
 other_part (Report form) i j kind bytes a b apart h = h
@@ -164,7 +155,6 @@ other_part (View view) i j kind bytes a b apart h = h
 other_part_index : (q : Question) (i j : Option (List ℕ)) (bytes : List ℕ) (a b : Option (List ℕ)) → (of_lines q ≡ true → ⊥) → IndexAnswersInPart q i bytes a b → IndexAnswersInPart q j bytes a b
 other_part_index (LookUp of keys) i j bytes a b apart h = (h.0, other_keys keys i j h.0 apart h.1, h.2)
 other_part_index (Listing form s) i j bytes a b apart h = h
-other_part_index (Distances choice limit) i j bytes a b apart h = h
 other_part_index (Code language name) i j bytes a b apart h = h
 other_part_index Verify i j bytes a b apart h = h
 other_part_index (Report form) i j bytes a b apart h = h
@@ -187,7 +177,6 @@ other_no_keys (LookUp of (Words words)) i j a b (Input e) apart h = h
 other_no_keys (LookUp of (Words words)) i j a b (NoLines o) apart h = absurd h.0
 other_no_keys (LookUp of (Words words)) i j a b (Output e) apart h = h
 other_no_keys (Listing form s) i j a b e apart h = h
-other_no_keys (Distances choice limit) i j a b e apart h = h
 other_no_keys (Code language name) i j a b e apart h = h
 other_no_keys Verify i j a b e apart h = h
 other_no_keys (Report form) i j a b e apart h = h
@@ -201,7 +190,6 @@ same_keys place remaining old new q a b e apart (inr is) h = subst (λ r. HasNoK
 no_lines : (q : Question) (i : Option (List ℕ)) (a b : Option (List ℕ)) (o : OtherFile) → HasNoKeys q i a b (NoLines o) → HasNoLines q i o × (b ≡ a)
 no_lines (LookUp of keys) i a b o h = h
 no_lines (Listing form s) i a b o h = absurd (cc)
-no_lines (Distances choice limit) i a b o h = absurd (cc)
 no_lines (Code language name) i a b o h = absurd (cc)
 no_lines Verify i a b o h = absurd (cc)
 no_lines (Report form) i a b o h = absurd (cc)
@@ -221,7 +209,7 @@ ends_unanswered file q i j files held old new (Unanswered (Output e)) read same 
 ends_unanswered file q i j files held old new (Unanswered (NoLines o)) read same keys h =
     let none = no_lines q i old new o (keys (NoLines o) h.3) in
     (o, record { held = held; read = read; content = h.0; opens = h.1; keys = none.0 }, none.1)
-ends_unanswered file q i j files held old new (NotText key) read same keys h = (key.items, record { held = held; read = read; kind = h.0; bytes = h.1; opens = h.2; shows = h.3 }, h.4)
+ends_unanswered file q i j files held old new (Unprintable form key) read same keys h = (form, key.items, record { held = held; read = read; kind = h.0; bytes = h.1; opens = h.2; shows = h.3 }, h.4)
 
 -- why it has none is so of what was read
 pub reason_unanswered : (file : TrieFile) (q : Question) (i j : Option (List ℕ)) (files : Option Story) (held : List ℕ) (old new : Option (List ℕ)) (e : AskError) → IsRead file.place i files held
@@ -232,7 +220,7 @@ reason_unanswered file q i j files held old new (NoTrie why t) read keys h = (he
 reason_unanswered file q i j files held old new (Unanswered (Input e)) read keys h = tt
 reason_unanswered file q i j files held old new (Unanswered (Output e)) read keys h = tt
 reason_unanswered file q i j files held old new (Unanswered (NoLines o)) read keys h = (no_lines q i old new o (keys (NoLines o) h.3)).0
-reason_unanswered file q i j files held old new (NotText key) read keys h = record { held = held; read = read; kind = h.0; bytes = h.1; opens = h.2; shows = h.3 }
+reason_unanswered file q i j files held old new (Unprintable form key) read keys h = record { held = held; read = read; kind = h.0; bytes = h.1; opens = h.2; shows = h.3 }
 
 -- what is opened and has no answer is unanswered
 pub unanswered_of : (file : TrieFile) (q : Question) (input : Option (List ℕ)) (held : List ℕ) (old new : Option (List ℕ)) (kind : TrieKind) (bytes : List ℕ) (e : AskError) → Opens file held kind bytes
@@ -240,7 +228,7 @@ pub unanswered_of : (file : TrieFile) (q : Question) (input : Option (List ℕ))
     → IsUnanswered file q input held old new e
 unanswered_of file q input held old new kind bytes (Unread e) opens h = h
 unanswered_of file q input held old new kind bytes (NoTrie why t) opens h = absurd h
-unanswered_of file q input held old new kind bytes (NotText key) opens h = (kind, bytes, opens, h.0, h.1)
+unanswered_of file q input held old new kind bytes (Unprintable form key) opens h = (kind, bytes, opens, h.0, h.1)
 unanswered_of file q input held old new kind bytes (Unanswered e) opens h = (of_trie kind bytes, opens, h.0, h.1)
 
 -- a question that is asked is not refused for its words
@@ -250,7 +238,7 @@ not_misused (NoTrie (BadTag why) hint) is = cc is
 not_misused (NoTrie (Damaged why) hint) is = cc is
 not_misused (NoTrie (NotWellFormed kind fault) hint) is = cc is
 not_misused (NoTrie OutOfMemory hint) is = cc is
-not_misused (NotText key) is = cc is
+not_misused (Unprintable form key) is = cc is
 not_misused (Unanswered (Input e)) is = cc is
 not_misused (Unanswered (NoLines other)) is = cc is
 not_misused (Unanswered (Output e)) is = cc is

@@ -99,7 +99,7 @@ ends_unopened diff file input files held a b (ask.NoTrie (BadTag why) t) of r h 
 ends_unopened diff file input files held a b (ask.NoTrie (Damaged why) t) of r h same = ((file, of, (held, r, Damaged why, h.0)), same)
 ends_unopened diff file input files held a b (ask.NoTrie (NotWellFormed k f) t) of r h same = ((file, of, (held, r, NotWellFormed k f, h.0)), same)
 ends_unopened diff file input files held a b (ask.NoTrie unopened.OutOfMemory t) of r h same = inl same
-ends_unopened diff file input files held a b (ask.NotText key) of r h same = absurd h
+ends_unopened diff file input files held a b (ask.Unprintable form key) of r h same = absurd h
 ends_unopened diff file input files held a b (ask.Unanswered e) of r h same = absurd h
 
 -- a file is refused by its front, and so the comparison ends, for this reason
@@ -118,7 +118,7 @@ reason_refused file input files why hint h = let r = h input in (r.0, r.1, unkno
 ends_begun : (diff : Diff) (input : Option (List ℕ)) (files : Option Story) (a b : Option (List ℕ)) (e : AskError) → IsUnanswered e → IsDiffedInPart diff input files a b → EndsDiff diff input files a b (ask_refusal e)
 ends_begun diff input files a b (ask.Unread e) is h = absurd is
 ends_begun diff input files a b (ask.NoTrie why t) is h = absurd is
-ends_begun diff input files a b (ask.NotText key) is h = absurd is
+ends_begun diff input files a b (ask.Unprintable form key) is h = absurd is
 ends_begun diff input files a b (ask.Unanswered (answer.Input e)) is h = inr h
 ends_begun diff input files a b (ask.Unanswered (answer.NoLines o)) is h = absurd is
 ends_begun diff input files a b (ask.Unanswered (answer.Output e)) is h = inr h
@@ -133,13 +133,13 @@ ends_uncompared diff input files held other a b e r s (inr h) = ends_begun diff 
 reason_unopened : (file : TrieFile) (input : Option (List ℕ)) (files : Option Story) (held : List ℕ) (e : AskError) → IsRead file.place input files held → HasNoTrieIn file held e → HasReason (IsUnopened file) file Verify input files e
 reason_unopened file input files held (ask.Unread e) r h = absurd h
 reason_unopened file input files held (ask.NoTrie why t) r h = (held, r, h.0, h.1)
-reason_unopened file input files held (ask.NotText key) r h = absurd h
+reason_unopened file input files held (ask.Unprintable form key) r h = absurd h
 reason_unopened file input files held (ask.Unanswered e) r h = absurd h
 
 reason_unanswered : (file : TrieFile) (input : Option (List ℕ)) (files : Option Story) (e : AskError) → IsUnanswered e → HasReason (IsUnopened file) file Verify input files e
 reason_unanswered file input files (ask.Unread e) h = absurd h
 reason_unanswered file input files (ask.NoTrie why t) h = absurd h
-reason_unanswered file input files (ask.NotText key) h = absurd h
+reason_unanswered file input files (ask.Unprintable form key) h = absurd h
 reason_unanswered file input files (ask.Unanswered (answer.Input e)) h = tt
 reason_unanswered file input files (ask.Unanswered (answer.NoLines o)) h = absurd h
 reason_unanswered file input files (ask.Unanswered (answer.Output e)) h = tt
@@ -167,7 +167,7 @@ as_asked file i files (ask.NoTrie why t) h = (h.0, h.1, inl h.2, h.3)
 as_asked file i files (ask.Unanswered (answer.Input e)) h = tt
 as_asked file i files (ask.Unanswered (answer.NoLines o)) h = absurd h
 as_asked file i files (ask.Unanswered (answer.Output e)) h = tt
-as_asked file i files (ask.NotText key) h = absurd h.shows
+as_asked file i files (ask.Unprintable form key) h = absurd h.shows
 
 -- a place of a question to one of the files is a place of the comparison
 place_in : (diff : Diff) (file : TrieFile) (name : List ℕ) → IsFileOf diff file → IsPlaceOf (commands.Ask file a_report) name → IsPlaceOf (commands.Diff diff) name

@@ -72,7 +72,7 @@ of_ask (ask.NoTrie unopened.OutOfMemory t) = is_failed
 of_ask (ask.Unanswered (answer.Input e)) = is_failed
 of_ask (ask.Unanswered (answer.NoLines o)) = is_keys
 of_ask (ask.Unanswered (answer.Output e)) = is_failed
-of_ask (ask.NotText key) = is_refused
+of_ask (ask.Unprintable form key) = is_refused
 
 of_combine : (e : CombineError) → Refusal (combine_refusal e)
 of_combine (combine.Unopened number e) = is_failed

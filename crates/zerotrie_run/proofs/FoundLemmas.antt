@@ -9,15 +9,16 @@ use Rattle.zerotrie_core.specs.Texts.{Lists}
 use Rattle.zerotrie_core.specs.Kinds.{kind_of}
 use Rattle.zerotrie_core.specs.declared.TrieKind.{TrieKind}
 use Rattle.zerotrie_files.specs.Parts.{AppendsPart}
-use Rattle.zerotrie_queries.specs.Listed.{AreListed, AreListedInPart, AreMeasuredInPart, AreUnlisted, ArePrinted, limited, nearest_lines}
-use Rattle.zerotrie_queries.specs.Printed.{lines_of, listed, pair_line}
-use Rattle.zerotrie_queries.specs.Json.{IsFirstNoText}
+use Rattle.zerotrie_queries.specs.Chosen.{told_edits}
+use Rattle.zerotrie_queries.specs.Listed.{AreListed, AreListedInPart, AreUnlisted, IsPrintable, first_picked, limited, printed}
+use Rattle.zerotrie_queries.specs.Printed.{IsFirstUnprintable, lines_of, listed, pair_line}
+use Rattle.zerotrie_queries.specs.Sorted.{picked}
 use Rattle.zerotrie_queries.specs.declared.print.Form.{Form}
 use Rattle.zerotrie_queries.specs.declared.print.Form.TheVariants.{Lines}
 use Rattle.zerotrie_queries.specs.declared.print.Style.TheVariants.{Keys}
-use Rattle.zerotrie_queries.specs.declared.question.Choice.{Choice}
+use Rattle.zerotrie_queries.specs.declared.question.ListQuery.{ListQuery}
 use Rattle.zerotrie_queries.specs.declared.listing.ListError.{ListError}
-use Rattle.zerotrie_queries.specs.declared.listing.ListError.TheVariants.{NotText, Failed}
+use Rattle.zerotrie_queries.specs.declared.listing.ListError.TheVariants.{Unprintable, Failed}
 use Rattle.zerotrie_run.specs.Runs.{AreFound, has_pair, limit_shown}
 
 -- a line has a byte
@@ -32,42 +33,44 @@ by_limit (Some zero) pairs some = absurd (some refl)
 by_limit (Some (suc n)) [] some = refl
 by_limit (Some (suc n)) (e ∷ pairs) some = ap not (line_some e.0 e.1)
 
-pub first_found : (pick : Pairs → Pairs) (limit : Option ℕ) (kind : TrieKind) (bytes text : List ℕ) (empty : Bool) → limit ≢ Some 0
-    → AreListed (Lines Keys) pick (Some 1) kind bytes (Some []) (Some text) → empty ≡ (length text == 0) → AreFound pick limit kind bytes (not empty)
-first_found pick limit kind bytes text empty some listed is = λ pairs lists.
-    ap not is ∙ ap (λ t. not (length t == 0)) (listed pairs lists).1 ∙ by_limit limit (pick pairs) some
+-- a selection with another limit
+abbrev pub with_limit : Option ℕ → ListQuery → ListQuery
+with_limit limit s = record { choice = s.choice; order = s.order; limit = limit }
+
+pub first_found : (s : ListQuery) (kind : TrieKind) (bytes text : List ℕ) (empty : Bool) → s.limit ≢ Some 0
+    → AreListed (Lines Keys) (with_limit (Some 1) s) kind bytes (Some []) (Some text) → empty ≡ (length text == 0) → AreFound s kind bytes (not empty)
+first_found s kind bytes text empty some listed is = λ pairs lists.
+    ap not is ∙ ap (λ t. not (length t == 0)) (listed pairs lists).1 ∙ by_limit s.limit (picked s.order kind s.choice pairs) some
 
 -- a limit of no pair finds none
-pub none_found : (pick : Pairs → Pairs) (kind : TrieKind) (bytes : List ℕ) → AreFound pick (Some 0) kind bytes false
-none_found pick kind bytes = λ pairs lists. refl
+pub none_found : (s : ListQuery) (kind : TrieKind) (bytes : List ℕ) → s.limit ≡ Some 0 → AreFound s kind bytes false
+none_found s kind bytes none = λ pairs lists. ap (λ limit. has_pair (limited limit (picked s.order kind s.choice pairs))) (sym none)
 
 empty : (pairs : Pairs) → false ≡ has_pair pairs → pairs ≡ []
 empty [] e = refl
 empty (x ∷ pairs) e = absurd (cc e)
 
 -- what is shown is what there is
-pub same_shown : (pick : Pairs → Pairs) (limit : Option ℕ) (kind : TrieKind) (bytes : List ℕ) (found : Bool) → AreFound pick limit kind bytes found
-    → (pairs : Pairs) → Lists (kind_of kind) bytes pairs → limited (limit_shown found limit) (pick pairs) ≡ limited limit (pick pairs)
-same_shown pick limit kind bytes true is pairs lists = refl
-same_shown pick limit kind bytes false is pairs lists = sym (empty (limited limit (pick pairs)) (is pairs lists))
+same_shown : (s : ListQuery) (kind : TrieKind) (bytes : List ℕ) (found : Bool) → AreFound s kind bytes found
+    → (pairs : Pairs) → Lists (kind_of kind) bytes pairs → first_picked (with_limit (limit_shown found s.limit) s) kind pairs ≡ first_picked s kind pairs
+same_shown s kind bytes true is pairs lists = refl
+same_shown s kind bytes false is pairs lists = sym (empty (first_picked s kind pairs) (is pairs lists))
 
-pub all_shown : (form : Form) (pick : Pairs → Pairs) (limit : Option ℕ) (kind : TrieKind) (bytes : List ℕ) (found : Bool) (a b : Option (List ℕ)) → AreFound pick limit kind bytes found
-    → AreListed form pick (limit_shown found limit) kind bytes a b → AreListed form pick limit kind bytes a b
-all_shown form pick limit kind bytes found a b is h = λ pairs lists. subst (λ ps. ArePrinted form ps a b) (same_shown pick limit kind bytes found is pairs lists) (h pairs lists)
+pub all_shown : (form : Form) (s : ListQuery) (kind : TrieKind) (bytes : List ℕ) (found : Bool) (a b : Option (List ℕ)) → AreFound s kind bytes found
+    → AreListed form (with_limit (limit_shown found s.limit) s) kind bytes a b → AreListed form s kind bytes a b
+all_shown form s kind bytes found a b is h = λ pairs lists.
+    subst (λ ps. IsPrintable form ps × Appends a b (listed form (told_edits kind s.choice) ps)) (same_shown s kind bytes found is pairs lists) (h pairs lists)
 
-pub none_shown : (form : Form) (pick : Pairs → Pairs) (limit : Option ℕ) (kind : TrieKind) (bytes : List ℕ) (found : Bool) (a b : Option (List ℕ)) (e : ListError) → AreFound pick limit kind bytes found
-    → AreUnlisted form pick (limit_shown found limit) kind bytes a b e → AreUnlisted form pick limit kind bytes a b e
-none_shown form pick limit kind bytes found a b (NotText key) is h =
-    ((h.0.0, λ pairs lists. subst (λ ps. IsFirstNoText ps key.items) (same_shown pick limit kind bytes found is pairs lists) (h.0.1 pairs lists)), h.1)
-none_shown form pick limit kind bytes found a b (Failed e) is h = λ pairs lists. subst (λ ps. AppendsPart a b (listed form ps)) (same_shown pick limit kind bytes found is pairs lists) (h pairs lists)
+pub none_shown : (form : Form) (s : ListQuery) (kind : TrieKind) (bytes : List ℕ) (found : Bool) (a b : Option (List ℕ)) (e : ListError) → AreFound s kind bytes found
+    → AreUnlisted form (with_limit (limit_shown found s.limit) s) kind bytes a b e → AreUnlisted form s kind bytes a b e
+none_shown form s kind bytes found a b (Unprintable key) is h =
+    ((h.0.0, λ pairs lists. subst (λ ps. IsFirstUnprintable form ps key.items) (same_shown s kind bytes found is pairs lists) (h.0.1 pairs lists)), h.1)
+none_shown form s kind bytes found a b (Failed e) is h = λ pairs lists. subst (λ ps. AppendsPart a b (listed form (told_edits kind s.choice) ps)) (same_shown s kind bytes found is pairs lists) (h pairs lists)
 
 -- nothing is a beginning of all
 pub part_none : (a : Option (List ℕ)) (text : List ℕ) → AppendsPart a a text
 part_none a text = record { part = []; rest = text; is = refl; appends = Appends-nil a }
 
 -- if it is not searched, nothing is listed
-pub none_listed : (form : Form) (pick : Pairs → Pairs) (limit : Option ℕ) (kind : TrieKind) (bytes : List ℕ) (a : Option (List ℕ)) → AreListedInPart form pick limit kind bytes a a
-none_listed form pick limit kind bytes a = λ pairs lists. part_none a (listed form (limited limit (pick pairs)))
-
-pub none_measured : (c : Choice) (limit : Option ℕ) (kind : TrieKind) (bytes : List ℕ) (a : Option (List ℕ)) → AreMeasuredInPart c limit kind bytes a a
-none_measured c limit kind bytes a = λ pairs lists. part_none a (nearest_lines kind c limit pairs)
+pub none_listed : (form : Form) (s : ListQuery) (kind : TrieKind) (bytes : List ℕ) (a : Option (List ℕ)) → AreListedInPart form s kind bytes a a
+none_listed form s kind bytes a = λ pairs lists. part_none a (printed form s kind pairs)

@@ -7,7 +7,7 @@ use Rattle.zerotrie_files.specs.Disks.{Story}
 use Rattle.zerotrie_queries.specs.declared.file.OpenError.TheVariants as unopened
 use Rattle.zerotrie_making.specs.declared.error.MakeError.TheVariants as made
 use Rattle.zerotrie_run.specs.Statuses.{failure}
-use Rattle.zerotrie_run.specs.Messages.{IsLineOn, TellsAsk, TellsBuild, line_front, no_keys_line, not_text_line, source_name, taken_line, target_name, unit_of}
+use Rattle.zerotrie_run.specs.Messages.{IsLineOn, TellsAsk, TellsBuild, line_front, no_keys_line, source_name, taken_line, target_name, unit_of, unprintable_line}
 use Rattle.zerotrie_run.specs.Runs.{ask_refusal, build_refusal, IsUnasked}
 use Rattle.zerotrie_run.specs.Told.{TellsMore, ToldLast, LineTold, IsPlaceOf, HasReason, HasCause, IsTold, told_made}
 use Rattle.zerotrie_run.specs.declared.command.Build.{Build}
@@ -72,7 +72,7 @@ ask_text_told file q input files a b c text read write closed (ask.Unanswered (a
 ask_text_told file q input files a b c text read write closed (ask.Unanswered (answer.Output e)) cause tells more h =
     failure_told (commands.Ask file q) input files a b c text (codes "standard output") read write closed (inr (inr refl)) tells more h
 ask_text_told file q input files a b c text read write closed (ask.Unanswered (answer.NoLines o)) cause tells more h = (o, cause, told_exactly a b c text (no_keys_line o) tells more h)
-ask_text_told file q input files a b c text read write closed (ask.NotText key) cause tells more h = (key.items, cause, told_exactly a b c text (not_text_line (source_name file.place) key.items) tells more h)
+ask_text_told file q input files a b c text read write closed (ask.Unprintable form key) cause tells more h = (form, key.items, cause, told_exactly a b c text (unprintable_line (source_name file.place) form key.items) tells more h)
 
 -- what is told of a place and a length is told of those that are the same
 pub made_is : (told : Bool) (text words place name : List ℕ) (keys len n : ℕ) → text ≡ words → words ≡ told_made told place keys len → place ≡ name → len ≡ n → text ≡ told_made told name keys n

@@ -106,14 +106,14 @@ pub record NotesNumbers (diff : Diff) (input : Option (List ℕ)) (files : Optio
 abbrev pub IsUnread : AskError → Type 0
 IsUnread (ask.Unread e) = Unit {0}
 IsUnread (ask.NoTrie why hint) = ⊥
-IsUnread (ask.NotText key) = ⊥
+IsUnread (ask.Unprintable form key) = ⊥
 IsUnread (ask.Unanswered e) = ⊥
 
 -- why what was read of a file is not opened
 abbrev pub HasNoTrieIn : TrieFile → List ℕ → AskError → Type 0
 HasNoTrieIn file held (ask.Unread e) = ⊥
 HasNoTrieIn file held (ask.NoTrie why hint) = IsUnopened file held why × IsHint held hint
-HasNoTrieIn file held (ask.NotText key) = ⊥
+HasNoTrieIn file held (ask.Unprintable form key) = ⊥
 HasNoTrieIn file held (ask.Unanswered e) = ⊥
 
 -- What two files hold was compared.
@@ -144,7 +144,7 @@ IsOneUnopened diff held other e = ((e.file ≡ old_file diff) × HasNoTrieIn (ol
 abbrev pub IsUnanswered : AskError → Type 0
 IsUnanswered (ask.Unread e) = ⊥
 IsUnanswered (ask.NoTrie why hint) = ⊥
-IsUnanswered (ask.NotText key) = ⊥
+IsUnanswered (ask.Unprintable form key) = ⊥
 IsUnanswered (ask.Unanswered (Input e)) = Unit {0}
 IsUnanswered (ask.Unanswered (NoLines other)) = ⊥
 IsUnanswered (ask.Unanswered (Output e)) = Unit {0}

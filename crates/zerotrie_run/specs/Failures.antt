@@ -37,7 +37,7 @@ AnswerFailed read write (Output e) = IsFailureOf write e
 abbrev pub AskFailed : (read write : Type 0) → AskError → Type 0
 AskFailed read write (ask.Unread e) = IsFailureOf read e
 AskFailed read write (ask.NoTrie why hint) = Unit {0}
-AskFailed read write (ask.NotText key) = Unit {0}
+AskFailed read write (ask.Unprintable form key) = Unit {0}
 AskFailed read write (ask.Unanswered e) = AnswerFailed read write e
 
 -- of one that no file is made

@@ -17,6 +17,8 @@ use Rattle.zerotrie_index.specs.declared.error.ZeroIndexBuildError.{ZeroIndexBui
 use Rattle.zerotrie_index.specs.declared.error.ZeroIndexBuildError.TheVariants as index
 use Rattle.zerotrie_queries.specs.declared.file.OpenError.{OpenError}
 use Rattle.zerotrie_queries.specs.declared.file.OpenError.TheVariants as unopened
+use Rattle.zerotrie_queries.specs.declared.print.Form.{Form}
+use Rattle.zerotrie_queries.specs.declared.print.Form.TheVariants.{Lines, Distances, Json, Count}
 use Rattle.zerotrie_making.specs.declared.plan.Source.{Source}
 use Rattle.zerotrie_making.specs.declared.plan.Source.TheVariants as source
 use Rattle.zerotrie_making.specs.declared.others.OtherFile.{OtherFile}
@@ -285,8 +287,14 @@ TellsNoTrie file (unopened.NotWellFormed kind first) hint text = text ≡ line_o
 TellsNoTrie file unopened.OutOfMemory hint text = text ≡ line_on (source_name file.place) (codes "out of memory")
 
 -- what is told of pairs that can't be one JSON value: the key that shows it
-abbrev pub not_text_line : (place key : List ℕ) → List ℕ
-not_text_line place key = line_on place (codes "a key is not UTF-8, so take --format jsonl: " ++ told_key key)
+abbrev pub unprintable_words : Form → List ℕ
+unprintable_words (Lines style) = codes "a key has a tab or a line feed, so leave out --raw: "
+unprintable_words Json = codes "a key is not UTF-8, so take --format jsonl: "
+unprintable_words Distances = codes "a key is not UTF-8, so take --format jsonl: "
+unprintable_words Count = codes "a key is not UTF-8, so take --format jsonl: "
+
+abbrev pub unprintable_line : (place : List ℕ) → Form → (key : List ℕ) → List ℕ
+unprintable_line place form key = line_on place (unprintable_words form ++ told_key key)
 
 -- what is told of standard input that is another file, and not lines of keys
 abbrev pub no_keys_line : OtherFile → List ℕ
@@ -299,7 +307,7 @@ TellsAsk file (ask.NoTrie why hint) text = TellsNoTrie file why hint text
 TellsAsk file (ask.Unanswered (Input e)) text = IsLineOn (codes "standard input") text
 TellsAsk file (ask.Unanswered (NoLines other)) text = text ≡ no_keys_line other
 TellsAsk file (ask.Unanswered (Output e)) text = IsLineOn (codes "standard output") text
-TellsAsk file (ask.NotText key) text = text ≡ not_text_line (source_name file.place) key.items
+TellsAsk file (ask.Unprintable form key) text = text ≡ unprintable_line (source_name file.place) form key.items
 
 -- a line warns that a file is read as bare bytes and begins with the number of this kind
 abbrev pub IsNumberLine : (place : List ℕ) → List ℕ → Type 0

@@ -25,9 +25,9 @@ use Rattle.zerotrie_index.specs.InBlocks.{HasRightBlocks}
 use Rattle.zerotrie_index.specs.Layout.{IsIndex}
 use Rattle.zerotrie_sealed.specs.Faults.{IsIndexFault, kind_in}
 use Rattle.zerotrie_sealed.specs.Sealed.{HasFront, IsIndexNumber, IsSealed, IsSealedIndex}
-use Rattle.zerotrie_queries.specs.Sorted.{picked}
-use Rattle.zerotrie_queries.specs.Listed.{AreListed, AreListedInPart, AreMeasured, AreMeasuredInPart, AreNoText, limited}
-use Rattle.zerotrie_queries.specs.declared.question.Order.TheVariants.{Nearest}
+use Rattle.zerotrie_queries.specs.Listed.{AreListed, AreListedInPart, AreUnprintable, first_picked}
+use Rattle.zerotrie_queries.specs.declared.print.Form.{Form}
+use Rattle.zerotrie_queries.specs.declared.question.ListQuery.{ListQuery}
 use Rattle.zerotrie_queries.specs.declared.question.Query.{Query}
 use Rattle.zerotrie_queries.specs.code.Code.{whole_code}
 use Rattle.zerotrie_queries.specs.views.Views.{shown}
@@ -48,7 +48,7 @@ use Rattle.zerotrie_run.specs.declared.command.Place.TheVariants.{File, Stream}
 use Rattle.zerotrie_run.specs.declared.command.Keys.{Keys}
 use Rattle.zerotrie_run.specs.declared.command.Keys.TheVariants.{Words, Lines}
 use Rattle.zerotrie_run.specs.declared.command.Question.{Question}
-use Rattle.zerotrie_run.specs.declared.command.Question.TheVariants.{LookUp, List as Listing, Distances, Code, Report, Verify, View}
+use Rattle.zerotrie_run.specs.declared.command.Question.TheVariants.{LookUp, List as Listing, Code, Report, Verify, View}
 use Rattle.zerotrie_run.specs.declared.command.Check.{Check}
 use Rattle.zerotrie_run.specs.declared.command.Check.TheVariants as check
 use Rattle.zerotrie_run.specs.declared.command.TrieFile.{TrieFile}
@@ -150,7 +150,6 @@ are_lines Lines = true
 abbrev pub of_lines : Question → Bool
 of_lines (LookUp query keys) = are_lines keys
 of_lines (Listing form s) = false
-of_lines (Distances choice limit) = false
 of_lines (Code language name) = false
 of_lines (Report form) = false
 of_lines Verify = false
@@ -170,7 +169,6 @@ Opens file all kind bytes = OpensBy file.check file.bare all kind bytes
 abbrev pub asks_index : Question → Bool
 asks_index (LookUp query keys) = asks_keys query.asked
 asks_index (Listing form s) = false
-asks_index (Distances choice limit) = false
 asks_index (Code language name) = false
 asks_index (Report form) = false
 asks_index Verify = true
@@ -197,7 +195,6 @@ abbrev pub asks_places : Question → Bool
 asks_places (LookUp query (Words words)) = asks_keys query.asked
 asks_places (LookUp query Lines) = false
 asks_places (Listing form s) = false
-asks_places (Distances choice limit) = false
 asks_places (Code language name) = false
 asks_places (Report form) = false
 asks_places Verify = false
@@ -260,8 +257,8 @@ has_pair [] = false
 has_pair (pair ∷ pairs) = true
 
 -- whether there is one of the first pairs that are picked, if the bytes list pairs
-abbrev pub AreFound : (pick : Pairs → Pairs) → (limit : Option ℕ) → TrieKind → (bytes : List ℕ) → Bool → Type 0
-AreFound pick limit kind bytes found = (pairs : Pairs) → Lists (kind_of kind) bytes pairs → found ≡ has_pair (limited limit (pick pairs))
+abbrev pub AreFound : ListQuery → TrieKind → (bytes : List ℕ) → Bool → Type 0
+AreFound s kind bytes found = (pairs : Pairs) → Lists (kind_of kind) bytes pairs → found ≡ has_pair (first_picked s kind pairs)
 
 -- the limit of a listing that has a pair or none
 abbrev pub limit_shown : Bool → Option ℕ → Option ℕ
@@ -271,8 +268,7 @@ limit_shown false limit = Some 0
 -- what was printed, and whether all was found, belong to the question and to bytes of this kind: of pairs, whether there is one
 abbrev pub Answers : Question → (input : Option (List ℕ)) → TrieKind → List ℕ → (old new : Option (List ℕ)) → Bool → Type 0
 Answers (LookUp query keys) input kind bytes old new all = KeysAnswered query keys input (TrieFinds kind bytes) old new all
-Answers (Listing form s) input kind bytes old new all = AreFound (picked s.order kind s.choice) s.limit kind bytes all × AreListed form (picked s.order kind s.choice) s.limit kind bytes old new
-Answers (Distances choice limit) input kind bytes old new all = AreFound (picked Nearest kind choice) limit kind bytes all × AreMeasured choice limit kind bytes old new
+Answers (Listing form s) input kind bytes old new all = AreFound s kind bytes all × AreListed form s kind bytes old new
 Answers (Code language name) input kind bytes old new all = (all ≡ true) × Appends old new (whole_code language kind name.now bytes)
 Answers Verify input kind bytes old new all = (all ≡ true) × Keeps old new
 Answers (Report form) input kind bytes old new all = (all ≡ true) × Appends old new (reported form (report_of kind bytes))
@@ -282,7 +278,6 @@ Answers (View view) input kind bytes old new all = (all ≡ true) × Appends old
 abbrev pub IndexAnswers : Question → (input : Option (List ℕ)) → List ℕ → (old new : Option (List ℕ)) → Bool → Type 0
 IndexAnswers (LookUp query keys) input bytes old new all = KeysAnswered query keys input (IndexFinds query.asked bytes) old new all
 IndexAnswers (Listing form s) input bytes old new all = (all ≡ true) × Keeps old new
-IndexAnswers (Distances choice limit) input bytes old new all = (all ≡ true) × Keeps old new
 IndexAnswers (Code language name) input bytes old new all = (all ≡ true) × Keeps old new
 IndexAnswers Verify input bytes old new all = (all ≡ true) × Keeps old new
 IndexAnswers (Report form) input bytes old new all = (all ≡ true) × Keeps old new
@@ -301,8 +296,7 @@ KeysAnsweredInPart query keys input MayHave old new = (ks : List (List ℕ)) × 
 -- a beginning of what belongs to the question and to bytes of this kind was printed
 abbrev pub AnswersInPart : Question → (input : Option (List ℕ)) → TrieKind → List ℕ → (old new : Option (List ℕ)) → Type 0
 AnswersInPart (LookUp query keys) input kind bytes old new = KeysAnsweredInPart query keys input (TrieFinds kind bytes) old new
-AnswersInPart (Listing form s) input kind bytes old new = AreListedInPart form (picked s.order kind s.choice) s.limit kind bytes old new
-AnswersInPart (Distances choice limit) input kind bytes old new = AreMeasuredInPart choice limit kind bytes old new
+AnswersInPart (Listing form s) input kind bytes old new = AreListedInPart form s kind bytes old new
 AnswersInPart (Code language name) input kind bytes old new = AppendsPart old new (whole_code language kind name.now bytes)
 AnswersInPart Verify input kind bytes old new = Keeps old new
 AnswersInPart (Report form) input kind bytes old new = AppendsPart old new (reported form (report_of kind bytes))
@@ -312,7 +306,6 @@ AnswersInPart (View view) input kind bytes old new = AppendsPart old new (shown 
 abbrev pub IndexAnswersInPart : Question → (input : Option (List ℕ)) → List ℕ → (old new : Option (List ℕ)) → Type 0
 IndexAnswersInPart (LookUp query keys) input bytes old new = KeysAnsweredInPart query keys input (IndexFinds query.asked bytes) old new
 IndexAnswersInPart (Listing form s) input bytes old new = Keeps old new
-IndexAnswersInPart (Distances choice limit) input bytes old new = Keeps old new
 IndexAnswersInPart (Code language name) input bytes old new = Keeps old new
 IndexAnswersInPart Verify input bytes old new = Keeps old new
 IndexAnswersInPart (Report form) input bytes old new = Keeps old new
@@ -325,20 +318,18 @@ ContentAnswersInPart (of_index bytes) question input old new = IndexAnswersInPar
 ContentAnswersInPart (in_blocks start held) question input old new = (bytes : List ℕ) → HasRightBlocks start held bytes → IndexAnswersInPart question input bytes old new
 
 -- the pairs that are asked for can't be printed so: this is the first of their keys that is not UTF-8
-abbrev pub IsUnprintable : Question → TrieKind → List ℕ → List ℕ → Type 0
-IsUnprintable (LookUp query keys) kind bytes key = ⊥
-IsUnprintable (Listing form s) kind bytes key = AreNoText form (picked s.order kind s.choice) s.limit kind bytes key
-IsUnprintable (Distances choice limit) kind bytes key = ⊥
-IsUnprintable (Code language name) kind bytes key = ⊥
-IsUnprintable Verify kind bytes key = ⊥
-IsUnprintable (Report form) kind bytes key = ⊥
-IsUnprintable (View view) kind bytes key = ⊥
+abbrev pub IsUnprintable : Question → TrieKind → (bytes : List ℕ) → Form → (key : List ℕ) → Type 0
+IsUnprintable (LookUp query keys) kind bytes form key = ⊥
+IsUnprintable (Listing asked s) kind bytes form key = (asked ≡ form) × AreUnprintable form s kind bytes key
+IsUnprintable (Code language name) kind bytes form key = ⊥
+IsUnprintable Verify kind bytes form key = ⊥
+IsUnprintable (Report asked) kind bytes form key = ⊥
+IsUnprintable (View view) kind bytes form key = ⊥
 
 -- the keys of a question are to be lines of standard input, which is this other file
 abbrev pub HasNoLines : Question → Option (List ℕ) → OtherFile → Type 0
 HasNoLines (LookUp query keys) input other = AreNoLines keys input other
 HasNoLines (Listing form s) input other = ⊥
-HasNoLines (Distances choice limit) input other = ⊥
 HasNoLines (Code language name) input other = ⊥
 HasNoLines Verify input other = ⊥
 HasNoLines (Report form) input other = ⊥
@@ -359,7 +350,6 @@ answer_fails (Err e) = is_none (answer_refusal e)
 abbrev pub HasNoKeys : Question → Option (List ℕ) → (old new : Option (List ℕ)) → AnswerError → Type 0
 HasNoKeys (LookUp query keys) input old new e = AreNoKeys keys input old new e
 HasNoKeys (Listing form s) input old new e = answer_refusal e ≡ None
-HasNoKeys (Distances choice limit) input old new e = answer_refusal e ≡ None
 HasNoKeys (Code language name) input old new e = answer_refusal e ≡ None
 HasNoKeys Verify input old new e = answer_refusal e ≡ None
 HasNoKeys (Report form) input old new e = answer_refusal e ≡ None
@@ -371,7 +361,7 @@ abbrev pub IsNoAnswer : Question → (input : Option (List ℕ)) → TrieKind �
 IsNoAnswer question input kind bytes old new (ask.Unread e) = ⊥
 IsNoAnswer question input kind bytes old new (ask.NoTrie why hint) = ⊥
 IsNoAnswer question input kind bytes old new (ask.Unanswered e) = AnswersInPart question input kind bytes old new × HasNoKeys question input old new e
-IsNoAnswer question input kind bytes old new (ask.NotText key) = IsUnprintable question kind bytes key.items × (new ≡ old)
+IsNoAnswer question input kind bytes old new (ask.Unprintable form key) = IsUnprintable question kind bytes form key.items × (new ≡ old)
 
 -- The trie or the index of a file was asked: what was read, what it has, and the answer.
 pub record IsAsked (file : TrieFile) (question : Question) (input : Option (List ℕ)) (files : Option Story) (old new : Option (List ℕ)) (all : Bool) : Type 0 where
@@ -398,13 +388,13 @@ abbrev pub HasNoAnswer : TrieFile → Question → Option (List ℕ) → Option 
 HasNoAnswer file question input files = (held : List ℕ) × IsRead file.place input files held × (why : OpenError) × IsUnopenedFor file question held why
 
 -- The trie of a file was asked for pairs that can't be printed so, and nothing was.
-pub record IsUnprinted (file : TrieFile) (question : Question) (input : Option (List ℕ)) (files : Option Story) (key : List ℕ) : Type 0 where
+pub record IsUnprinted (file : TrieFile) (question : Question) (input : Option (List ℕ)) (files : Option Story) (form : Form) (key : List ℕ) : Type 0 where
   pub held : List ℕ
   pub read : IsRead file.place input files held
   pub kind : TrieKind
   pub bytes : List ℕ
   pub opens : Opens file held kind bytes
-  pub shows : IsUnprintable question kind bytes key
+  pub shows : IsUnprintable question kind bytes form key
 
 -- What is asked of a file was found, and the keys of the question are no lines, but this other file.
 pub record IsUnkeyed (file : TrieFile) (question : Question) (input : Option (List ℕ)) (files : Option Story) (other : OtherFile) : Type 0 where
@@ -419,7 +409,7 @@ pub record IsUnkeyed (file : TrieFile) (question : Question) (input : Option (Li
 abbrev pub IsUnanswered : TrieFile → Question → (input : Option (List ℕ)) → List ℕ → (old new : Option (List ℕ)) → AskError → Type 0
 IsUnanswered file question input held old new (ask.Unread e) = ⊥
 IsUnanswered file question input held old new (ask.NoTrie why hint) = IsUnopenedFor file question held why × IsHint held hint × (new ≡ old)
-IsUnanswered file question input held old new (ask.NotText key) = (kind : TrieKind) × (bytes : List ℕ) × Opens file held kind bytes × IsUnprintable question kind bytes key.items × (new ≡ old)
+IsUnanswered file question input held old new (ask.Unprintable form key) = (kind : TrieKind) × (bytes : List ℕ) × Opens file held kind bytes × IsUnprintable question kind bytes form key.items × (new ≡ old)
 IsUnanswered file question input held old new (ask.Unanswered e) = (content : Content) × OpensFor file question held content × ContentAnswersInPart content question input old new × HasNoKeys question input old new e
 
 -- what the file of a path holds, if that is known
@@ -453,7 +443,7 @@ FailsAsk file question input files old new = (new ≡ old) ⊎ IsAskedInPart fil
 abbrev pub RunsAsk : TrieFile → Question → Option (List ℕ) → Option Story → (old new : Option (List ℕ)) → Status → Type 0
 RunsAsk file question input files old new Done = IsAsked file question input files old new true
 RunsAsk file question input files old new Absent = IsAsked file question input files old new false
-RunsAsk file question input files old new Refused = (key : List ℕ) × IsUnprinted file question input files key × (new ≡ old)
+RunsAsk file question input files old new Refused = (form : Form) × (key : List ℕ) × IsUnprinted file question input files form key × (new ≡ old)
 RunsAsk file question input files old new Taken = ⊥
 RunsAsk file question input files old new BadUsage = (file.place ≡ Stream) × (of_lines question ≡ true) × (new ≡ old)
 RunsAsk file question input files old new BadInput = HasNoAnswer file question input files × (new ≡ old)
@@ -475,7 +465,7 @@ ask_refusal (ask.NoTrie (unopened.BadTag why) hint) = Some BadInput
 ask_refusal (ask.NoTrie (unopened.Damaged why) hint) = Some BadInput
 ask_refusal (ask.NoTrie (unopened.NotWellFormed kind fault) hint) = Some BadInput
 ask_refusal (ask.NoTrie unopened.OutOfMemory hint) = None
-ask_refusal (ask.NotText key) = Some Refused
+ask_refusal (ask.Unprintable form key) = Some Refused
 ask_refusal (ask.Unanswered e) = answer_refusal e
 
 -- the same of a question that may have been answered

@@ -3,6 +3,7 @@ use Rattle.std.specs.Prelude.{◌≡◌, ◌⊎◌, ◌==◌, ℕ, nat_lt, List,
 use Rattle.std.specs.Io.KnownBytes.{Appends}
 use Rattle.zerotrie_files.specs.Disks.{Story}
 use Rattle.zerotrie_queries.specs.declared.file.OpenError.{OpenError}
+use Rattle.zerotrie_queries.specs.declared.print.Form.{Form}
 use Rattle.zerotrie_run.specs.Fronts.{IsHint}
 use Rattle.zerotrie_run.specs.declared.front.Hint.{Hint}
 use Rattle.zerotrie_making.specs.Made.{IsMade}
@@ -16,7 +17,7 @@ use Rattle.zerotrie_making.specs.declared.plan.FileForm.TheVariants as form
 use Rattle.zerotrie_making.specs.declared.plan.Made.{Made}
 use Rattle.zerotrie_core.specs.declared.TrieKind.{TrieKind}
 use Rattle.zerotrie_run.specs.Statuses.{made_refusal}
-use Rattle.zerotrie_run.specs.Messages.{IsLine, IsLineOn, IsNumberLine, TellsAsk, TellsBuild, TellsCombine, TellsMade, TellsNoTrie, TellsUnmade, kind_line, made_line, no_keys_line, not_text_line, removed_line, source_name, taken_line, target_name, unit_of}
+use Rattle.zerotrie_run.specs.Messages.{IsLine, IsLineOn, IsNumberLine, TellsAsk, TellsBuild, TellsCombine, TellsMade, TellsNoTrie, TellsUnmade, kind_line, made_line, no_keys_line, removed_line, source_name, taken_line, target_name, unit_of, unprintable_line}
 use Rattle.zerotrie_run.specs.Runs.{IsRead, IsThere, IsUnasked, IsUnopened, IsUnprinted, HasNoLines, HasNumberToo}
 use Rattle.zerotrie_run.specs.Diffs.{IsFileOf, NotesNumbers}
 use Rattle.zerotrie_run.specs.declared.command.Diff.{Diff}
@@ -81,7 +82,7 @@ HasReason IsWhy file question input files (ask.NoTrie why hint) = (held : List �
 HasReason IsWhy file question input files (ask.Unanswered (Input e)) = Unit {0}
 HasReason IsWhy file question input files (ask.Unanswered (NoLines other)) = HasNoLines question input other
 HasReason IsWhy file question input files (ask.Unanswered (Output e)) = Unit {0}
-HasReason IsWhy file question input files (ask.NotText key) = IsUnprinted file question input files key.items
+HasReason IsWhy file question input files (ask.Unprintable form key) = IsUnprinted file question input files form key.items
 
 -- why two files were not compared is so of what was read of one of them
 abbrev pub HasDiffReason : Diff → Option (List ℕ) → Option Story → DiffError → Type 0
@@ -192,8 +193,8 @@ TellsRefusal (commands.Combine c) input files old new status = Any (λ place. Te
 -- a line tells what is refused: a build, or pairs with a key that can't be printed
 abbrev pub TellsRefused : Command → Option (List ℕ) → Option Story → (old new : Option (List ℕ)) → Type 0
 TellsRefused (commands.Build build) input files old new = TellsRefusal (commands.Build build) input files old new Refused
-TellsRefused (commands.Ask file question) input files old new = (key : List ℕ) × IsUnprinted file question input files key
-    × ToldLast old new (not_text_line (source_name file.place) key)
+TellsRefused (commands.Ask file question) input files old new = (form : Form) × (key : List ℕ) × IsUnprinted file question input files form key
+    × ToldLast old new (unprintable_line (source_name file.place) form key)
 TellsRefused (commands.Diff diff) input files old new = ⊥
 TellsRefused (commands.Combine c) input files old new =
     (e : CombinationError) × OfFiles c input files (λ maps. ExplainsMaps c.combination maps e) × (unmade_refusal e ≡ Some Refused)

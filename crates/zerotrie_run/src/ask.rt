@@ -18,7 +18,7 @@ ghost use Rattle.zerotrie_run.specs.declared.stdin_lines.AnswerError.TheVariants
 
 use crate::at_places::answer_at_places;
 use crate::command::{Keys, Question, TrieFile};
-use crate::found::{write_found, write_measured};
+use crate::found::write_found;
 use crate::front::{Hint, hint_of, refused_by_front};
 use crate::messages::ask::tell_number;
 use crate::open::{asks_index, open_index, open_trie};
@@ -31,7 +31,7 @@ use std::io::{BufWriter, Read, Write};
 use zerotrie_core::TrieRef;
 use zerotrie_files::{Disk, Noted, Store};
 use zerotrie_queries::{
-    Asked, Finder, ListError, ListQuery, OpenError, Query, write_answers, write_trie_code,
+    Asked, Finder, Form, ListError, OpenError, Query, write_answers, write_trie_code,
     write_trie_report, write_trie_view,
 };
 use zerotrie_reverse::Reverse;
@@ -43,8 +43,8 @@ pub enum AskError {
     Unread(io::Error),
     /// The file has no trie, nor an index that answers the question, and looks so.
     NoTrie(OpenError, Hint),
-    /// The pairs can't be one JSON value, as this key is not UTF-8.
-    NotText(Vec<u8>),
+    /// The pairs can't be printed in this form, as it can't have this key.
+    Unprintable(Form, Vec<u8>),
     /// It can't be answered, or not to the end.
     Unanswered(AnswerError),
 }
@@ -61,7 +61,7 @@ impl AskError {
                 }
                 OpenError::OutOfMemory => None,
             },
-            AskError::NotText(_) => Some(Status::Refused),
+            AskError::Unprintable(_, _) => Some(Status::Refused),
             AskError::Unanswered(AnswerError::NoLines(_)) => Some(Status::BadKeys),
             AskError::Unread(_)
             | AskError::Unanswered(AnswerError::Input(_) | AnswerError::Output(_)) => None,
@@ -211,12 +211,9 @@ fn answer<R: Read, W: Write + Drop>(
         Question::List(form, selection) => {
             match write_found(alloc, trie, form, selection, output) {
                 Ok(found) => Ok(found),
-                Err(ListError::NotText(key)) => Err(AskError::NotText(key)),
+                Err(ListError::Unprintable(key)) => Err(AskError::Unprintable(form, key)),
                 Err(ListError::Failed(error)) => Err(AskError::from(error)),
             }
-        }
-        Question::Distances(choice, limit) => {
-            Ok(write_measured(alloc, trie, choice, limit, output)?)
         }
         Question::Code(language, name) => {
             write_trie_code(alloc, trie, language, name, output)?;
@@ -264,7 +261,6 @@ fn answer_of_index<R: Read, W: Write + Drop>(
             answer_keys(alloc, &finder, query, keys, input, output)
         }
         Question::List(_, _)
-        | Question::Distances(_, _)
         | Question::Code(_, _)
         | Question::Verify
         | Question::Report(_)

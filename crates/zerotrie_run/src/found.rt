@@ -1,10 +1,8 @@
 //! Listings, and whether they have a pair.
 
-ghost use Rattle.std.specs.Prelude.{◌≡◌, IfOk, IfErr, OnOk, OnErr};
-ghost use Rattle.zerotrie_files.specs.Faults.{IsNoted, IsOutOfMemory};
-ghost use Rattle.zerotrie_queries.specs.Listed.{AreListed, AreMeasured, AreMeasuredInPart, AreUnlisted, IsListingNoted};
-ghost use Rattle.zerotrie_queries.specs.Sorted.{picked};
-ghost use Rattle.zerotrie_queries.specs.declared.question.Order.TheVariants.{Nearest};
+ghost use Rattle.std.specs.Prelude.{◌≡◌, IfOk, IfErr, OnOk};
+ghost use Rattle.zerotrie_files.specs.Faults.{IsOutOfMemory};
+ghost use Rattle.zerotrie_queries.specs.Listed.{AreListed, AreUnlisted, IsListingNoted};
 ghost use Rattle.zerotrie_run.specs.Runs.{AreFound, limit_shown};
 
 use std::alloc::Global;
@@ -12,16 +10,12 @@ use std::io;
 use std::io::{ErrorKind, Write};
 use zerotrie_core::TrieRef;
 use zerotrie_files::Noted;
-use zerotrie_queries::{
-    Choice, Form, ListError, ListQuery, Order, Style, write_distances, write_list,
-};
+use zerotrie_queries::{Form, ListError, ListQuery, Style, write_list};
 
 /// Returns whether a listing has a pair: it reads up to the first one.
 #[tactic(auto, using(crate::proofs::FoundLemmas::none_found))]
 fn finds_pair(alloc: Global, trie: &TrieRef<'_>, selection: ListQuery<'_>) -> io::Result<bool>
-    ensures found { IfOk result (AreFound
-        (picked selection.entry.order trie.now.kind selection.entry.choice)
-        selection.entry.limit trie.now.kind trie.now.bytes.now) }
+    ensures found { IfOk result (AreFound selection.entry trie.now.kind trie.now.bytes.now) }
     ensures memory { IfErr result IsOutOfMemory }
 {
     if selection.limit == Some(0) {
@@ -35,7 +29,7 @@ fn finds_pair(alloc: Global, trie: &TrieRef<'_>, selection: ListQuery<'_>) -> io
     match write_list(alloc, trie, Form::Lines(Style::Keys), first, &mut lines) {
         Ok(()) => Ok(!lines.get_ref().as_slice().is_empty()),
         // a line can have any key, and only memory can fail
-        Err(ListError::NotText(_) | ListError::Failed(_)) => {
+        Err(ListError::Unprintable(_) | ListError::Failed(_)) => {
             Err(io::Error::from(ErrorKind::OutOfMemory))
         }
     }
@@ -56,17 +50,11 @@ pub fn write_found<W: Write>(
     selection: ListQuery<'_>,
     output: &mut Noted<W>,
 ) -> Result<bool, ListError>
-    ensures found { IfOk result (AreFound
-        (picked selection.entry.order trie.now.kind selection.entry.choice)
-        selection.entry.limit trie.now.kind trie.now.bytes.now) }
-    ensures all { OnOk result (AreListed form
-        (picked selection.entry.order trie.now.kind selection.entry.choice)
-        selection.entry.limit trie.now.kind trie.now.bytes.now (W.contents output.old.inner)
-        (W.contents output.new.inner)) }
-    ensures err { IfErr result (AreUnlisted form
-        (picked selection.entry.order trie.now.kind selection.entry.choice)
-        selection.entry.limit trie.now.kind trie.now.bytes.now (W.contents output.old.inner)
-        (W.contents output.new.inner)) }
+    ensures found { IfOk result (AreFound selection.entry trie.now.kind trie.now.bytes.now) }
+    ensures all { OnOk result (AreListed form selection.entry trie.now.kind trie.now.bytes.now
+        (W.contents output.old.inner) (W.contents output.new.inner)) }
+    ensures err { IfErr result (AreUnlisted form selection.entry trie.now.kind trie.now.bytes.now
+        (W.contents output.old.inner) (W.contents output.new.inner)) }
     ensures noted { IsListingNoted result output.old.failed output.new.failed }
 {
     let has_one = match finds_pair(alloc, trie, selection) {
@@ -81,31 +69,4 @@ pub fn write_found<W: Write>(
         Ok(()) => Ok(has_one),
         Err(error) => Err(error),
     }
-}
-
-/// Writes pairs with their distances, as `write_distances` does, and returns whether there is one.
-#[tactic(auto, using(crate::proofs::FoundLemmas::none_measured))]
-pub fn write_measured<W: Write>(
-    alloc: Global,
-    trie: &TrieRef<'_>,
-    choice: Choice<'_>,
-    limit: Option<usize>,
-    output: &mut Noted<W>,
-) -> io::Result<bool>
-    ensures found { IfOk result (AreFound (picked Nearest trie.now.kind choice.entry) limit
-        trie.now.kind trie.now.bytes.now) }
-    ensures all { OnOk result (AreMeasured choice.entry limit trie.now.kind trie.now.bytes.now
-        (W.contents output.old.inner) (W.contents output.new.inner)) }
-    ensures part { OnErr result (AreMeasuredInPart choice.entry limit trie.now.kind
-        trie.now.bytes.now (W.contents output.old.inner) (W.contents output.new.inner)) }
-    ensures noted { IsNoted result output.old.failed output.new.failed }
-{
-    let nearest = ListQuery {
-        choice,
-        order: Order::Nearest,
-        limit,
-    };
-    let has_one = finds_pair(alloc, trie, nearest)?;
-    write_distances(alloc, trie, choice, limit, output)?;
-    Ok(has_one)
 }

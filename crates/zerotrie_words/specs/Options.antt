@@ -31,7 +31,6 @@ pub record AreListOptions (matches : ArgMatches) (o : ListOptions) : Type 0 wher
   pub raw : IsGiven matches (codes "raw") o.raw
   pub limit : IsWord matches (codes "limit") o.limit
   pub count : IsGiven matches (codes "count") o.count
-  pub sorted : IsGiven matches (codes "sorted") o.sorted
   pub quiet : IsGiven matches (codes "quiet") o.quiet
 
 -- Those of a search.

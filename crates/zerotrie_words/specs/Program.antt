@@ -59,19 +59,15 @@ abbrev pub quiet : Rule
 quiet = flag (codes "quiet") (letter (codes "q"))
 
 -- which pairs a listing prints, and how
-abbrev pub listing : List Rule
-listing = option (codes "prefix") (letter (codes "p"))
+abbrev pub listing : (more : List Rule) → List Rule
+listing more = option (codes "prefix") (letter (codes "p"))
     ∷ option (codes "from") None
     ∷ option (codes "below") None
     ∷ one_of outputs (option (codes "format") (letter (codes "f")))
     ∷ flag (codes "raw") (letter (codes "r"))
     ∷ limit
     ∷ flag (codes "count") (letter (codes "c"))
-    ∷ flag (codes "sorted") (letter (codes "S"))
-    ∷ quiet
-    ∷ bare_kind
-    ∷ no_check
-    ∷ []
+    ∷ (more ++ quiet ∷ bare_kind ∷ no_check ∷ [])
 
 -- the file that is made
 abbrev pub output : Rule
@@ -129,7 +125,7 @@ abbrev pub reverse : Shape
 reverse = command (codes "reverse") (file ∷ words (codes "VALUE") ∷ bare_kind ∷ no_check ∷ [])
 
 abbrev pub list : Shape
-list = command (codes "list") (file ∷ listing)
+list = command (codes "list") (file ∷ listing (flag (codes "sorted") (letter (codes "S")) ∷ []))
 
 abbrev pub search : Shape
 search = command (codes "search") (file
@@ -142,7 +138,7 @@ search = command (codes "search") (file
     ∷ flag (codes "distance") None
     ∷ option (codes "subsequence") None
     ∷ option (codes "not") None
-    ∷ listing)
+    ∷ listing [])
 
 abbrev pub diff : Shape
 diff = command (codes "diff") (place (codes "OLD") ∷ place (codes "NEW") ∷ bare_kind ∷ quiet ∷ [])

@@ -18,7 +18,7 @@ use Rattle.zerotrie_run.specs.declared.command.Keys.{Keys}
 use Rattle.zerotrie_run.specs.declared.command.Question.{Question}
 use Rattle.zerotrie_run.specs.declared.command.Question.TheVariants as question
 use Rattle.zerotrie_run.specs.declared.command.TrieFile.{TrieFile}
-use Rattle.zerotrie_words.specs.Options.{AreCodeOptions, AreListOptions, AreSearchOptions, text_of}
+use Rattle.zerotrie_words.specs.Options.{AreCodeOptions, AreListOptions, AreSearchOptions, IsGiven, text_of}
 use Rattle.zerotrie_words.specs.Refusals.{HasNoNumber, IsNoBorder, IsNoKind, IsUnknown}
 use Rattle.zerotrie_words.specs.Searches.{IsList, IsListMisuse, IsSearch, IsSearchMisuse}
 use Rattle.zerotrie_words.specs.Words.{AreKeysOf, HasNoHyphen, IsFile, IsFlag, IsFree, IsGet, IsLongest, IsReportForm, IsSpelling, IsView, flag_of, is_alone, language_word, word_of}
@@ -84,7 +84,7 @@ IsQuestion matches topic.Get texts q = (query : Query) × (of : Keys) × IsGet (
 IsQuestion matches topic.Longest texts q = (query : Query) × (of : Keys) × IsLongest matches query.asked × IsSpelling (flag_of matches (codes "escaped")) query.spelling
     × AreKeysOf texts of × (q ≡ question.LookUp query of)
 IsQuestion matches topic.Reverse texts q = (of : Keys) × AreKeysOf texts of × (q ≡ question.LookUp (record { asked = asked.KeyOf; spelling = spelling.Plain }) of)
-IsQuestion matches topic.List texts q = (o : ListOptions) × AreListOptions matches o × IsList o q
+IsQuestion matches topic.List texts q = (o : ListOptions) × (sorted : Bool) × AreListOptions matches o × IsGiven matches (codes "sorted") sorted × IsList sorted o q
 IsQuestion matches topic.Search texts q = (o : SearchOptions) × AreSearchOptions matches o × IsSearch o q
 IsQuestion matches topic.Verify texts q = q ≡ question.Verify
 IsQuestion matches topic.Stats texts q = (form : ReportForm) × IsReportForm (word_of matches (codes "format")) form × (q ≡ question.Report form)

@@ -3,6 +3,7 @@ use Rattle.std.specs.Prelude.{◌≡◌, ◌≢◌, ◌⊎◌, ◌≤◌, ◌+�
 use Rattle.std.specs.Borrow.{Bor}
 use Rattle.zerotrie_queries.specs.Chosen.{pattern_by}
 use Rattle.zerotrie_queries.specs.declared.print.Form.{Form}
+use Rattle.zerotrie_queries.specs.declared.print.Form.TheVariants as form_of
 use Rattle.zerotrie_queries.specs.declared.question.Choice.{Choice}
 use Rattle.zerotrie_queries.specs.declared.question.ListQuery.{ListQuery}
 use Rattle.zerotrie_queries.specs.declared.question.Order.{Order}
@@ -60,15 +61,15 @@ pub record IsListed (o : ListOptions) (c : Choice) : Type 0 where
   pub all : c.sought ≡ None
 
 -- The pairs that are listed: how, and in which order.
-pub record IsListing (o : ListOptions) (IsChoice : Choice → Type 0) (order : Order) (form : Form) (s : ListQuery) : Type 0 where
-  pub format : IsListForm o form
+pub record IsListing (o : ListOptions) (IsForm : Form → Type 0) (IsChoice : Choice → Type 0) (order : Order) (form : Form) (s : ListQuery) : Type 0 where
+  pub format : IsForm form
   pub chosen : IsChoice s.choice
   pub ordered : s.order ≡ order
   pub most : IsMost o s.limit
 
 -- what `list` asks for
-abbrev pub IsList : ListOptions → Question → Type 0
-IsList o q = (form : Form) × (s : ListQuery) × IsListing o (IsListed o) (order_by o.count o.sorted) form s × (q ≡ question.List form s)
+abbrev pub IsList : (sorted : Bool) → ListOptions → Question → Type 0
+IsList sorted o q = (form : Form) × (s : ListQuery) × IsListing o (IsListForm o) (IsListed o) (order_by o.count sorted) form s × (q ≡ question.List form s)
 
 abbrev pub IsListMisuse : ListOptions → Misuse → Type 0
 IsListMisuse o why = IsFormMisuse o why ⊎ IsLimitMisuse o.limit why
@@ -152,28 +153,23 @@ pub record AreMeasured (o : SearchOptions) : Type 0 where
   pub format : o.list.format ≡ None
   pub spelled : o.list.raw ≡ false
   pub printed : o.list.count ≡ false
-  pub nearest : o.list.sorted ≡ false
 
 abbrev pub IsMeasuringMisuse : SearchOptions → Misuse → Type 0
 IsMeasuringMisuse o why = (((o.fuzzy ≡ None) ⊎ (o.beginnings ≡ true)) × (why ≡ misuse.IdleDistance))
-    ⊎ ((((o.list.format ≢ None) ⊎ (o.list.raw ≡ true)) × (why ≡ misuse.DistanceForm))
-    ⊎ (((o.list.count ≡ true) ⊎ (o.list.sorted ≡ true)) × (why ≡ misuse.DistanceOrder)))
+    ⊎ (((o.list.format ≢ None) ⊎ ((o.list.raw ≡ true) ⊎ (o.list.count ≡ true))) × (why ≡ misuse.DistanceForm))
 
--- the order in which the pairs of a search are printed
-abbrev pub order_of : SearchOptions → Order
-order_of o = search_order o.fuzzy o.edits o.list.count o.list.sorted
+-- how the pairs of a search are printed, by whether distances are
+abbrev pub IsSearchFormBy : (distances : Bool) → SearchOptions → Form → Type 0
+IsSearchFormBy true o form = AreMeasured o × (form ≡ form_of.Distances)
+IsSearchFormBy false o form = IsListForm o.list form
 
--- what a search asks for, by whether distances are to be printed
-abbrev pub IsSearchBy : (distances : Bool) → SearchOptions → Question → Type 0
-IsSearchBy true o q = (c : Choice) × (limit : Option ℕ) × AreMeasured o × IsSought o c × IsMost o.list limit × (q ≡ question.Distances c limit)
-IsSearchBy false o q = (form : Form) × (s : ListQuery) × IsListing o.list (IsSought o) (order_of o) form s × (q ≡ question.List form s)
+abbrev pub IsSearchFormMisuse : (distances : Bool) → SearchOptions → Misuse → Type 0
+IsSearchFormMisuse true o why = IsMeasuringMisuse o why
+IsSearchFormMisuse false o why = IsFormMisuse o.list why
 
-abbrev pub IsSearchMisuseBy : (distances : Bool) → SearchOptions → Misuse → Type 0
-IsSearchMisuseBy true o why = IsMeasuringMisuse o why ⊎ (IsChoiceMisuse o why ⊎ IsLimitMisuse o.list.limit why)
-IsSearchMisuseBy false o why = IsFormMisuse o.list why ⊎ (IsChoiceMisuse o why ⊎ IsLimitMisuse o.list.limit why)
-
+-- what a search asks for
 abbrev pub IsSearch : SearchOptions → Question → Type 0
-IsSearch o q = IsSearchBy o.distance o q
+IsSearch o q = (form : Form) × (s : ListQuery) × IsListing o.list (IsSearchFormBy o.distance o) (IsSought o) (search_order o.fuzzy o.edits o.list.count) form s × (q ≡ question.List form s)
 
 abbrev pub IsSearchMisuse : SearchOptions → Misuse → Type 0
-IsSearchMisuse o why = IsSearchMisuseBy o.distance o why
+IsSearchMisuse o why = IsSearchFormMisuse o.distance o why ⊎ (IsChoiceMisuse o why ⊎ IsLimitMisuse o.list.limit why)

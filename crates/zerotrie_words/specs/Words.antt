@@ -175,6 +175,7 @@ form_word (form.Lines style.Csv) = Some (codes "csv")
 form_word (form.Lines style.Keys) = Some (codes "keys")
 form_word (form.Lines style.Values) = Some (codes "values")
 form_word (form.Lines style.JsonLines) = Some (codes "jsonl")
+form_word form.Distances = None
 form_word form.Json = Some (codes "json")
 form_word form.Count = None
 
@@ -197,17 +198,16 @@ order_by true sorted = order.Stored
 order_by false true = order.ByBytes
 order_by false false = order.Stored
 
--- the order of keys that a number of edits make of a word: the nearest first, but in the order of the bytes by a flag, and in
--- any if they are only to be counted
-abbrev pub near_by : Bool → Bool → Order
-near_by true sorted = order.Stored
-near_by false true = order.ByBytes
-near_by false false = order.Nearest
+-- the order of keys that a number of edits make of a word: the nearest first, but that of the bytes if they are only to be counted
+abbrev pub near_by : (count : Bool) → Order
+near_by true = order.ByBytes
+near_by false = order.Nearest
 
--- the order of a search: of keys that are near a word, and without a number of edits, only those of the fewest edits
-abbrev pub search_order : (fuzzy edits : Option (Bor (List ℕ))) → Bool → Bool → Order
-search_order None edits = order_by
-search_order (Some word) None = λ count sorted. order.Closest
+-- the order of a search: that of the bytes; of keys that are near a word the nearest first, and without a number of edits, only
+-- those of the fewest edits
+abbrev pub search_order : (fuzzy edits : Option (Bor (List ℕ))) → (count : Bool) → Order
+search_order None edits = λ count. order.ByBytes
+search_order (Some word) None = λ count. order.Closest
 search_order (Some word) (Some edits) = near_by
 
 -- the decimal number of a word, which may begin with a plus

@@ -4,7 +4,7 @@ ghost use Rattle.std.specs.Prelude.{◌≡◌, Some, IfErr, IfNone, IfOk, IfSome
 ghost use Rattle.zerotrie_queries.specs.declared.print.Form.{Form};
 ghost use Rattle.zerotrie_words.specs.Options.{text_of};
 ghost use Rattle.zerotrie_words.specs.Searches.{IsFormMisuse, IsFront, IsLimitMisuse, IsList, IsListForm, IsListMisuse, IsListed, IsMost, IsRange};
-ghost use Rattle.zerotrie_words.specs.Words.{IsLimit, form_word, most_of, near_by, order_by, search_order};
+ghost use Rattle.zerotrie_words.specs.Words.{IsLimit, form_word, most_of, order_by};
 
 use crate::misuse::Misuse;
 use crate::options::ListOptions;
@@ -36,17 +36,6 @@ fn order_by(count: bool, sorted: bool) -> Order
     match (count, sorted) {
         (false, true) => Order::ByBytes,
         (true, _) | (false, false) => Order::Stored,
-    }
-}
-
-/// Returns the order of keys that a number of edits make of a word, by flags.
-fn near_by(count: bool, sorted: bool) -> Order
-    ensures { result ≡ near_by count sorted }
-{
-    match (count, sorted) {
-        (false, false) => Order::Nearest,
-        (false, true) => Order::ByBytes,
-        (true, _) => Order::Stored,
     }
 }
 
@@ -89,19 +78,6 @@ impl<'a> ListOptions<'a> {
             (false, true, Some(_)) => Err(Misuse::RawIsTsv),
             (false, false, None) => Ok(Form::Lines(Style::Tsv)),
             (false, false, Some(name)) => form_named(name).ok_or(Misuse::UnknownWord),
-        }
-    }
-
-    /// Returns the order in which the pairs of a search are to be printed, by whether it has a word
-    /// that keys are near, and a number of edits. Without this number only keys of the fewest edits
-    /// are, and else the nearest come first.
-    pub fn search_order(&self, fuzzy: Option<&str>, edits: Option<&str>) -> Order
-        ensures { result ≡ search_order fuzzy.entry edits.entry self.now.count self.now.sorted }
-    {
-        match (fuzzy, edits) {
-            (Some(_), None) => Order::Closest,
-            (Some(_), Some(_)) => near_by(self.count, self.sorted),
-            (None, _) => order_by(self.count, self.sorted),
         }
     }
 
@@ -149,15 +125,15 @@ impl<'a> ListOptions<'a> {
         }
     }
 
-    /// Returns what `list` asks for.
-    pub fn question(&self) -> Result<Question<'a>, Misuse>
-        ensures question { IfOk result (IsList self.now) }
+    /// Returns what `list` asks for, by whether it is to be in the order of bytes.
+    pub fn question(&self, sorted: bool) -> Result<Question<'a>, Misuse>
+        ensures question { IfOk result (IsList sorted self.now) }
         ensures refused { IfErr result (IsListMisuse self.now) }
     {
         let form = self.form()?;
         let query = ListQuery {
             choice: self.choice(),
-            order: order_by(self.count, self.sorted),
+            order: order_by(self.count, sorted),
             limit: self.most()?,
         };
         Ok(Question::List(form, query))

@@ -3,12 +3,12 @@
 ghost use Rattle.std.specs.Prelude.{◌≡◌, ◌≢◌, None, true, false, IfErr, IfNone, IfOk, IfSome};
 ghost use Rattle.zerotrie_words.specs.Options.{text_of};
 ghost use Rattle.zerotrie_words.specs.Refusals.{HasNoNumber, IsUnknown};
-ghost use Rattle.zerotrie_words.specs.Searches.{AreMeasured, AreUsed, HasNoPart, IsChoiceMisuse, IsIdle, IsMeasuringMisuse, IsOfSort, IsSearch, IsSearchBy, IsSearchMisuse, IsSearchMisuseBy, IsSought, IsSoughtBy, IsSoughtMisuse, IsWithout, IsWithoutMisuse, IsWordMisuse};
-ghost use Rattle.zerotrie_words.specs.Words.{IsEdits, fuzzy_by, glob_by};
+ghost use Rattle.zerotrie_words.specs.Searches.{AreMeasured, AreUsed, HasNoPart, IsChoiceMisuse, IsIdle, IsMeasuringMisuse, IsOfSort, IsSearch, IsSearchFormBy, IsSearchFormMisuse, IsSearchMisuse, IsSought, IsSoughtBy, IsSoughtMisuse, IsWithout, IsWithoutMisuse, IsWordMisuse};
+ghost use Rattle.zerotrie_words.specs.Words.{IsEdits, fuzzy_by, glob_by, search_order};
 
 use crate::misuse::Misuse;
 use crate::options::{ListOptions, SearchOptions};
-use zerotrie_queries::{Choice, ListQuery, Pattern, Sought};
+use zerotrie_queries::{Choice, Form, ListQuery, Order, Pattern, Sought};
 use zerotrie_run::Question;
 use zerotrie_search::{AnyAutomaton, SearchBy};
 
@@ -179,35 +179,34 @@ impl<'a> SearchOptions<'a> {
         if self.fuzzy.is_none() || self.beginnings {
             return Some(Misuse::IdleDistance);
         }
-        if self.list.format.is_some() || self.list.raw {
-            return Some(Misuse::DistanceForm);
-        }
-        (self.list.count || self.list.sorted).then_some(Misuse::DistanceOrder)
+        (self.list.format.is_some() || self.list.raw || self.list.count)
+            .then_some(Misuse::DistanceForm)
     }
 
-    /// Returns what is asked for, if pairs are printed with their distances.
-    fn distances(&self) -> Result<Question<'a>, Misuse>
-        ensures question { IfOk result (IsSearchBy true self.now) }
-        ensures refused { IfErr result (IsSearchMisuseBy true self.now) }
+    /// Returns how pairs are to be printed.
+    fn form(&self) -> Result<Form, Misuse>
+        ensures form { IfOk result (IsSearchFormBy self.now.distance self.now) }
+        ensures refused { IfErr result (IsSearchFormMisuse self.now.distance self.now) }
     {
+        if !self.distance {
+            return self.list.form();
+        }
         match self.unmeasured() {
             Some(misuse) => Err(misuse),
-            None => Ok(Question::Distances(self.choice()?, self.list.most()?)),
+            None => Ok(Form::Distances),
         }
     }
 
-    /// Returns what is asked for, if pairs are printed in a format.
-    fn pairs(&self) -> Result<Question<'a>, Misuse>
-        ensures question { IfOk result (IsSearchBy false self.now) }
-        ensures refused { IfErr result (IsSearchMisuseBy false self.now) }
+    /// Returns the order of the pairs. Of keys that are near a word the nearest come first, and without
+    /// a number of edits there are only those of the fewest edits.
+    fn order(&self) -> Order
+        ensures { result ≡ search_order self.now.fuzzy self.now.edits self.now.list.count }
     {
-        let form = self.list.form()?;
-        let query = ListQuery {
-            choice: self.choice()?,
-            order: self.list.search_order(self.fuzzy, self.edits),
-            limit: self.list.most()?,
-        };
-        Ok(Question::List(form, query))
+        match (self.fuzzy, self.edits) {
+            (Some(_), None) => Order::Closest,
+            (Some(_), Some(_)) if !self.list.count => Order::Nearest,
+            (None, _) | (Some(_), Some(_)) => Order::ByBytes,
+        }
     }
 
     /// Returns what `search` asks for.
@@ -215,10 +214,12 @@ impl<'a> SearchOptions<'a> {
         ensures question { IfOk result (IsSearch self.now) }
         ensures refused { IfErr result (IsSearchMisuse self.now) }
     {
-        if self.distance {
-            self.distances()
-        } else {
-            self.pairs()
-        }
+        let form = self.form()?;
+        let query = ListQuery {
+            choice: self.choice()?,
+            order: self.order(),
+            limit: self.list.most()?,
+        };
+        Ok(Question::List(form, query))
     }
 }

@@ -4,8 +4,10 @@ ghost use Rattle.std.specs.Prelude.{◌≡◌, ◌++◌, ◌<◌, ◌^◌, ℕ, 
 ghost use Rattle.std.specs.Io.KnownBytes.{Appends};
 ghost use Rattle.zerotrie_files.specs.Faults.{IsNoted};
 ghost use Rattle.zerotrie_files.specs.Parts.{AppendsPart};
+ghost use Rattle.zerotrie_queries.specs.Listed.{edits_said};
 ghost use Rattle.zerotrie_queries.specs.Printed.{lines_of, number_line, pair_line, listed};
 
+use crate::listing::distances::Distances;
 use crate::listing::json_object::write_object;
 use crate::print::{Form, Style, add_number_line, add_pair};
 use std::alloc::{AllocError, Global};
@@ -61,7 +63,7 @@ fn add_block<P: TrieListing, L: PairLine>(
 }
 
 /// Writes the lines of pairs, many at once. If it fails, a beginning of them was written.
-pub(crate) fn write_lines<P: TrieListing + Drop, L: PairLine, W: Write>(
+fn write_lines<P: TrieListing + Drop, L: PairLine, W: Write>(
     alloc: Global,
     mut pairs: P,
     line: &L,
@@ -120,19 +122,21 @@ fn write_count<P: TrieListing + Drop, W: Write>(
 pub(crate) fn write_pairs<P: TrieListing + Drop, W: Write>(
     alloc: Global,
     form: Form,
+    edits: &Distances<'_>,
     pairs: P,
     output: &mut Noted<W>,
 ) -> io::Result<()>
     ensures all { OnOk result (P.IsValid pairs → length (P.left pairs).pairs < 2 ^ 64
         → Appends (W.contents output.old.inner) (W.contents output.new.inner)
-        (listed form (P.left pairs).pairs)) }
+        (listed form (edits_said edits.now) (P.left pairs).pairs)) }
     ensures part { OnErr result (P.IsValid pairs → length (P.left pairs).pairs < 2 ^ 64
         → AppendsPart (W.contents output.old.inner) (W.contents output.new.inner)
-        (listed form (P.left pairs).pairs)) }
+        (listed form (edits_said edits.now) (P.left pairs).pairs)) }
     ensures noted { IsNoted result output.old.failed output.new.failed }
 {
     match form {
         Form::Lines(style) => write_lines(alloc, pairs, &style, output),
+        Form::Distances => write_lines(alloc, pairs, edits, output),
         Form::Count => write_count(alloc, pairs, output),
         Form::Json => write_object(alloc, pairs, output),
     }

@@ -1,47 +1,17 @@
 //! The pairs of a trie as one JSON object, printed as they come.
 
-ghost use Rattle.std.specs.Prelude.{◌≡◌, ◌++◌, ◌∷◌, [], false, true, OnOk, OnErr, IfOk, IfSome, IfNone};
+ghost use Rattle.std.specs.Prelude.{◌++◌, ◌∷◌, [], false, OnOk, OnErr};
 ghost use Rattle.std.specs.Io.KnownBytes.{Appends};
-ghost use Rattle.zerotrie_any.specs.Json.{are_text};
-ghost use Rattle.zerotrie_queries.specs.Json.{object_line, member_texts, IsFirstNoText};
+ghost use Rattle.zerotrie_queries.specs.Json.{object_line, member_texts};
 ghost use Rattle.zerotrie_files.specs.Faults.{IsNoted};
 ghost use Rattle.zerotrie_files.specs.Parts.{AppendsPart};
 
 use crate::json_text::{add_comma, add_member};
-use crate::text::is_text;
-use std::alloc::{AllocError, Global};
+use std::alloc::Global;
 use std::io;
 use std::io::Write;
 use zerotrie_files::Noted;
 use zerotrie_search::TrieListing;
-
-fn copied(alloc: Global, bytes: &[u8]) -> Result<Vec<u8>, AllocError>
-    ensures { IfOk result (λ copy. copy.items ≡ bytes.now) }
-{
-    let mut copy = Vec::new(alloc);
-    copy.extend_from_slice(bytes)?;
-    Ok(copy)
-}
-
-/// Returns the first of the keys to come that is not UTF-8, if there is one.
-pub(crate) fn first_no_text<P: TrieListing + Drop>(
-    alloc: Global,
-    mut pairs: P,
-) -> Result<Option<Vec<u8>>, AllocError>
-    ensures some { IfOk result (λ key. IfSome key (λ k. P.IsValid pairs
-        → IsFirstNoText (P.left pairs).pairs k.items)) }
-    ensures none { IfOk result (λ key. IfNone key (P.IsValid pairs
-        → are_text (P.left pairs).pairs ≡ true)) }
-{
-    loop {
-        if !pairs.advance()? {
-            return Ok(None);
-        }
-        if !is_text(pairs.key()) {
-            return Ok(Some(copied(alloc, pairs.key())?));
-        }
-    }
-}
 
 /// Writes the pairs to come as members, with commas between.
 fn write_members<P: TrieListing + Drop, W: Write>(

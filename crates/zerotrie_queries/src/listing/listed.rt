@@ -1,6 +1,6 @@
 //! Which pairs are listed: the choice, made once, and returned as a listing.
 
-ghost use Rattle.std.specs.Prelude.{◌≡◌, ◌==◌, ◌≢◌, ◌&&◌, ℕ, List, length, not, true, false, Some, None, IfOk, IfSome};
+ghost use Rattle.std.specs.Prelude.{◌≡◌, ◌==◌, ◌&&◌, ℕ, List, is_some, length, not, true, IfOk};
 ghost use Rattle.std.proofs.Common.{suc};
 ghost use Rattle.std.specs.FinMap.{entries};
 ghost use Rattle.std.specs.Range.Bound.{bound_map};
@@ -15,8 +15,7 @@ ghost use Rattle.zerotrie_queries.specs.Chosen.{AreBelow, AreWordsOf, IsFolded, 
 ghost use Rattle.zerotrie_queries.specs.Listed.{Gives, first_picked};
 ghost use Rattle.zerotrie_queries.specs.Kept.{keeps, may_keep};
 ghost use Rattle.zerotrie_queries.specs.Pairs.{AreChosenValid, AreFirstValid, IsValid, left_of, left_of_chosen, left_of_first};
-ghost use Rattle.zerotrie_queries.specs.Sorted.{AreWithin, picked};
-ghost use Rattle.zerotrie_queries.specs.Readings.{IsReadWithin, read_order, read_so};
+ghost use Rattle.zerotrie_queries.specs.Sorted.{AreWithin, found_between, is_prefix_alone, is_unbounded, picked};
 ghost use Rattle.zerotrie_queries.specs.declared.question.Order.TheVariants.{ByBytes, Closest, Nearest, Stored};
 
 use crate::filtered::next_accepted;
@@ -29,47 +28,34 @@ use std::alloc::{AllocError, Global};
 use std::ops::Bound;
 use zerotrie_core::{Trie, TrieKind, TrieRef, ZeroTrieStream};
 use zerotrie_search::{
-    AnyAutomaton, AnyOf, Automaton, BeginsWith, ByKind, Fuzzy, Glob, GlobChars, KeyRange,
-    Levenshtein, LevenshteinChars, Osa, OsaChars, Search, StartsWith, Subsequence, TrieListing,
-    ZeroTrieNearest, ZeroTrieSearch, ZeroTrieSortedSearch,
+    AnyAutomaton, Automaton, BeginsWith, ByKind, Fuzzy, Glob, GlobChars, KeyRange, Levenshtein,
+    LevenshteinChars, Osa, OsaChars, Search, StartsWith, Subsequence, TrieListing, ZeroTrieNearest,
+    ZeroTrieSortedSearch,
 };
 
-/// How a trie is read.
-#[derive(Clone, Copy, Debug)]
-pub(crate) enum Reading<'q> {
-    /// In its own order.
-    Stored,
-    /// In the order of bytes, between two bounds.
-    Between(Bound<&'q [u8]>, Bound<&'q [u8]>),
-}
+/// The pairs that a word finds, in the order of bytes.
+type WordPairs<'t, 'q, W> = ZeroTrieSortedSearch<'t, 'q, ByKind<Found<W>>>;
 
-/// The pairs that a word finds: in the order of the trie, in that of bytes, or otherwise.
-type Searches<'t, 'q, W, C> = AnyOf<
-    ZeroTrieSearch<'t, ByKind<Found<W>>>,
-    ZeroTrieSortedSearch<'t, 'q, ByKind<Found<W>>>,
-    C,
->;
+/// The pairs that edits of a word find, the nearest first.
+type NearPairs<'t, W> = ZeroTrieNearest<'t, ByKind<W>>;
 
-/// The pairs that a word finds in either order. There is no third.
-type WordPairs<'t, 'q, W> = Searches<'t, 'q, W, ZeroTrieStream<'t>>;
-
-/// The pairs that edits of a word find in either order, or the nearest first.
-type EditsPairs<'t, 'q, W> = Searches<'t, 'q, W, ZeroTrieNearest<'t, ByKind<W>>>;
-
-/// The pairs with a prefix, those of which the conditions of a choice hold, or those that a word finds.
+/// The pairs with a prefix in the order of the trie, or those that a word finds.
 #[derive(Drop)]
 pub(crate) enum ListedPairs<'t, 'q> {
     Plain(ZeroTrieStream<'t>),
-    Kept(ZeroTrieSearch<'t, Conditions<'q>>),
     Prefix(WordPairs<'t, 'q, StartsWith<'q>>),
     Range(WordPairs<'t, 'q, KeyRange<'q>>),
     Glob(WordPairs<'t, 'q, Glob<'q>>),
     GlobChars(WordPairs<'t, 'q, GlobChars<'q>>),
     Subsequence(WordPairs<'t, 'q, Subsequence<'q>>),
-    Fuzzy(EditsPairs<'t, 'q, Levenshtein>),
-    FuzzyChars(EditsPairs<'t, 'q, LevenshteinChars>),
-    Swaps(EditsPairs<'t, 'q, Osa>),
-    SwapsChars(EditsPairs<'t, 'q, OsaChars>),
+    Fuzzy(WordPairs<'t, 'q, Levenshtein>),
+    FuzzyChars(WordPairs<'t, 'q, LevenshteinChars>),
+    Swaps(WordPairs<'t, 'q, Osa>),
+    SwapsChars(WordPairs<'t, 'q, OsaChars>),
+    NearFuzzy(NearPairs<'t, Levenshtein>),
+    NearFuzzyChars(NearPairs<'t, LevenshteinChars>),
+    NearSwaps(NearPairs<'t, Osa>),
+    NearSwapsChars(NearPairs<'t, OsaChars>),
 }
 
 /// Evaluates an expression with the listing that there is, under a name.
@@ -77,7 +63,6 @@ macro_rules! by_pairs {
     ($any:expr, $pairs:ident => $result:expr) => {
         match $any {
             ListedPairs::Plain($pairs) => $result,
-            ListedPairs::Kept($pairs) => $result,
             ListedPairs::Prefix($pairs) => $result,
             ListedPairs::Range($pairs) => $result,
             ListedPairs::Glob($pairs) => $result,
@@ -87,6 +72,10 @@ macro_rules! by_pairs {
             ListedPairs::FuzzyChars($pairs) => $result,
             ListedPairs::Swaps($pairs) => $result,
             ListedPairs::SwapsChars($pairs) => $result,
+            ListedPairs::NearFuzzy($pairs) => $result,
+            ListedPairs::NearFuzzyChars($pairs) => $result,
+            ListedPairs::NearSwaps($pairs) => $result,
+            ListedPairs::NearSwapsChars($pairs) => $result,
         }
     };
 }
@@ -157,35 +146,27 @@ fn begins_of(sought: Option<Sought<'_>>) -> bool
     }
 }
 
-/// Lists the pairs that the word of a choice finds, as the trie is read. `word` finds what it does.
-fn by_word<'t, 'q, W: Automaton + Drop, C: TrieListing>(
+/// Lists the pairs between two bounds that the word of a choice finds. `word` finds what it does.
+fn by_word<'t, 'q, W: Automaton + Drop>(
     alloc: Global,
     trie: &'t TrieRef<'_>,
     choice: Choice<'q>,
-    reading: Reading<'q>,
+    part: KeyRange<'q>,
     word: W,
-) -> Result<Searches<'t, 'q, W, C>, AllocError>
+) -> Result<WordPairs<'t, 'q, W>, AllocError>
     requires { (key : List ℕ)
         → found_from (begins_of choice.sought) (W.accepts word) (folded_key (kind_of trie.now.kind) key)
         ≡ is_matched trie.now.kind choice.sought key }
-    ensures { IfOk result (Gives ⟦<Searches<'t, 'q, W, C> as TrieListing>⟧.IsValid
-        ⟦<Searches<'t, 'q, W, C> as TrieListing>⟧.left
-        (read_so reading.entry (is_matched trie.now.kind choice.entry.sought))
+    ensures { IfOk result (Gives ⟦<WordPairs<'t, 'q, W> as TrieListing>⟧.IsValid
+        ⟦<WordPairs<'t, 'q, W> as TrieListing>⟧.left
+        (found_between part.entry (is_matched trie.now.kind choice.entry.sought))
         trie.now.kind trie.now.bytes.now) }
 {
-    let begins = begins_of(choice.sought);
     let found = Found {
         word: BeginsWith(word),
-        begins,
+        begins: begins_of(choice.sought),
     };
-    let automaton = ByKind(trie.kind, found);
-    match reading {
-        Reading::Stored => Ok(AnyOf::First(trie.search(alloc, automaton))),
-        Reading::Between(from, to) => {
-            let pairs = trie.search_sorted(alloc, from, to, automaton)?;
-            Ok(AnyOf::Second(pairs))
-        }
-    }
+    trie.search_sorted(alloc, part.from, part.to, ByKind(trie.kind, found))
 }
 
 /// Returns the automaton of the word of a choice, as a kind compares keys. Without a word it accepts all
@@ -209,52 +190,53 @@ fn automaton_of<'q>(kind: TrieKind, choice: Choice<'q>) -> AnyAutomaton<'q>
     }
 }
 
-/// Lists the pairs that the word of a choice finds, as the trie is read.
+/// Lists the pairs between two bounds that the word of a choice finds.
 fn found<'t, 'q>(
     alloc: Global,
     trie: &'t TrieRef<'_>,
     choice: Choice<'q>,
-    reading: Reading<'q>,
+    part: KeyRange<'q>,
 ) -> Result<ListedPairs<'t, 'q>, AllocError>
     requires { IsFolded trie.now.kind choice }
     ensures { IfOk result (Gives IsValid left_of
-        (read_so reading.entry (is_matched trie.now.kind choice.entry.sought))
+        (found_between part.entry (is_matched trie.now.kind choice.entry.sought))
         trie.now.kind trie.now.bytes.now) }
 {
     match automaton_of(trie.kind, choice) {
         AnyAutomaton::Prefix(word) => {
-            Ok(ListedPairs::Prefix(by_word(alloc, trie, choice, reading, word)?))
+            Ok(ListedPairs::Prefix(by_word(alloc, trie, choice, part, word)?))
         }
         AnyAutomaton::Range(word) => {
-            Ok(ListedPairs::Range(by_word(alloc, trie, choice, reading, word)?))
+            Ok(ListedPairs::Range(by_word(alloc, trie, choice, part, word)?))
         }
         AnyAutomaton::Glob(word) => {
-            Ok(ListedPairs::Glob(by_word(alloc, trie, choice, reading, word)?))
+            Ok(ListedPairs::Glob(by_word(alloc, trie, choice, part, word)?))
         }
         AnyAutomaton::GlobChars(word) => {
-            Ok(ListedPairs::GlobChars(by_word(alloc, trie, choice, reading, word)?))
+            Ok(ListedPairs::GlobChars(by_word(alloc, trie, choice, part, word)?))
         }
         AnyAutomaton::Subsequence(word) => {
-            Ok(ListedPairs::Subsequence(by_word(alloc, trie, choice, reading, word)?))
+            Ok(ListedPairs::Subsequence(by_word(alloc, trie, choice, part, word)?))
         }
         AnyAutomaton::Fuzzy(word) => {
-            Ok(ListedPairs::Fuzzy(by_word(alloc, trie, choice, reading, word)?))
+            Ok(ListedPairs::Fuzzy(by_word(alloc, trie, choice, part, word)?))
         }
         AnyAutomaton::FuzzyChars(word) => {
-            Ok(ListedPairs::FuzzyChars(by_word(alloc, trie, choice, reading, word)?))
+            Ok(ListedPairs::FuzzyChars(by_word(alloc, trie, choice, part, word)?))
         }
         AnyAutomaton::Swaps(word) => {
-            Ok(ListedPairs::Swaps(by_word(alloc, trie, choice, reading, word)?))
+            Ok(ListedPairs::Swaps(by_word(alloc, trie, choice, part, word)?))
         }
         AnyAutomaton::SwapsChars(word) => {
-            Ok(ListedPairs::SwapsChars(by_word(alloc, trie, choice, reading, word)?))
+            Ok(ListedPairs::SwapsChars(by_word(alloc, trie, choice, part, word)?))
         }
     }
 }
 
 /// Returns whether a range has no bounds.
 fn is_unbounded(range: KeyRange<'_>) -> bool
-    ensures { result ≡ true → (kind : TrieKind) → (key : List ℕ) → is_in kind range.entry key ≡ true }
+    ensures unbounded { result ≡ is_unbounded range.entry }
+    ensures all { result ≡ true → (kind : TrieKind) → (key : List ℕ) → is_in kind range.entry key ≡ true }
 {
     match (range.from, range.to) {
         (Bound::Unbounded, Bound::Unbounded) => true,
@@ -265,10 +247,20 @@ fn is_unbounded(range: KeyRange<'_>) -> bool
 
 /// Returns whether a choice has no condition but a prefix and that of its word.
 fn is_by_prefix(choice: Choice<'_>) -> bool
-    ensures { result ≡ true → (kind : TrieKind) → (key : List ℕ)
+    ensures prefix { result ≡ not (is_some choice.entry.without) && is_unbounded choice.entry.range }
+    ensures kept { result ≡ true → (kind : TrieKind) → (key : List ℕ)
         → is_kept kind choice.entry key ≡ begins_with (kind_of kind) choice.entry.prefix.now key }
 {
     choice.without.is_none() && is_unbounded(choice.range)
+}
+
+/// Returns whether a choice has no condition but a prefix.
+fn is_prefix_alone(choice: Choice<'_>) -> bool
+    ensures alone { result ≡ is_prefix_alone choice.entry }
+    ensures chosen { result ≡ true → (kind : TrieKind) → (key : List ℕ)
+        → is_chosen kind choice.entry key ≡ begins_with (kind_of kind) choice.entry.prefix.now key }
+{
+    choice.sought.is_none() && is_by_prefix(choice)
 }
 
 /// Returns whether a choice has no condition but that of its word.
@@ -291,62 +283,6 @@ fn condition_of<'q>(kind: TrieKind, choice: Choice<'q>) -> Option<Conditions<'q>
     Some(conditions(kind, choice))
 }
 
-/// Lists the pairs whose keys are chosen, as the trie is read.
-fn chosen<'t, 'q>(
-    alloc: Global,
-    trie: &'t TrieRef<'_>,
-    choice: Choice<'q>,
-    reading: Reading<'q>,
-) -> Result<ChosenPairs<'t, 'q>, AllocError>
-    requires folded { IsFolded trie.now.kind choice }
-    requires within { IsReadWithin trie.now.kind choice reading }
-    ensures { IfOk result (Gives AreChosenValid left_of_chosen
-        (picked (read_order reading.entry) trie.now.kind choice.entry) trie.now.kind trie.now.bytes.now) }
-{
-    let pairs = found(alloc, trie, choice, reading)?;
-    let condition = condition_of(trie.kind, choice);
-    Ok(ChosenPairs { pairs, condition })
-}
-
-/// Lists the pairs whose keys are chosen, in the order of the trie. The choice has no word.
-fn unsought<'t, 'q>(
-    alloc: Global,
-    trie: &'t TrieRef<'_>,
-    choice: Choice<'q>,
-) -> Result<ListedPairs<'t, 'q>, AllocError>
-    requires folded { IsFolded trie.now.kind choice }
-    requires none { choice.sought ≡ None }
-    ensures { IfOk result (Gives IsValid left_of (picked Stored trie.now.kind choice.entry)
-        trie.now.kind trie.now.bytes.now) }
-{
-    if is_by_prefix(choice) {
-        let pairs = trie.stream_prefix(alloc, choice.prefix)?;
-        return Ok(ListedPairs::Plain(pairs));
-    }
-    let kept = conditions(trie.kind, choice);
-    Ok(ListedPairs::Kept(trie.search(alloc, kept)))
-}
-
-/// Lists the pairs whose keys are chosen, in the order of the trie.
-fn stored<'t, 'q>(
-    alloc: Global,
-    trie: &'t TrieRef<'_>,
-    choice: Choice<'q>,
-) -> Result<ChosenPairs<'t, 'q>, AllocError>
-    requires { IsFolded trie.now.kind choice }
-    ensures { IfOk result (Gives AreChosenValid left_of_chosen
-        (picked Stored trie.now.kind choice.entry) trie.now.kind trie.now.bytes.now) }
-{
-    if choice.sought.is_some() {
-        return chosen(alloc, trie, choice, Reading::Stored);
-    }
-    let pairs = unsought(alloc, trie, choice)?;
-    Ok(ChosenPairs {
-        pairs,
-        condition: None,
-    })
-}
-
 /// Returns two bounds between which all keys are that are chosen. `above` is above all keys that begin
 /// with the prefix.
 #[tactic(auto, using(crate::proofs::SortedLemmas::range_within, crate::proofs::SortedLemmas::all_within, crate::proofs::SortedLemmas::prefix_within))]
@@ -354,20 +290,22 @@ fn bounds<'q>(
     kind: TrieKind,
     choice: Choice<'q>,
     above: Bound<&'q [u8]>,
-) -> (Bound<&'q [u8]>, Bound<&'q [u8]>)
+) -> KeyRange<'q>
     requires folded { IsFolded kind choice }
     requires above { AreBelow choice.prefix.now (bound_map (λ b. b.now) above) }
-    ensures { AreWithin kind choice.entry (bound_map (λ b. b.now) result.0)
-        (bound_map (λ b. b.now) result.1) }
+    ensures { AreWithin kind choice.entry (bound_map (λ b. b.now) result.from)
+        (bound_map (λ b. b.now) result.to) }
 {
     match (kind, is_unbounded(choice.range)) {
-        (TrieKind::Ignore, _) => (Bound::Unbounded, Bound::Unbounded),
-        (TrieKind::Simple | TrieKind::Hash | TrieKind::Ext, true) => {
-            (Bound::Included(choice.prefix), above)
-        }
-        (TrieKind::Simple | TrieKind::Hash | TrieKind::Ext, false) => {
-            (choice.range.from, choice.range.to)
-        }
+        (TrieKind::Ignore, _) => KeyRange {
+            from: Bound::Unbounded,
+            to: Bound::Unbounded,
+        },
+        (TrieKind::Simple | TrieKind::Hash | TrieKind::Ext, true) => KeyRange {
+            from: Bound::Included(choice.prefix),
+            to: above,
+        },
+        (TrieKind::Simple | TrieKind::Hash | TrieKind::Ext, false) => choice.range,
     }
 }
 
@@ -383,8 +321,33 @@ fn sorted<'t, 'q>(
     ensures { IfOk result (Gives AreChosenValid left_of_chosen
         (picked ByBytes trie.now.kind choice.entry) trie.now.kind trie.now.bytes.now) }
 {
-    let (from, to) = bounds(trie.kind, choice, above);
-    chosen(alloc, trie, choice, Reading::Between(from, to))
+    let part = bounds(trie.kind, choice, above);
+    let pairs = found(alloc, trie, choice, part)?;
+    let condition = condition_of(trie.kind, choice);
+    Ok(ChosenPairs { pairs, condition })
+}
+
+/// Lists the pairs whose keys are chosen: in the order of the trie those with a prefix, and others in the
+/// order of their bytes.
+fn stored<'t, 'q>(
+    alloc: Global,
+    trie: &'t TrieRef<'_>,
+    choice: Choice<'q>,
+    above: Bound<&'q [u8]>,
+) -> Result<ChosenPairs<'t, 'q>, AllocError>
+    requires folded { IsFolded trie.now.kind choice }
+    requires above { AreBelow choice.prefix.now (bound_map (λ b. b.now) above) }
+    ensures { IfOk result (Gives AreChosenValid left_of_chosen
+        (picked Stored trie.now.kind choice.entry) trie.now.kind trie.now.bytes.now) }
+{
+    if !is_prefix_alone(choice) {
+        return sorted(alloc, trie, choice, above);
+    }
+    let pairs = trie.stream_prefix(alloc, choice.prefix)?;
+    Ok(ChosenPairs {
+        pairs: ListedPairs::Plain(pairs),
+        condition: None,
+    })
 }
 
 /// Returns whether a listing has a pair.
@@ -450,17 +413,17 @@ fn closest<'t, 'q>(
 }
 
 /// Lists the pairs that edits of a word find, the nearest first.
-fn near<'t, 'q, W: Fuzzy>(
+fn near<'t, W: Fuzzy>(
     alloc: Global,
     trie: &'t TrieRef<'_>,
     word: W,
-) -> Result<EditsPairs<'t, 'q, W>, AllocError>
-    ensures { IfOk result (Gives ⟦<EditsPairs<'t, 'q, W> as TrieListing>⟧.IsValid
-        ⟦<EditsPairs<'t, 'q, W> as TrieListing>⟧.left
+) -> Result<NearPairs<'t, W>, AllocError>
+    ensures { IfOk result (Gives ⟦<NearPairs<'t, W> as TrieListing>⟧.IsValid
+        ⟦<NearPairs<'t, W> as TrieListing>⟧.left
         (λ pairs. nearest (λ key. W.measure word (folded_key (kind_of trie.now.kind) key))
         (entries (map_of pairs)) 0 (suc (W.most word))) trie.now.kind trie.now.bytes.now) }
 {
-    Ok(AnyOf::Third(trie.nearest(alloc, ByKind(trie.kind, word))?))
+    trie.nearest(alloc, ByKind(trie.kind, word))
 }
 
 /// Lists the pairs whose keys are chosen, all of them by no edit, in the order of their bytes.
@@ -501,19 +464,19 @@ fn by_edits<'t, 'q>(
     let condition = condition_of(trie.kind, choice);
     match any {
         AnyAutomaton::Fuzzy(word) => {
-            let pairs = ListedPairs::Fuzzy(near(alloc, trie, word)?);
+            let pairs = ListedPairs::NearFuzzy(near(alloc, trie, word)?);
             Ok(ChosenPairs { pairs, condition })
         }
         AnyAutomaton::FuzzyChars(word) => {
-            let pairs = ListedPairs::FuzzyChars(near(alloc, trie, word)?);
+            let pairs = ListedPairs::NearFuzzyChars(near(alloc, trie, word)?);
             Ok(ChosenPairs { pairs, condition })
         }
         AnyAutomaton::Swaps(word) => {
-            let pairs = ListedPairs::Swaps(near(alloc, trie, word)?);
+            let pairs = ListedPairs::NearSwaps(near(alloc, trie, word)?);
             Ok(ChosenPairs { pairs, condition })
         }
         AnyAutomaton::SwapsChars(word) => {
-            let pairs = ListedPairs::SwapsChars(near(alloc, trie, word)?);
+            let pairs = ListedPairs::NearSwapsChars(near(alloc, trie, word)?);
             Ok(ChosenPairs { pairs, condition })
         }
         AnyAutomaton::Prefix(_)
@@ -564,7 +527,7 @@ fn ordered<'t, 'q>(
         (picked order trie.now.kind choice.entry) trie.now.kind trie.now.bytes.now) }
 {
     match order {
-        Order::Stored => stored(alloc, trie, choice),
+        Order::Stored => stored(alloc, trie, choice, above),
         Order::ByBytes => sorted(alloc, trie, choice, above),
         Order::Closest => closest(alloc, trie, choice, above),
         Order::Nearest => nearest(alloc, trie, choice, above),
@@ -574,10 +537,9 @@ fn ordered<'t, 'q>(
 /// Lists the pairs of a selection: the first whose keys are chosen, in its order. `words` are those of its
 /// choice.
 ///
-/// It validates no bytes. In the order of the trie it reads no part of it in which no such key can be. In
-/// the order of bytes it reads the part between the bounds of the range or, if there are none and the kind
-/// does not ignore case, the part with the prefix, and skips the keys that begin as none of these keys
-/// does.
+/// It validates no bytes. In the order of the trie it reads the part with the prefix. In the order of bytes
+/// it reads the part between the bounds of the range or, if there are none and the kind does not ignore case,
+/// the part with the prefix, and skips the keys that begin as none of these keys does.
 pub(crate) fn listed<'t, 'q>(
     alloc: Global,
     trie: &'t TrieRef<'_>,

@@ -3,7 +3,7 @@
 ghost use Rattle.std.specs.Prelude.{◌≡◌, List, ℕ, false, IfOk, IfSome, IfNone, OnOk};
 ghost use Rattle.std.specs.Io.KnownBytes.{Appends};
 ghost use Rattle.std.specs.String.{string_bytes};
-ghost use Rattle.zerotrie_run.specs.Messages.{IsLineOn, IsNumberLine, TellsAsk, TellsNoTrie, counted_from, fault_words, not_text_line, source_name, tag_words};
+ghost use Rattle.zerotrie_run.specs.Messages.{IsLineOn, IsNumberLine, TellsAsk, TellsNoTrie, counted_from, fault_words, source_name, tag_words, unprintable_line, unprintable_words};
 ghost use Rattle.zerotrie_run.specs.Runs.{HasNumberToo};
 ghost use Rattle.zerotrie_run.specs.Told.{TellsMore};
 
@@ -21,7 +21,7 @@ use std::io::Write;
 use zerotrie_any::TagError;
 use zerotrie_core::{Fault, TrieKind};
 use zerotrie_files::Noted;
-use zerotrie_queries::{OpenError, of_tagged};
+use zerotrie_queries::{Form, OpenError, of_tagged};
 use zerotrie_sealed::{SealError, is_index_number};
 
 /// Returns what the places in a file are counted from.
@@ -171,11 +171,23 @@ pub fn tell_number<M: Write>(
     }
 }
 
-/// Returns a line that says that pairs can't be one JSON value, with the key that shows it.
-fn not_text(alloc: Global, place: &str, key: &[u8]) -> Result<Vec<u8>, AllocError>
-    ensures { IfOk result (λ text. text.items ≡ not_text_line place.now key.now) }
+/// Returns why a form can't have a key, and which one can.
+fn unprintable_words(form: Form) -> &'static str
+    ensures { result.now ≡ unprintable_words form }
 {
-    let words = with_key(alloc, "a key is not UTF-8, so take --format jsonl: ", key)?;
+    match form {
+        Form::Lines(_) => "a key has a tab or a line feed, so leave out --raw: ",
+        Form::Json | Form::Distances | Form::Count => {
+            "a key is not UTF-8, so take --format jsonl: "
+        }
+    }
+}
+
+/// Returns a line that says that pairs can't be printed in a form, with the key that shows it.
+fn unprintable(alloc: Global, place: &str, form: Form, key: &[u8]) -> Result<Vec<u8>, AllocError>
+    ensures { IfOk result (λ text. text.items ≡ unprintable_line place.now form key.now) }
+{
+    let words = with_key(alloc, unprintable_words(form), key)?;
     line_on(alloc, place, words.as_slice())
 }
 
@@ -187,7 +199,7 @@ pub fn ask_text(alloc: Global, file: TrieFile<'_>, error: &AskError) -> Result<V
     match error {
         AskError::Unread(error) => fault_on(alloc, path, error),
         AskError::NoTrie(why, hint) => no_trie(alloc, file, why, *hint),
-        AskError::NotText(key) => not_text(alloc, path, key.as_slice()),
+        AskError::Unprintable(form, key) => unprintable(alloc, path, *form, key.as_slice()),
         AskError::Unanswered(AnswerError::Input(error)) => fault_on(alloc, STANDARD_INPUT, error),
         AskError::Unanswered(AnswerError::NoLines(other)) => {
             line_on(alloc, STANDARD_INPUT, other_words(*other).as_bytes())
@@ -207,7 +219,6 @@ fn is_index(question: Question<'_>, why: SealError) -> bool {
         Question::Verify => is_sealed_index(why),
         Question::LookUp(_, _)
         | Question::List(_, _)
-        | Question::Distances(_, _)
         | Question::Code(_, _)
         | Question::Report(_)
         | Question::View(_) => false,
@@ -231,7 +242,7 @@ pub fn question_text(
         ),
         AskError::Unread(_)
         | AskError::NoTrie(_, _)
-        | AskError::NotText(_)
+        | AskError::Unprintable(_, _)
         | AskError::Unanswered(_) => ask_text(alloc, file, error),
     }
 }
