@@ -4,7 +4,8 @@ use Rattle.std.specs.Prelude.{◌==◌, ◌||◌, is_some, not}
 use Rattle.std.specs.Range.Bound.{is_from_start, is_up_to_end}
 use Rattle.std.specs.declared.ops.Bound.TheVariants.{Included, Excluded}
 use Rattle.std.proofs.lemmas.Bool.{ne_eqb}
-use Rattle.zerotrie_base.specs.Maps.{after_run}
+use Rattle.zerotrie_base.specs.Kind.{Kind}
+use Rattle.zerotrie_base.specs.Maps.{after_run, begins_with}
 use Rattle.zerotrie_search.specs.Sets.{has_within, by_bytes, some_front}
 
 some_left : (n : ℕ) → (suc n == 0) ≡ false
@@ -13,6 +14,10 @@ some_left n = ne_eqb (suc n) 0 (λ e. omega (arith, e))
 pub begins_here : (left : List ℕ) → (length left == 0) ≡ is_some (after_run left [])
 begins_here [] = refl
 begins_here (b ∷ left) = some_left (length left)
+
+pub begins_by_here : (kind : Kind) (left : List ℕ) → (length left == 0) ≡ begins_with kind left []
+begins_by_here kind [] = refl
+begins_by_here kind (b ∷ left) = some_left (length left)
 
 pub within_here : (left : List ℕ) → (length left == 0) ≡ has_within left []
 within_here [] = refl

@@ -26,5 +26,6 @@ mod SkipLemmas
 mod LastLemmas
 mod TurnLemmas
 mod NearestLemmas
+mod StartLemmas
 mod FoldLemmas
 mod ListingLemmas

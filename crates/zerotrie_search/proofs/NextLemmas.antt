@@ -4,8 +4,8 @@ use Rattle.std.specs.Borrow.{Bor}
 use Rattle.std.specs.Prelude.{IfSome}
 use Rattle.std.specs.Range.Bound.{is_up_to_end}
 use Rattle.std.specs.declared.ops.Bound.{Bound}
-use Rattle.zerotrie_base.specs.Kind.{Kind, simple_ascii}
-use Rattle.zerotrie_base.specs.Maps.{Pairs, behind_all, value_at, with_run}
+use Rattle.zerotrie_base.specs.Kind.{Kind}
+use Rattle.zerotrie_base.specs.Maps.{Pairs, behind_all, with_run}
 use Rattle.zerotrie_search.specs.Forks.{IsRun, IsFork, IsShorter, AreForks}
 use Rattle.zerotrie_search.specs.Sets.{by_bytes}
 use Rattle.zerotrie_search.specs.Walks.{Walks, SameKeys, IsNext, IsStart, FindsWithin, Keeps, HasRun, is_to_come, rooms}

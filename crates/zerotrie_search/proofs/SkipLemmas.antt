@@ -1,5 +1,5 @@
 -- Leaving out pairs in the order of bytes.
-use Rattle.std.proofs.Common.{◌≡◌, ℕ, ◌≤◌, List, [], ◌∷◌, ◌++◌, length, refl, sym, ◌∙◌, ap, subst, arith, None, Bool, true, false, cond, inl, inr}
+use Rattle.std.proofs.Common.{◌≡◌, ℕ, List, [], ◌∷◌, ◌++◌, length, refl, sym, ◌∙◌, ap, subst, arith, None, Bool, true, false, cond, inl, inr}
 use Rattle.std.specs.Prelude.{◌&&◌, is_some, filter}
 use Rattle.std.specs.FinMap.{entries}
 use Rattle.std.specs.Range.Bound.{is_up_to_end}

@@ -6,7 +6,7 @@ use Rattle.std.specs.Cmp.{nat_cmp_is, tied_itself, nat_cmp_total}
 use Rattle.std.specs.Cmp.Lexicographic.{slice_cmp}
 use Rattle.std.specs.Ordering.{nat_cmp, is_le, is_lt, ordering_then}
 use Rattle.std.proofs.lemmas.Bool.{eq-eqb, ne_eqb, cases_eq, cases_lt}
-use Rattle.std.proofs.lemmas.List.{append-nil, length-drop, take_all}
+use Rattle.std.proofs.lemmas.List.{append-nil, length-drop}
 use Rattle.zerotrie_base.specs.Kind.{Kind, simple_ascii}
 use Rattle.zerotrie_base.specs.Maps.{Pairs, value_at, residual, behind_all, begins_some, edges, with_front, with_run}
 use Rattle.zerotrie_base.specs.Branches.{before_edges}
@@ -20,7 +20,7 @@ use Rattle.zerotrie_base.proofs.MapLemmas.Values.{behind_none}
 use Rattle.zerotrie_base.proofs.MapLemmas.Spans.{with_run-front, with_run-none, value_at-no_run}
 use Rattle.zerotrie_base.proofs.CanonicalLemmas.Canonical as canonical
 use Rattle.zerotrie_base.proofs.CanonicalLemmas.Canonical.{begins_each, lists_some, nil_end}
-use Rattle.zerotrie_base.proofs.NodeLemmas.Opened.{value_opens, literal_opens, span_opens, branch_opens, nothing_listed}
+use Rattle.zerotrie_base.proofs.NodeLemmas.Opened.{value_opens, literal_opens, span_opens, branch_opens}
 use Rattle.zerotrie_core.specs.ByteSets.{is_in}
 use Rattle.zerotrie_core.specs.Shapes.{branch_shape}
 use Rattle.zerotrie_core.specs.listing.Listed.{listed, listed_to, of_node, node_of}
@@ -31,7 +31,7 @@ use Rattle.zerotrie_search.specs.Forks.{is_among, NoEdge, SameEdges, IsFork, IsR
 use Rattle.zerotrie_search.specs.declared.sorted.fork.Fork.{Fork}
 use Rattle.zerotrie_search.proofs.OrderLemmas.{some_none, from_low, from_same, one_from, lift, same_more, value_exact, behind_more}
 use Rattle.zerotrie_core.proofs.CallerLemmas.{value_at-residual}
-use Rattle.zerotrie_search.proofs.ForkLemmas.{yes_second, a_begin, forks_run, behind_is, to_run, run_key, same_value, past_edges, none_there, no_key, past_byte, arrived, stands_whole, front_from, same_begin}
+use Rattle.zerotrie_search.proofs.ForkLemmas.{yes_second, a_begin, forks_run, behind_is, to_run, run_key, same_value, none_there, no_key, past_byte, arrived, stands_whole, front_from, same_begin}
 use Rattle.zerotrie_search.proofs.RoomLemmas.{need_opened, edge_byte}
 use Rattle.zerotrie_search.proofs.LeftLemmas.{le_more, above_other}
 

@@ -1,5 +1,5 @@
 -- A walk from node to node, and the keys that it has still to come to.
-use Rattle.std.proofs.Common.{◌≡◌, ℕ, zero, suc, ◌+◌, ◌-◌, ◌<◌, ◌≤◌, ◌⊎◌, List, [], ◌∷◌, ◌++◌, length, take, drop, refl, sym, ◌∙◌, ap, subst, arith, Option, Some, None, Bool, true, false, cond, inl, inr, append_assoc, length-append, length-drop, min, get_or, Ordering, Less}
+use Rattle.std.proofs.Common.{◌≡◌, ℕ, zero, suc, ◌+◌, ◌-◌, ◌<◌, ◌≤◌, ◌⊎◌, List, [], ◌∷◌, ◌++◌, length, take, drop, refl, sym, ◌∙◌, ap, subst, arith, Option, Some, None, Bool, true, false, cond, inl, inr, append_assoc, length-append, length-drop, min, get_or, Less}
 use Rattle.std.specs.Prelude.{◌≢◌, ◌==◌, ◌||◌, ◌&&◌, nat_le, not, is_some, reverse, slice_set}
 use Rattle.std.specs.Borrow.{Bor}
 use Rattle.std.specs.Option.{option_map_or}
@@ -27,11 +27,11 @@ use Rattle.zerotrie_core.specs.listing.Listed.{listed, node_of}
 use Rattle.zerotrie_core.specs.declared.branch.Branch.{Branch}
 use Rattle.zerotrie_core.specs.declared.byte_set.ByteSet.{ByteSet}
 use Rattle.zerotrie_search.specs.Paths.{is_from}
-use Rattle.zerotrie_search.specs.Forks.{is_among, SameEdges, Clear, IsOpen, IsFork, IsOver, IsRun, AreForks, Stands, StandsOrEnds, TakesLeast, bound_by, outer}
+use Rattle.zerotrie_search.specs.Forks.{is_among, Clear, IsOpen, IsFork, IsOver, IsRun, AreForks, Stands, StandsOrEnds, bound_by, outer}
 use Rattle.zerotrie_search.specs.Sorted.{begins_else, IsOutside}
-use Rattle.zerotrie_search.specs.Walks.{goes_by, has_key, is_in_forks, is_to_come, rooms, IsAhead, IsOnKey, AreOpen, Reads, ReadsOn, limit_at, Walks, SameKeys, IsNext, Keeps, KeepsFront, EntersEdge, Enters, Climbs, IsStart, NarrowsTo, Narrows}
+use Rattle.zerotrie_search.specs.Walks.{goes_by, has_key, is_in_forks, is_to_come, rooms, IsAhead, AreOpen, Reads, ReadsOn, limit_at, Walks, SameKeys, IsNext, Keeps, KeepsFront, EntersEdge, Enters, Climbs, IsStart, NarrowsTo, Narrows}
 use Rattle.zerotrie_search.specs.declared.sorted.fork.Fork.{Fork}
-use Rattle.zerotrie_search.proofs.OrderLemmas.{some_none, from_low, from_high, from_same, from_none, one_from, value_exact, value_behind, behind_more}
+use Rattle.zerotrie_search.proofs.OrderLemmas.{some_none, from_low, from_high, from_same, one_from, value_exact, value_behind, behind_more}
 use Rattle.zerotrie_search.proofs.ForkLemmas.{no_key, no_begin, fork_over, way_front, behind_is, same_value, none_there, and_no, and_yes, le_is, le_no, le_yes, or_none, yes_first}
 use Rattle.zerotrie_search.proofs.RoomLemmas.{need_fewer}
 use Rattle.zerotrie_search.proofs.StandLemmas.{fork_opened, branch_no_value, none_listed, value_front}

@@ -26,4 +26,3 @@ pub mod Walks
 pub mod SortedLaws
 pub mod Lasts
 pub mod Nearest
-pub mod AnyOf

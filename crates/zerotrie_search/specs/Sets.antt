@@ -5,12 +5,18 @@ use Rattle.std.specs.declared.cmp.Ordering.{Ordering}
 use Rattle.std.specs.Range.Bound.{is_from_start, is_up_to_end}
 use Rattle.std.specs.declared.ops.Bound.{Bound}
 use Rattle.std.specs.Cmp.Lexicographic.{slice_cmp}
-use Rattle.zerotrie_base.specs.Maps.{after_run}
+use Rattle.zerotrie_base.specs.Kind.{Kind}
+use Rattle.zerotrie_base.specs.Maps.{after_run, begins_with}
 
 -- whether a key begins with the rest of a front, if one is left
 abbrev pub begins_left : Option (List ℕ) → List ℕ → Bool
 begins_left None key = false
 begins_left (Some left) key = is_some (after_run left key)
+
+-- the same, as a kind compares bytes
+abbrev pub begins_left_by : Kind → Option (List ℕ) → List ℕ → Bool
+begins_left_by kind None key = false
+begins_left_by kind (Some left) key = begins_with kind left key
 
 -- whether a key has these bytes in this order, whatever comes before, between and after them
 abbrev pub has_within : List ℕ → List ℕ → Bool

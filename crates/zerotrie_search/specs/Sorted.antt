@@ -111,9 +111,9 @@ IsOutside front set key = (byte : ℕ) × (more : List ℕ) × (byte < 256) × (
 abbrev pub LeavesOut : (List ℕ → Type 0) → Left → Left → Type 0
 LeavesOut IsOut before after = (keeps : List ℕ → Bool) × (after ≡ accepted_left keeps before) × ((key : List ℕ) → keeps key ≡ false → IsOut key)
 
--- A search in the order of bytes: the sorted listing that it reads, what is left of that, of the
--- accepted pairs alone, the automaton, and its state after the key in hand.
-pub record SortedSearching (T S : Type 0) : Type 0 where
+-- A search: the sorted listing that it reads, what is left of that, of the accepted pairs alone, the
+-- automaton, and its state after the key in hand.
+pub record Searching (T S : Type 0) : Type 0 where
   pub sorted : Sorting
   pub left : Left
   pub automaton : T

@@ -1,5 +1,5 @@
 -- A walk from node to node in the order of bytes, and the keys that it has still to come to.
-use Rattle.std.specs.Prelude.{◌≡◌, ◌≢◌, ◌≤◌, ◌<◌, ◌+◌, ◌-◌, ◌&&◌, ◌||◌, ◌⊎◌, ℕ, List, [], ◌∷◌, ◌++◌, Bool, false, true, Option, Some, None, length, take, drop, filter, is_some}
+use Rattle.std.specs.Prelude.{◌≡◌, ◌≤◌, ◌<◌, ◌+◌, ◌-◌, ◌&&◌, ◌||◌, ◌⊎◌, ℕ, List, [], ◌∷◌, ◌++◌, Bool, false, true, Option, Some, None, length, take, drop, filter, is_some}
 use Rattle.std.proofs.Common.{suc}
 use Rattle.std.specs.Borrow.{Bor}
 use Rattle.std.specs.FinMap.{entries}
@@ -8,7 +8,7 @@ use Rattle.std.specs.Cmp.Lexicographic.{slice_cmp}
 use Rattle.std.specs.Range.Bound.{is_up_to_end}
 use Rattle.std.specs.declared.ops.Bound.{Bound}
 use Rattle.zerotrie_base.specs.Kind.{Kind, simple_ascii}
-use Rattle.zerotrie_base.specs.Maps.{Pairs, value_at, residual, behind_all, after_run, map_of}
+use Rattle.zerotrie_base.specs.Maps.{Pairs, value_at, behind_all, after_run, map_of}
 use Rattle.zerotrie_base.specs.Texts.{Lists}
 use Rattle.zerotrie_core.specs.ByteSets.{is_in}
 use Rattle.zerotrie_core.specs.Listings.{Left, to_come, over}

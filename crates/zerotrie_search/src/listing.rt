@@ -1,4 +1,4 @@
-//! Listings of the pairs of a trie, in any order, and one type for any of several.
+//! Listings of the pairs of a trie, in any order.
 
 ghost use Rattle.std.specs.Prelude.{◌≡◌, ◌≤◌, ◌+◌, ℕ, List};
 ghost use Rattle.zerotrie_core.specs.Listings.{Left, ListsOne, MemoryOnly, item_of};
@@ -8,7 +8,7 @@ use crate::automaton::Automaton;
 use crate::fuzzy::Fuzzy;
 use crate::nearest::ZeroTrieNearest;
 use crate::search::ZeroTrieSearch;
-use crate::sorted::{ZeroTrieSorted, ZeroTrieSortedSearch};
+use crate::sorted::ZeroTrieSorted;
 use std::alloc::{AllocError, Allocator};
 use zerotrie_core::ZeroTrieStream;
 
@@ -93,30 +93,6 @@ impl<'a, A: Allocator> TrieListing for ZeroTrieStream<'a, A> {
     }
 }
 
-impl<'a, T: Automaton, A: Allocator> TrieListing for ZeroTrieSearch<'a, T, A> {
-    ghost use Rattle.std.specs.Prelude.{length};
-
-    ghost IsValid = { λ _. Unit {0} };
-
-    ghost left = { λ s. s.left };
-
-    ghost current = { λ s. (s.stream.key, s.stream.value) };
-
-    ghost most = { λ s. length s.left.pairs };
-
-    fn advance(&mut self) -> Result<bool, AllocError> {
-        ZeroTrieSearch::advance(self)
-    }
-
-    fn key(&self) -> &[u8] {
-        ZeroTrieSearch::key(self)
-    }
-
-    fn value(&self) -> usize {
-        ZeroTrieSearch::value(self)
-    }
-}
-
 impl<'a, 'p, A: Allocator> TrieListing for ZeroTrieSorted<'a, 'p, A> {
     ghost use Rattle.zerotrie_core.specs.WellFormed.{IsWellFormed};
 
@@ -141,7 +117,7 @@ impl<'a, 'p, A: Allocator> TrieListing for ZeroTrieSorted<'a, 'p, A> {
     }
 }
 
-impl<'a, 'p, T: Automaton, A: Allocator> TrieListing for ZeroTrieSortedSearch<'a, 'p, T, A> {
+impl<'a, 'p, T: Automaton, A: Allocator> TrieListing for ZeroTrieSearch<'a, 'p, T, A> {
     ghost use Rattle.zerotrie_core.specs.WellFormed.{IsWellFormed};
 
     ghost IsValid = { λ s. IsWellFormed s.sorted.kind s.sorted.bytes };
@@ -153,15 +129,15 @@ impl<'a, 'p, T: Automaton, A: Allocator> TrieListing for ZeroTrieSortedSearch<'a
     ghost most = { λ s. s.sorted.most };
 
     fn advance(&mut self) -> Result<bool, AllocError> {
-        ZeroTrieSortedSearch::advance(self)
+        ZeroTrieSearch::advance(self)
     }
 
     fn key(&self) -> &[u8] {
-        ZeroTrieSortedSearch::key(self)
+        ZeroTrieSearch::key(self)
     }
 
     fn value(&self) -> usize {
-        ZeroTrieSortedSearch::value(self)
+        ZeroTrieSearch::value(self)
     }
 }
 
@@ -186,52 +162,5 @@ impl<'a, T: Fuzzy, A: Allocator + Copy> TrieListing for ZeroTrieNearest<'a, T, A
 
     fn value(&self) -> usize {
         ZeroTrieNearest::value(self)
-    }
-}
-
-/// One of three listings. Which one it is is decided once, and what reads it has one type to name. A
-/// choice of more is one of these whose third is one again.
-#[derive(Drop)]
-pub enum AnyOf<A: TrieListing, B: TrieListing, C: TrieListing> {
-    /// One of the first type.
-    First(A),
-    /// One of the second type.
-    Second(B),
-    /// One of the third type.
-    Third(C),
-}
-
-/// Evaluates an expression with the listing that there is, under a name.
-macro_rules! by_listing {
-    ($any:expr, $pairs:ident => $result:expr) => {
-        match $any {
-            AnyOf::First($pairs) => $result,
-            AnyOf::Second($pairs) => $result,
-            AnyOf::Third($pairs) => $result,
-        }
-    };
-}
-
-impl<A: TrieListing, B: TrieListing, C: TrieListing> TrieListing for AnyOf<A, B, C> {
-    ghost use Rattle.zerotrie_search.specs.AnyOf.{HoldsOf, of_any};
-
-    ghost IsValid = { λ s. HoldsOf A.IsValid B.IsValid C.IsValid s };
-
-    ghost left = { λ s. of_any A.left B.left C.left s };
-
-    ghost current = { λ s. of_any A.current B.current C.current s };
-
-    ghost most = { λ s. of_any A.most B.most C.most s };
-
-    fn advance(&mut self) -> Result<bool, AllocError> {
-        by_listing!(self, pairs => pairs.advance())
-    }
-
-    fn key(&self) -> &[u8] {
-        by_listing!(self, pairs => pairs.key())
-    }
-
-    fn value(&self) -> usize {
-        by_listing!(self, pairs => pairs.value())
     }
 }

@@ -1,30 +1,30 @@
 //! Searches of every trie.
 
-ghost use Rattle.std.specs.Prelude.{◌≡◌, ◌≤◌, ◌*◌, ℕ, List, length, IfOk};
+ghost use Rattle.std.specs.Prelude.{◌≡◌, ◌≤◌, ◌*◌, ◌&&◌, ℕ, List, length, IfOk};
 ghost use Rattle.std.proofs.Common.{suc};
 ghost use Rattle.std.specs.FinMap.{entries};
 ghost use Rattle.std.specs.Option.{option_map};
-ghost use Rattle.std.specs.Range.Bound.{bound_map, bounds_contain};
+ghost use Rattle.std.specs.Range.Bound.{bound_map};
 ghost use Rattle.std.specs.declared.ops.Bound.TheVariants.{Included, Excluded, Unbounded};
 ghost use Rattle.zerotrie_core.specs.Kind.{kind_with};
 ghost use Rattle.zerotrie_base.specs.Kinds.{kind_of};
-ghost use Rattle.zerotrie_core.specs.Maps.{Pairs, Map, beginning};
+ghost use Rattle.zerotrie_core.specs.Maps.{Map, begins_with};
 ghost use Rattle.zerotrie_core.specs.Texts.{Means};
-ghost use Rattle.zerotrie_core.specs.Listings.{rest_after, to_come};
-ghost use Rattle.zerotrie_search.specs.Searches.{IsSearch, accepted};
+ghost use Rattle.zerotrie_core.specs.Listings.{to_come};
+ghost use Rattle.zerotrie_search.specs.Searches.{accepted};
 ghost use Rattle.zerotrie_search.specs.Nearest as near;
-ghost use Rattle.zerotrie_search.specs.Sets.{by_bytes};
 ghost use Rattle.zerotrie_search.specs.Sorted.{within, first_of, last_of};
 
 use crate::automaton::Automaton;
+use crate::combination::Both;
 use crate::fuzzy::Fuzzy;
 use crate::nearest::ZeroTrieNearest;
-use crate::range::KeyRange;
+use crate::prefix::KindPrefix;
 use crate::search::ZeroTrieSearch;
-use crate::sorted::{ZeroTrieSorted, ZeroTrieSortedIterator, ZeroTrieSortedSearch, last_between};
+use crate::sorted::{ZeroTrieSorted, ZeroTrieSortedIterator, last_between};
 use std::alloc::{AllocError, Global};
 use std::ops::Bound;
-use zerotrie_core::{Trie, TrieKind, ZeroTrieBuilderOptions, ZeroTrieStream, by_kind};
+use zerotrie_core::{Trie, TrieKind, ZeroTrieBuilderOptions, by_kind};
 
 /// Returns the options of a kind.
 fn options_of(kind: TrieKind) -> ZeroTrieBuilderOptions
@@ -44,16 +44,21 @@ fn options_of(kind: TrieKind) -> ZeroTrieBuilderOptions
 /// assert!(rt; !search.advance()?);
 /// ```
 ///
-/// A search lists the accepted pairs in the order of the trie's `stream`. It does not allocate for
-/// each pair. On malformed bytes it ends too: it lists at most as many pairs as bytes.
+/// A search lists the accepted pairs in ascending order of the bytes of their keys, in every kind. It does
+/// not allocate for each pair. On malformed bytes it ends too: it lists at most as many pairs as bytes.
 pub trait Search: Trie {
     /// Lists the pairs whose keys an automaton accepts.
-    fn search<T: Automaton>(&self, alloc: Global, automaton: T) -> ZeroTrieSearch<'_, T>
-        ensures pairs { IsSearch (Self.kind self.now) (Self.bytes self.now) (λ pairs. pairs)
-            (T.accepts automaton) result.stream.left result.left }
+    fn search<T: Automaton>(&self, alloc: Global, automaton: T) -> ZeroTrieSearch<'_, '_, T>
+        ensures pairs { (m : Map) → Means (Self.kind self.now) (Self.bytes self.now) m
+            → result.left ≡ to_come (accepted (T.accepts automaton) (entries m)) }
         ensures automaton { result.automaton ≡ automaton }
+        ensures most { result.sorted.most ≤ length (Self.bytes self.now) }
+        ensures kind { result.sorted.kind ≡ Self.kind self.now }
+        ensures bytes { result.sorted.bytes ≡ Self.bytes self.now }
     {
-        ZeroTrieSearch::new(alloc, self.stream(alloc), automaton)
+        let (options, bytes) = (options_of(self.trie_kind()), self.as_bytes());
+        let pairs = ZeroTrieSorted::all(alloc, options, bytes);
+        ZeroTrieSearch::new(alloc, pairs, automaton)
     }
 
     /// Lists the pairs whose keys begin with a prefix, as the kind compares bytes, and whose whole
@@ -62,31 +67,71 @@ pub trait Search: Trie {
     /// ```
     /// let words = [("strip", 1), ("trial", 2), ("trip", 3)];
     /// let trie = ZeroTrieSimpleAscii::try_from_iter(rt.alloc(), words)?;
-    /// let mut search = trie.search_prefix(rt.alloc(), b"t", Subsequence(b"ip"))?;
+    /// let mut search = trie.search_prefix(rt.alloc(), b"t", Subsequence(b"ip"));
     /// assert!(rt; search.advance()?);
     /// assert_eq!(rt; search.value(), 3);
     /// assert!(rt; !search.advance()?);
     /// ```
-    ///
-    /// An error means that an allocation failed.
-    fn search_prefix<T: Automaton + Drop>(
+    fn search_prefix<'p, T: Automaton>(
         &self,
         alloc: Global,
-        prefix: &[u8],
+        prefix: &'p [u8],
         automaton: T,
-    ) -> Result<ZeroTrieSearch<'_, T>, AllocError>
-        ensures pairs { IfOk result (λ search. IsSearch (Self.kind self.now) (Self.bytes self.now)
-            (beginning (Self.kind self.now) prefix.now)
-            (T.accepts automaton) search.stream.left search.left) }
-        ensures automaton { IfOk result (λ search. search.automaton ≡ automaton) }
+    ) -> ZeroTrieSearch<'_, '_, Both<KindPrefix<'p>, T>>
+        ensures pairs { (m : Map) → Means (Self.kind self.now) (Self.bytes self.now) m
+            → result.left ≡ to_come (accepted
+            (λ key. begins_with (Self.kind self.now) prefix.now key && T.accepts automaton key)
+            (entries m)) }
+        ensures automaton { result.automaton.1 ≡ automaton }
+        ensures most { result.sorted.most ≤ length (Self.bytes self.now) }
+        ensures kind { result.sorted.kind ≡ Self.kind self.now }
+        ensures bytes { result.sorted.bytes ≡ Self.bytes self.now }
     {
-        let pairs = self.stream_prefix(alloc, prefix)?;
+        let kind = self.trie_kind();
+        self.search(alloc, Both(KindPrefix { kind, prefix }, automaton))
+    }
+
+    /// Lists the pairs whose keys are between two bounds and that an automaton accepts.
+    ///
+    /// ```
+    /// use std::ops::Bound;
+    ///
+    /// let words = [("trial", 1), ("trie", 2), ("trio", 3), ("true", 4)];
+    /// let trie = ZeroTriePerfectHash::try_from_iter(rt.alloc(), words)?;
+    /// let from = Bound::Excluded(b"trial".as_slice());
+    /// let with_i = Subsequence(b"i");
+    /// let mut search = trie.search_range(rt.alloc(), from, Bound::Unbounded, with_i)?;
+    /// assert!(rt; search.advance()?);
+    /// assert_eq!(rt; (search.key(), search.value()), (b"trie".as_slice(), 2));
+    /// assert!(rt; search.advance()?);
+    /// assert_eq!(rt; (search.key(), search.value()), (b"trio".as_slice(), 3));
+    /// assert!(rt; !search.advance()?);
+    /// ```
+    ///
+    /// So a program continues a search behind the last key that it read. It reads no node of keys that
+    /// begin as no accepted key does. An error means that an allocation failed.
+    fn search_range<'p, T: Automaton + Drop>(
+        &self,
+        alloc: Global,
+        from: Bound<&[u8]>,
+        to: Bound<&'p [u8]>,
+        automaton: T,
+    ) -> Result<ZeroTrieSearch<'_, 'p, T>, AllocError>
+        ensures pairs { IfOk result (λ s. (m : Map)
+            → Means (Self.kind self.now) (Self.bytes self.now) m
+            → s.left ≡ to_come (accepted (T.accepts automaton)
+            (within (bound_map (λ b. b.now) from.entry) (bound_map (λ b. b.now) to.entry) m))) }
+        ensures automaton { IfOk result (λ s. s.automaton ≡ automaton) }
+        ensures most { IfOk result (λ s. s.sorted.most ≤ length (Self.bytes self.now)) }
+        ensures kind { IfOk result (λ s. s.sorted.kind ≡ Self.kind self.now) }
+        ensures bytes { IfOk result (λ s. s.sorted.bytes ≡ Self.bytes self.now) }
+    {
+        let pairs = self.stream_sorted(alloc, from, to)?;
         Ok(ZeroTrieSearch::new(alloc, pairs, automaton))
     }
 
-    /// Lists the pairs that come after a key, of those whose keys begin with a prefix, or of all
-    /// pairs if the prefix is empty, and whose whole keys an automaton accepts. Lists none if no
-    /// such pair has the key.
+    /// Lists the pairs whose keys come after one, begin with a prefix as the kind compares bytes, and
+    /// are accepted as a whole by an automaton.
     ///
     /// ```
     /// let words = [("trial", 1), ("trie", 2), ("trio", 3)];
@@ -96,56 +141,28 @@ pub trait Search: Trie {
     /// assert_eq!(rt; search.value(), 2);
     /// ```
     ///
-    /// So a program can continue a search from the last key that it read, at the cost of a look-up
-    /// of that key. An error means that an allocation failed.
-    fn search_after<T: Automaton + Drop>(
+    /// So a program continues a search behind the last key that it read. An error means that an
+    /// allocation failed.
+    fn search_after<'p, T: Automaton + Drop>(
         &self,
         alloc: Global,
-        prefix: &[u8],
+        prefix: &'p [u8],
         key: &[u8],
         automaton: T,
-    ) -> Result<ZeroTrieSearch<'_, T>, AllocError>
-        ensures pairs { IfOk result (λ search. IsSearch (Self.kind self.now) (Self.bytes self.now)
-            (λ pairs. rest_after (Self.kind self.now) key.now
-            (beginning (Self.kind self.now) prefix.now pairs))
-            (T.accepts automaton) search.stream.left search.left) }
-        ensures automaton { IfOk result (λ search. search.automaton ≡ automaton) }
+    ) -> Result<ZeroTrieSearch<'_, 'p, Both<KindPrefix<'p>, T>>, AllocError>
+        ensures pairs { IfOk result (λ s. (m : Map)
+            → Means (Self.kind self.now) (Self.bytes self.now) m
+            → s.left ≡ to_come (accepted
+            (λ key. begins_with (Self.kind self.now) prefix.now key && T.accepts automaton key)
+            (within (Excluded key.now) Unbounded m))) }
+        ensures automaton { IfOk result (λ s. s.automaton.1 ≡ automaton) }
+        ensures most { IfOk result (λ s. s.sorted.most ≤ length (Self.bytes self.now)) }
+        ensures kind { IfOk result (λ s. s.sorted.kind ≡ Self.kind self.now) }
+        ensures bytes { IfOk result (λ s. s.sorted.bytes ≡ Self.bytes self.now) }
     {
-        let bytes = self.as_bytes();
-        let pairs = by_kind!(
-            self.trie_kind(),
-            ZeroTrieStream::after::<_>(alloc, bytes, prefix, key)
-        )?;
-        Ok(ZeroTrieSearch::new(alloc, pairs, automaton))
-    }
-
-    /// Lists the pairs whose keys are between two bounds, by the order of bytes, in the order of
-    /// `stream`.
-    ///
-    /// ```
-    /// use std::ops::Bound;
-    ///
-    /// let words = [("trial", 1), ("trie", 2), ("trio", 3)];
-    /// let trie = ZeroTrieSimpleAscii::try_from_iter(rt.alloc(), words)?;
-    /// let (from, to) = (Bound::Excluded(b"trial".as_slice()), Bound::Included(b"trie".as_slice()));
-    /// let mut range = trie.search_range(rt.alloc(), from, to);
-    /// assert!(rt; range.advance()?);
-    /// assert_eq!(rt; range.value(), 2);
-    /// assert!(rt; !range.advance()?);
-    /// ```
-    ///
-    /// `stream_sorted` lists the same pairs in the order of bytes in every kind.
-    fn search_range<'p>(
-        &self,
-        alloc: Global,
-        from: Bound<&'p [u8]>,
-        to: Bound<&'p [u8]>,
-    ) -> ZeroTrieSearch<'_, KeyRange<'p>>
-        ensures { IsSearch (Self.kind self.now) (Self.bytes self.now) (λ pairs. pairs)
-            (bounds_contain by_bytes (bound_map (λ b. b.now) from.entry)
-            (bound_map (λ b. b.now) to.entry)) result.stream.left result.left }
-    {
-        self.search(alloc, KeyRange { from, to })
+        let kind = self.trie_kind();
+        let both = Both(KindPrefix { kind, prefix }, automaton);
+        self.search_range(alloc, Bound::Excluded(key), Bound::Unbounded, both)
     }
 
     /// Lists the pairs whose keys are between two bounds in ascending order of bytes, in every kind.
@@ -182,46 +199,6 @@ pub trait Search: Trie {
         Ok(sorted)
     }
 
-    /// Lists the pairs whose keys are between two bounds and that an automaton accepts, in ascending
-    /// order of bytes, in every kind.
-    ///
-    /// ```
-    /// use std::ops::Bound;
-    ///
-    /// let words = [("trial", 1), ("trie", 2), ("trio", 3), ("true", 4)];
-    /// let trie = ZeroTriePerfectHash::try_from_iter(rt.alloc(), words)?;
-    /// let from = Bound::Excluded(b"trial".as_slice());
-    /// let with_i = Subsequence(b"i");
-    /// let mut search = trie.search_sorted(rt.alloc(), from, Bound::Unbounded, with_i)?;
-    /// assert!(rt; search.advance()?);
-    /// assert_eq!(rt; (search.key(), search.value()), (b"trie".as_slice(), 2));
-    /// assert!(rt; search.advance()?);
-    /// assert_eq!(rt; (search.key(), search.value()), (b"trio".as_slice(), 3));
-    /// assert!(rt; !search.advance()?);
-    /// ```
-    ///
-    /// It reads no node of keys that begin as no accepted key does. An error means that an allocation
-    /// failed.
-    fn search_sorted<'p, T: Automaton + Drop>(
-        &self,
-        alloc: Global,
-        from: Bound<&[u8]>,
-        to: Bound<&'p [u8]>,
-        automaton: T,
-    ) -> Result<ZeroTrieSortedSearch<'_, 'p, T>, AllocError>
-        ensures pairs { IfOk result (λ s. (m : Map)
-            → Means (Self.kind self.now) (Self.bytes self.now) m
-            → s.left ≡ to_come (accepted (T.accepts automaton)
-            (within (bound_map (λ b. b.now) from.entry) (bound_map (λ b. b.now) to.entry) m))) }
-        ensures automaton { IfOk result (λ s. s.automaton ≡ automaton) }
-        ensures most { IfOk result (λ s. s.sorted.most ≤ length (Self.bytes self.now)) }
-        ensures kind { IfOk result (λ s. s.sorted.kind ≡ Self.kind self.now) }
-        ensures bytes { IfOk result (λ s. s.sorted.bytes ≡ Self.bytes self.now) }
-    {
-        let pairs = self.stream_sorted(alloc, from, to)?;
-        Ok(ZeroTrieSortedSearch::new(alloc, pairs, automaton))
-    }
-
     /// Lists the pairs whose keys few edits make of a word, the nearest first, and those that are as near
     /// in the order of bytes.
     ///
@@ -229,7 +206,7 @@ pub trait Search: Trie {
     /// let words = [("trial", 1), ("trie", 2), ("tries", 3), ("trio", 4)];
     /// let trie = ZeroTriePerfectHash::try_from_iter(rt.alloc(), words)?;
     /// let word = LevenshteinChars::new("trie", 1).ok_or("a long word")?;
-    /// let mut nearest = trie.nearest(rt.alloc(), word)?;
+    /// let mut nearest = trie.nearest(rt.alloc(), word);
     /// assert!(rt; nearest.advance()?);
     /// assert_eq!(rt; (nearest.key(), nearest.value()), (b"trie".as_slice(), 2));
     /// assert_eq!(rt; nearest.distance(), 0);
@@ -242,20 +219,14 @@ pub trait Search: Trie {
     /// ```
     ///
     /// It searches as it is asked. On malformed bytes it lists at most as many pairs as bytes for each
-    /// number of edits. An error means that an allocation failed.
-    fn nearest<T: Fuzzy>(
-        &self,
-        alloc: Global,
-        automaton: T,
-    ) -> Result<ZeroTrieNearest<'_, T>, AllocError>
-        ensures pairs { IfOk result (λ s. (m : Map)
-            → Means (Self.kind self.now) (Self.bytes self.now) m
-            → s.left ≡ to_come (near.nearest (T.measure automaton) (entries m) 0 (suc (T.most automaton)))) }
-        ensures most { IfOk result (λ s.
-            s.most ≤ suc (T.most automaton) * length (Self.bytes self.now)) }
-        ensures kind { IfOk result (λ s. s.kind ≡ Self.kind self.now) }
-        ensures bytes { IfOk result (λ s. s.bytes ≡ Self.bytes self.now) }
-        ensures automaton { IfOk result (λ s. s.automaton ≡ automaton) }
+    /// number of edits.
+    fn nearest<T: Fuzzy>(&self, alloc: Global, automaton: T) -> ZeroTrieNearest<'_, T>
+        ensures pairs { (m : Map) → Means (Self.kind self.now) (Self.bytes self.now) m
+            → result.left ≡ to_come (near.nearest (T.measure automaton) (entries m) 0 (suc (T.most automaton))) }
+        ensures most { result.most ≤ suc (T.most automaton) * length (Self.bytes self.now) }
+        ensures kind { result.kind ≡ Self.kind self.now }
+        ensures bytes { result.bytes ≡ Self.bytes self.now }
+        ensures automaton { result.automaton ≡ automaton }
     {
         let (options, bytes) = (options_of(self.trie_kind()), self.as_bytes());
         ZeroTrieNearest::with_options(alloc, options, bytes, automaton)

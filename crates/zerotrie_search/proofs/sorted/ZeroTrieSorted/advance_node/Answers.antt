@@ -1,4 +1,4 @@
-use Rattle.std.proofs.Common.{◌≡◌, ◌≤◌, ◌<◌, ◌-◌, ◌+◌, ◌∙◌, [], List, ℕ, Bool, ap, arith, false, true, length, refl, reverse, subst, sym}
+use Rattle.std.proofs.Common.{◌≡◌, ◌∙◌, List, ℕ, Bool, ap, false, true, reverse, subst, sym}
 use Rattle.std.specs.Range.Bound.{bound_map, is_up_to_end}
 use Rattle.zerotrie_base.specs.Kind.{kind_with}
 use Rattle.zerotrie_core.specs.Listings.{to_come}

@@ -1,4 +1,4 @@
-use Rattle.std.proofs.Common.{◌≡◌, ◌≤◌, ◌+◌, ◌∙◌, ◌&&◌, [], ℕ, ap, arith, length, min, reverse, subst, sym, take}
+use Rattle.std.proofs.Common.{◌≡◌, ◌≤◌, ◌∙◌, ◌&&◌, [], ℕ, ap, arith, length, min, reverse, subst, sym, take}
 use Rattle.std.proofs.lemmas.Grind.{common_steps}
 use Rattle.std.specs.Range.Bound.{bound_map}
 use Rattle.zerotrie_base.specs.Kind.{kind_with}

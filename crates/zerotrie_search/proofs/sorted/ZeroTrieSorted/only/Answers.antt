@@ -1,10 +1,10 @@
-use Rattle.std.proofs.Common.{◌≡◌, ◌≤◌, ◌+◌, ◌∙◌, List, ℕ, Bool, ap, arith, false, length, refl, reverse, subst, sym}
+use Rattle.std.proofs.Common.{◌≡◌, arith, length, reverse, subst, sym}
 use Rattle.std.proofs.lemmas.Grind.{common_steps}
 use Rattle.std.specs.Range.Bound.{bound_map}
 use Rattle.zerotrie_base.specs.Kind.{kind_with}
 use Rattle.zerotrie_core.specs.WellFormed.{IsWellFormed}
 use Rattle.zerotrie_search.specs.Sorted.{IsOutside}
-use Rattle.zerotrie_search.specs.Walks.{Narrows, is_to_come, rooms}
+use Rattle.zerotrie_search.specs.Walks.{Narrows, is_to_come}
 use Rattle.zerotrie_search.proofs.SkipLemmas.{few_kept, left_narrowed, left_ended}
 use Rattle.zerotrie_search.proofs.WalkLemmas.{narrows_keys, rooms_narrow}
 use Rattle.zerotrie_search.proofs.sorted.ZeroTrieSorted.only.Goals as goal

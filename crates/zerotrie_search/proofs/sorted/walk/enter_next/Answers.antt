@@ -1,7 +1,6 @@
-use Rattle.std.proofs.Common.{◌≡◌, ◌+◌, ◌-◌, ◌<◌, ◌∙◌, Some, arith, ap, length, refl, reverse, subst, suc, sym, take}
-use Rattle.std.specs.Prelude.{IfSome}
+use Rattle.std.proofs.Common.{◌≡◌, ◌-◌, ◌∙◌, arith, ap, length, refl, reverse, subst, suc, sym, take}
 use Rattle.std.proofs.lemmas.Grind.{common_steps}
-use Rattle.zerotrie_search.specs.Walks.{Climbs, KeepsFront, rooms}
+use Rattle.zerotrie_search.specs.Walks.{Climbs}
 use Rattle.zerotrie_search.proofs.WalkLemmas.{walks_open, walks_over, over_keys}
 use Rattle.zerotrie_search.proofs.sorted.walk.enter_next.Goals as goal
 

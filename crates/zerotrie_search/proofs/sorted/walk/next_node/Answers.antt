@@ -1,10 +1,9 @@
-use Rattle.std.proofs.Common.{◌≡◌, ◌≢◌, ◌+◌, ◌<◌, ◌∷◌, ◌++◌, ◌∙◌, [], ℕ, List, arith, ap, length, refl, reverse, subst, suc, sym, take}
+use Rattle.std.proofs.Common.{◌≡◌, ◌≢◌, ◌+◌, ◌∷◌, ◌∙◌, [], ℕ, arith, ap, length, refl, reverse, subst, sym, take}
 use Rattle.std.proofs.lemmas.Bool.{eqb-true, eqb-false}
 use Rattle.std.proofs.lemmas.Grind.{common_steps}
 use Rattle.std.proofs.lemmas.List.{nil_from_length, reverse-append, take-append-le}
 use Rattle.zerotrie_search.specs.Walks.{HasRun, SameKeys, StepsOn, Walks, is_to_come, rooms}
-use Rattle.zerotrie_search.specs.declared.sorted.fork.Fork.{Fork}
-use Rattle.zerotrie_search.proofs.StandLemmas.{behind_shorter, span_run, value_shorter, span_shorter}
+use Rattle.zerotrie_search.proofs.StandLemmas.{span_run, value_shorter}
 use Rattle.zerotrie_search.proofs.WalkLemmas.{walks_run, walks_value, walks_branch, walks_node}
 use Rattle.zerotrie_search.proofs.sorted.walk.next_node.Goals as goal
 

@@ -1,4 +1,4 @@
-use Rattle.std.proofs.Common.{◌≡◌, ◌<◌, ◌∷◌, arith, sym, subst}
+use Rattle.std.proofs.Common.{◌∷◌, arith, sym, subst}
 use Rattle.zerotrie_search.specs.Walks.{HasRun}
 use Rattle.zerotrie_search.proofs.NextLemmas.{one_literal, more_literals}
 use Rattle.zerotrie_search.proofs.sorted.walk.push_literals.Goals as goal

@@ -1,4 +1,4 @@
-use Rattle.std.proofs.Common.{◌≡◌, ◌<◌, ◌+◌, ◌∙◌, arith, length, refl, sym, subst, suc}
+use Rattle.std.proofs.Common.{◌∙◌, arith, refl, sym, subst}
 use Rattle.zerotrie_base.specs.Texts.{Lists}
 use Rattle.zerotrie_search.proofs.ForkLemmas.{has_room, taken_open}
 use Rattle.zerotrie_search.proofs.sorted.fork.Fork.next.Goals as goal

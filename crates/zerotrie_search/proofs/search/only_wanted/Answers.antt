@@ -1,9 +1,9 @@
-use Rattle.std.proofs.Common.{◌≡◌, ◌≤◌, ◌<◌, ◌∙◌, ◌∷◌, ◌++◌, List, ℕ, ap, arith, false, length, subst, sym}
+use Rattle.std.proofs.Common.{◌≤◌, ◌∙◌, ◌∷◌, ap, arith, length, subst, sym}
 use Rattle.zerotrie_search.specs.Sorted.{IsOutside}
-use Rattle.zerotrie_search.specs.Trails.{StandsAfter, trail_bytes}
+use Rattle.zerotrie_search.specs.Trails.{StandsAfter}
 use Rattle.zerotrie_search.proofs.SkipLemmas.{left_out}
 use Rattle.zerotrie_search.proofs.TrailLemmas.{whole_front}
-use Rattle.zerotrie_search.proofs.sorted.search.only_wanted.Goals as goal
+use Rattle.zerotrie_search.proofs.search.only_wanted.Goals as goal
 
 pub returns-in-Some-clause-left : goal.returns-in-Some-clause-left
 returns-in-Some-clause-left g c well =
