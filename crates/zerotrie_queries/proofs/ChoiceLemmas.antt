@@ -7,7 +7,7 @@ use Rattle.zerotrie_core.specs.Kinds.{kind_of}
 use Rattle.zerotrie_core.specs.Maps.{Pairs, beginning, begins_with}
 use Rattle.zerotrie_core.specs.declared.TrieKind.{TrieKind}
 use Rattle.zerotrie_search.specs.Searches.{accepted}
-use Rattle.zerotrie_queries.specs.Chosen.{begins_left, chosen, is_chosen, is_kept, is_matched}
+use Rattle.zerotrie_queries.specs.Chosen.{is_chosen, is_kept, is_matched}
 use Rattle.zerotrie_queries.specs.declared.question.Choice.{Choice}
 
 -- those that are accepted are no more than all
@@ -61,8 +61,3 @@ and_true false = refl
 pub by_all : (kind : TrieKind) (c : Choice) (keeps accepts : List ℕ → Bool) → ((key : List ℕ) → keeps key ≡ is_kept kind c key) → ((key : List ℕ) → accepts key ≡ is_matched kind c.sought key)
     → (key : List ℕ) → (keeps key && accepts key) ≡ is_chosen kind c key
 by_all kind c keeps accepts kept is key = ap (λ b. b && accepts key) (kept key) ∙ ap (λ b. is_kept kind c key && b) (is key)
-
--- a prefix is at its end if it has no byte left
-pub ends_here : (kind : TrieKind) (left : List ℕ) → (length left == 0) ≡ begins_left kind (Some left) []
-ends_here kind [] = refl
-ends_here kind (b ∷ left) = ne_eqb (suc (length left)) 0 (λ e. omega (arith, e))

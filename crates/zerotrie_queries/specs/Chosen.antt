@@ -160,11 +160,6 @@ edits_matched kind (Some s) key =
 abbrev pub measured : TrieKind → Choice → List ℕ → Option ℕ
 measured kind c key = if is_kept kind c key then edits_matched kind c.sought key else None
 
--- what is left of a prefix begins what follows in a key, if all before was as it
-abbrev pub begins_left : TrieKind → Option (List ℕ) → List ℕ → Bool
-begins_left kind None key = false
-begins_left kind (Some left) key = begins_with (kind_of kind) left key
-
 -- how many edits make a key of the word of a choice, if at most as many do as it allows, and else 0
 abbrev pub told_edits : TrieKind → Choice → List ℕ → ℕ
 told_edits kind c key = unwrap_or (measured_up_to (edits_of c) (edits_matched kind c.sought key)) 0

@@ -13,9 +13,9 @@ use Rattle.zerotrie_search.specs.declared.combination.Not.{Not}
 use Rattle.zerotrie_search.specs.declared.folding.ByKind.{ByKind}
 use Rattle.zerotrie_search.specs.declared.glob.Glob.{Glob}
 use Rattle.zerotrie_search.specs.declared.glob.chars.GlobChars.{GlobChars}
+use Rattle.zerotrie_search.specs.declared.prefix.KindPrefix.{KindPrefix}
 use Rattle.zerotrie_search.specs.declared.range.KeyRange.{KeyRange}
 use Rattle.zerotrie_queries.specs.declared.kept.Maybe.{Maybe}
-use Rattle.zerotrie_queries.specs.declared.prefix.KindPrefix.{KindPrefix}
 
 -- what an automaton accepts, if there is one
 abbrev pub some_accepts : {A : Type 0} → (A → List ℕ → Bool) → Option A → List ℕ → Bool

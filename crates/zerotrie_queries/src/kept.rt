@@ -9,11 +9,11 @@ ghost use Rattle.zerotrie_search.specs.declared.any.SearchBy.TheVariants as by;
 ghost use Rattle.zerotrie_queries.specs.Chosen.{is_in, is_kept, is_spared, is_word, IsFolded};
 ghost use Rattle.zerotrie_queries.specs.Kept.{in_part, keeps, some_accepts, some_accepts_from, spares, MayBeAfter};
 
-use crate::prefix::KindPrefix;
 use crate::question::{Choice, Pattern};
 use zerotrie_core::TrieKind;
 use zerotrie_search::{
-    AnyAutomaton, Automaton, Both, ByKind, Either, Glob, GlobChars, KeyRange, Not, SearchBy,
+    AnyAutomaton, Automaton, Both, ByKind, Either, Glob, GlobChars, KeyRange, KindPrefix, Not,
+    SearchBy,
 };
 
 /// Accepts what the automaton does, and without one no key.

@@ -18,7 +18,6 @@ mod json_text;
 mod kept;
 mod listing;
 mod lookups;
-mod prefix;
 mod print;
 mod question;
 mod reports;

@@ -62,6 +62,12 @@ Spends (Ok true) before after = before ≡ 1 + after
 Spends (Ok false) before after = after ≡ 0
 Spends (Err e) before after = (0 < before) × (after ≡ 0)
 
+-- a call of `advance` that finds no pair ends a listing for good, and one of a listing that has ended finds none
+abbrev pub Ends : Result Bool AllocError → (before after : Left) → Type 0
+Ends (Ok true) before after = (before.ended ≡ false) × (after.ended ≡ false)
+Ends (Ok false) before after = after ≡ over
+Ends (Err e) before after = (before.ended ≡ false) × (after ≡ over)
+
 -- One move over bytes that mean a map: to a pair, the first of those to come, whose key is the one in
 -- hand; or to other bytes of the key, or to the targets of a branch, before the same pairs; or nothing
 -- was left.

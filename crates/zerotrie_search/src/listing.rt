@@ -1,6 +1,6 @@
 //! Listings of the pairs of a trie, in any order.
 
-ghost use Rattle.std.specs.Prelude.{◌≡◌, ◌≤◌, ◌+◌, ℕ, List};
+ghost use Rattle.std.specs.Prelude.{◌≡◌, ◌≤◌, ◌+◌, ℕ, List, Bool, true, IfOk};
 ghost use Rattle.zerotrie_core.specs.Listings.{Left, ListsOne, MemoryOnly, item_of};
 ghost use Rattle.zerotrie_search.specs.Sorted.{moved};
 
@@ -52,13 +52,19 @@ pub trait TrieListing {
     // At most how many pairs are to come on any bytes.
     ghost most: { Self → ℕ };
 
+    // Which keys may come on any bytes.
+    ghost takes: { Self → List ℕ → Bool } = { λ _ _. true };
+
     /// Moves to the next pair, and returns whether there is one. An error ends the listing. The only
     /// error is a failed allocation.
     fn advance(&mut self) -> Result<bool, AllocError>
         ensures lists { IsValid self.old → ListsOne (λ key. key) MemoryOnly (left self.old)
             (item_of result (current self.new)) (left self.new) }
         ensures valid { IsValid self.old → IsValid self.new }
-        ensures most { moved result + most self.new ≤ most self.old };
+        ensures most { moved result + most self.new ≤ most self.old }
+        ensures takes { IfOk result (λ found. found ≡ true
+            → takes self.old (current self.new).0 ≡ true) }
+        ensures same { takes self.new ≡ takes self.old };
 
     /// Returns the key of the current pair, the one that the last call of `advance` moved to.
     fn key(&self) -> &[u8]
@@ -127,6 +133,8 @@ impl<'a, 'p, T: Automaton, A: Allocator> TrieListing for ZeroTrieSearch<'a, 'p, 
     ghost current = { λ s. (s.sorted.key, s.sorted.value) };
 
     ghost most = { λ s. s.sorted.most };
+
+    ghost takes = { λ s key. T.accepts s.automaton key };
 
     fn advance(&mut self) -> Result<bool, AllocError> {
         ZeroTrieSearch::advance(self)

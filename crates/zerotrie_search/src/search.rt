@@ -4,7 +4,7 @@ ghost use Rattle.std.specs.Prelude.{◌≡◌, ◌≤◌, ◌<◌, ◌+◌, [], 
 ghost use Rattle.zerotrie_core.specs.Listings.{ListsOne, MemoryOnly, item_of};
 ghost use Rattle.zerotrie_core.specs.WellFormed.{IsWellFormed};
 ghost use Rattle.zerotrie_search.specs.Searches.{accepted_left};
-ghost use Rattle.zerotrie_search.specs.Sorted.{moved};
+ghost use Rattle.zerotrie_search.specs.Sorted.{Ends, moved};
 ghost use Rattle.zerotrie_search.specs.Trails.{IsTrail, IsFront, trail_bytes};
 
 use crate::automaton::Automaton;
@@ -79,6 +79,9 @@ impl<'a, 'p, T: Automaton, A: Allocator> ZeroTrieSearch<'a, 'p, T, A> {
         ensures automaton { self.new.automaton ≡ self.old.automaton }
         ensures state { IfOk result (λ found. found ≡ true
             → T.IsAfter self.new.automaton self.new.sorted.key self.new.state) }
+        ensures accepted { IfOk result (λ found. found ≡ true
+            → T.accepts self.new.automaton self.new.sorted.key ≡ true) }
+        ensures ends { Ends result self.old.left self.new.left }
         ensures most { moved result + self.new.sorted.most ≤ self.old.sorted.most }
         ensures work { IfOk result (λ found. found ≡ true
             → self.new.sorted.work < self.old.sorted.work) }
@@ -196,6 +199,9 @@ fn next_accepted<'a, 'p, T: Automaton, A: Allocator>(
         (accepted_left (T.accepts automaton.now) pairs.new.left) }
     ensures state { IfOk result (λ found. found ≡ true
         → T.IsAfter automaton.now pairs.new.key state.new) }
+    ensures accepted { IfOk result (λ found. found ≡ true
+        → T.accepts automaton.now pairs.new.key ≡ true) }
+    ensures ends { Ends result pairs.old.left pairs.new.left }
     ensures most { moved result + pairs.new.most ≤ pairs.old.most }
     ensures work { IfOk result (λ found. found ≡ true → pairs.new.work < pairs.old.work) }
     ensures kind { pairs.new.kind ≡ pairs.old.kind }

@@ -30,11 +30,11 @@ use zerotrie_core::{Trie, TrieKind, TrieRef, ZeroTrieStream};
 use zerotrie_search::{
     AnyAutomaton, Automaton, BeginsWith, ByKind, Fuzzy, Glob, GlobChars, KeyRange, Levenshtein,
     LevenshteinChars, Osa, OsaChars, Search, StartsWith, Subsequence, TrieListing, ZeroTrieNearest,
-    ZeroTrieSortedSearch,
+    ZeroTrieSearch,
 };
 
 /// The pairs that a word finds, in the order of bytes.
-type WordPairs<'t, 'q, W> = ZeroTrieSortedSearch<'t, 'q, ByKind<Found<W>>>;
+type WordPairs<'t, 'q, W> = ZeroTrieSearch<'t, 'q, ByKind<Found<W>>>;
 
 /// The pairs that edits of a word find, the nearest first.
 type NearPairs<'t, W> = ZeroTrieNearest<'t, ByKind<W>>;
@@ -166,7 +166,7 @@ fn by_word<'t, 'q, W: Automaton + Drop>(
         word: BeginsWith(word),
         begins: begins_of(choice.sought),
     };
-    trie.search_sorted(alloc, part.from, part.to, ByKind(trie.kind, found))
+    trie.search_range(alloc, part.from, part.to, ByKind(trie.kind, found))
 }
 
 /// Returns the automaton of the word of a choice, as a kind compares keys. Without a word it accepts all
@@ -417,11 +417,11 @@ fn near<'t, W: Fuzzy>(
     alloc: Global,
     trie: &'t TrieRef<'_>,
     word: W,
-) -> Result<NearPairs<'t, W>, AllocError>
-    ensures { IfOk result (Gives ⟦<NearPairs<'t, W> as TrieListing>⟧.IsValid
+) -> NearPairs<'t, W>
+    ensures { Gives ⟦<NearPairs<'t, W> as TrieListing>⟧.IsValid
         ⟦<NearPairs<'t, W> as TrieListing>⟧.left
         (λ pairs. nearest (λ key. W.measure word (folded_key (kind_of trie.now.kind) key))
-        (entries (map_of pairs)) 0 (suc (W.most word))) trie.now.kind trie.now.bytes.now) }
+        (entries (map_of pairs)) 0 (suc (W.most word))) trie.now.kind trie.now.bytes.now result }
 {
     trie.nearest(alloc, ByKind(trie.kind, word))
 }
@@ -464,19 +464,19 @@ fn by_edits<'t, 'q>(
     let condition = condition_of(trie.kind, choice);
     match any {
         AnyAutomaton::Fuzzy(word) => {
-            let pairs = ListedPairs::NearFuzzy(near(alloc, trie, word)?);
+            let pairs = ListedPairs::NearFuzzy(near(alloc, trie, word));
             Ok(ChosenPairs { pairs, condition })
         }
         AnyAutomaton::FuzzyChars(word) => {
-            let pairs = ListedPairs::NearFuzzyChars(near(alloc, trie, word)?);
+            let pairs = ListedPairs::NearFuzzyChars(near(alloc, trie, word));
             Ok(ChosenPairs { pairs, condition })
         }
         AnyAutomaton::Swaps(word) => {
-            let pairs = ListedPairs::NearSwaps(near(alloc, trie, word)?);
+            let pairs = ListedPairs::NearSwaps(near(alloc, trie, word));
             Ok(ChosenPairs { pairs, condition })
         }
         AnyAutomaton::SwapsChars(word) => {
-            let pairs = ListedPairs::NearSwapsChars(near(alloc, trie, word)?);
+            let pairs = ListedPairs::NearSwapsChars(near(alloc, trie, word));
             Ok(ChosenPairs { pairs, condition })
         }
         AnyAutomaton::Prefix(_)

@@ -75,6 +75,12 @@ returns-in-End-clause-lists g c well =
     let valid = same_trie c.args.pairs.now.kind l.pairs.kind c.args.pairs.now.bytes l.pairs.bytes l.invariant.kind l.invariant.bytes well in
     (ap (λ left. left.pairs) (sym (l.invariant.same well)) ∙ ap (accepted accepts) (sorts valid), ap (accepted_left accepts) steps.0)
 
+pub returns-then-is_match-clause-accepted : goal.returns-then-is_match-clause-accepted
+returns-then-is_match-clause-accepted g c _ =
+    let accepts = g.T.Automaton.accepts c.args.automaton.now in
+    let hand = c.advance_node.new.self in
+    ap accepts (sym (append-nil hand.key)) ∙ ap (λ k. accepts (k ++ [])) (sym c.key-key.ensures) ∙ sym (c.in-Alive-read.ensures.says.1 []) ∙ sym c.is_match.ensures ∙ c.if-is_match.true
+
 pub returns-then-is_match-clause-lists : goal.returns-then-is_match-clause-lists
 returns-then-is_match-clause-lists g c well =
     let accepts = g.T.Automaton.accepts c.args.automaton.now in

@@ -20,30 +20,30 @@ exact-requires c =
       exact = exact_found c.args.trie.now.kind c.args.choice (any_edits_to any) (any_accepts any) (free_by any c.in-Prefix.is) c.requires.edits c.requires.finds;
     }
 
-pub returns-in_ok-near-in-Fuzzy : goal.returns-in_ok-near-in-Fuzzy
-returns-in_ok-near-in-Fuzzy c =
+pub returns-in-Fuzzy : goal.returns-in-Fuzzy
+returns-in-Fuzzy c =
     let trie = c.args.trie.now in
     let edits = subst (λ a. (key : List ℕ) → any_edits_to a (folded_key (kind_of trie.kind) key) ≡ edits_matched trie.kind c.args.choice.sought key) c.in-Fuzzy.is c.requires.edits in
     let most = subst (λ a. any_most a ≡ edits_of c.args.choice) c.in-Fuzzy.is c.requires.most in
-    gives_near IsValid left_of trie.kind c.args.choice (may_keep keeps c.condition_of-condition.result) (λ key. any_edits_to (any.Fuzzy c.in-Fuzzy.word) (folded_key (kind_of trie.kind) key)) (any_most (any.Fuzzy c.in-Fuzzy.word)) c.condition_of-condition.ensures edits most trie.bytes.now (pairs.NearFuzzy c.in_ok-near-in-Fuzzy.field-0) c.in_ok-near-in-Fuzzy.ensures
+    gives_near IsValid left_of trie.kind c.args.choice (may_keep keeps c.condition_of-condition.result) (λ key. any_edits_to (any.Fuzzy c.in-Fuzzy.word) (folded_key (kind_of trie.kind) key)) (any_most (any.Fuzzy c.in-Fuzzy.word)) c.condition_of-condition.ensures edits most trie.bytes.now (pairs.NearFuzzy c.near-in-Fuzzy.result) c.near-in-Fuzzy.ensures
 
-pub returns-in_ok-near-in-FuzzyChars : goal.returns-in_ok-near-in-FuzzyChars
-returns-in_ok-near-in-FuzzyChars c =
+pub returns-in-FuzzyChars : goal.returns-in-FuzzyChars
+returns-in-FuzzyChars c =
     let trie = c.args.trie.now in
     let edits = subst (λ a. (key : List ℕ) → any_edits_to a (folded_key (kind_of trie.kind) key) ≡ edits_matched trie.kind c.args.choice.sought key) c.in-FuzzyChars.is c.requires.edits in
     let most = subst (λ a. any_most a ≡ edits_of c.args.choice) c.in-FuzzyChars.is c.requires.most in
-    gives_near IsValid left_of trie.kind c.args.choice (may_keep keeps c.condition_of-condition.result) (λ key. any_edits_to (any.FuzzyChars c.in-FuzzyChars.word) (folded_key (kind_of trie.kind) key)) (any_most (any.FuzzyChars c.in-FuzzyChars.word)) c.condition_of-condition.ensures edits most trie.bytes.now (pairs.NearFuzzyChars c.in_ok-near-in-FuzzyChars.field-0) c.in_ok-near-in-FuzzyChars.ensures
+    gives_near IsValid left_of trie.kind c.args.choice (may_keep keeps c.condition_of-condition.result) (λ key. any_edits_to (any.FuzzyChars c.in-FuzzyChars.word) (folded_key (kind_of trie.kind) key)) (any_most (any.FuzzyChars c.in-FuzzyChars.word)) c.condition_of-condition.ensures edits most trie.bytes.now (pairs.NearFuzzyChars c.near-in-FuzzyChars.result) c.near-in-FuzzyChars.ensures
 
-pub returns-in_ok-near-in-Swaps : goal.returns-in_ok-near-in-Swaps
-returns-in_ok-near-in-Swaps c =
+pub returns-in-Swaps : goal.returns-in-Swaps
+returns-in-Swaps c =
     let trie = c.args.trie.now in
     let edits = subst (λ a. (key : List ℕ) → any_edits_to a (folded_key (kind_of trie.kind) key) ≡ edits_matched trie.kind c.args.choice.sought key) c.in-Swaps.is c.requires.edits in
     let most = subst (λ a. any_most a ≡ edits_of c.args.choice) c.in-Swaps.is c.requires.most in
-    gives_near IsValid left_of trie.kind c.args.choice (may_keep keeps c.condition_of-condition.result) (λ key. any_edits_to (any.Swaps c.in-Swaps.word) (folded_key (kind_of trie.kind) key)) (any_most (any.Swaps c.in-Swaps.word)) c.condition_of-condition.ensures edits most trie.bytes.now (pairs.NearSwaps c.in_ok-near-in-Swaps.field-0) c.in_ok-near-in-Swaps.ensures
+    gives_near IsValid left_of trie.kind c.args.choice (may_keep keeps c.condition_of-condition.result) (λ key. any_edits_to (any.Swaps c.in-Swaps.word) (folded_key (kind_of trie.kind) key)) (any_most (any.Swaps c.in-Swaps.word)) c.condition_of-condition.ensures edits most trie.bytes.now (pairs.NearSwaps c.near-in-Swaps.result) c.near-in-Swaps.ensures
 
-pub returns-in_ok-near-in-SwapsChars : goal.returns-in_ok-near-in-SwapsChars
-returns-in_ok-near-in-SwapsChars c =
+pub returns-in-SwapsChars : goal.returns-in-SwapsChars
+returns-in-SwapsChars c =
     let trie = c.args.trie.now in
     let edits = subst (λ a. (key : List ℕ) → any_edits_to a (folded_key (kind_of trie.kind) key) ≡ edits_matched trie.kind c.args.choice.sought key) c.in-SwapsChars.is c.requires.edits in
     let most = subst (λ a. any_most a ≡ edits_of c.args.choice) c.in-SwapsChars.is c.requires.most in
-    gives_near IsValid left_of trie.kind c.args.choice (may_keep keeps c.condition_of-condition.result) (λ key. any_edits_to (any.SwapsChars c.in-SwapsChars.word) (folded_key (kind_of trie.kind) key)) (any_most (any.SwapsChars c.in-SwapsChars.word)) c.condition_of-condition.ensures edits most trie.bytes.now (pairs.NearSwapsChars c.in_ok-near-in-SwapsChars.field-0) c.in_ok-near-in-SwapsChars.ensures
+    gives_near IsValid left_of trie.kind c.args.choice (may_keep keeps c.condition_of-condition.result) (λ key. any_edits_to (any.SwapsChars c.in-SwapsChars.word) (folded_key (kind_of trie.kind) key)) (any_most (any.SwapsChars c.in-SwapsChars.word)) c.condition_of-condition.ensures edits most trie.bytes.now (pairs.NearSwapsChars c.near-in-SwapsChars.result) c.near-in-SwapsChars.ensures
