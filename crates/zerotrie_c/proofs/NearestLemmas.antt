@@ -1,6 +1,6 @@
 -- The distances of pairs that are written, and how automata of a word measure keys.
 use Rattle.std.proofs.lemmas.Bool.{le-leb, lt-leb}
-use Rattle.std.proofs.Common.{◌≡◌, ◌≢◌, ℕ, ◌+◌, ◌*◌, ◌<◌, ◌≤◌, ◌⊎◌, zero, suc, inl, inr, List, [], ◌∷◌, ◌++◌, length, map, get_or, set, refl, sym, ◌∙◌, ap, subst, arith, Bool, true, false, Option, Some, None, IfSome, Result, Ok, Err, IfOk}
+use Rattle.std.proofs.Common.{◌≡◌, ◌≢◌, ℕ, ◌+◌, ◌*◌, ◌<◌, ◌≤◌, ◌⊎◌, zero, suc, inl, inr, List, [], ◌∷◌, ◌++◌, length, map, get_or, set, refl, sym, ◌∙◌, ap, subst, arith, Bool, true, false, Option, Some, None, IfSome}
 use Rattle.std.proofs.lemmas.List.{map-append, length-map}
 use Rattle.std.proofs.lemmas.Str.{IsUtf8-nil, IsUtf8-from_ascii, is_utf8-from_IsUtf8, chars-nil, chars-IsAscii}
 use Rattle.std.specs.FinMap.{entries}
@@ -50,24 +50,20 @@ distances_more {measure} {pairs} {old} {room} {count} ds count_is key v d is ins
     }
 
 -- a listing of the nearest to a word, by the automaton of this measure and these edits
-module _ {T E : Type 0} (measure_by : T → List ℕ → Option ℕ) (most_by_it : T → ℕ) (kind : Kind) (bytes : List ℕ) (automaton : T) (measure : List ℕ → Option ℕ) (edits : ℕ)
+module _ {T : Type 0} (measure_by : T → List ℕ → Option ℕ) (most_by_it : T → ℕ) (kind : Kind) (bytes : List ℕ) (automaton : T) (measure : List ℕ → Option ℕ) (edits : ℕ)
     (same : measure_by automaton ≡ measure) (as_many : most_by_it automaton ≡ edits) where
-  pub near_known : (r : Result (Nearing T) E)
-      → IfOk r (λ s. (m : Map) → Means kind bytes m → s.left ≡ to_come (nearest_of (measure_by automaton) (entries m) 0 (suc (most_by_it automaton))))
-      → IfOk r (λ s. s.kind ≡ kind) → IfOk r (λ s. s.bytes ≡ bytes) → IfOk r (λ s. s.automaton ≡ automaton) → (m : Map) → Means kind bytes m
-      → IfOk r (λ s. (measure_by s.automaton ≡ measure) × IsWellFormed s.kind s.bytes × (s.left.pairs ≡ nearest_of measure (entries m) 0 (suc edits)))
-  near_known (Ok s) left kind_is bytes_is is m means =
+  pub near_known : (s : Nearing T) → ((m : Map) → Means kind bytes m → s.left ≡ to_come (nearest_of (measure_by automaton) (entries m) 0 (suc (most_by_it automaton))))
+      → s.kind ≡ kind → s.bytes ≡ bytes → s.automaton ≡ automaton → (m : Map) → Means kind bytes m
+      → (measure_by s.automaton ≡ measure) × IsWellFormed s.kind s.bytes × (s.left.pairs ≡ nearest_of measure (entries m) 0 (suc edits))
+  near_known s left kind_is bytes_is is m means =
       let well : IsWellFormed kind bytes = (m, means) in (
         ap measure_by is ∙ same,
         subst (λ k. IsWellFormed k s.bytes) (sym kind_is) (subst (λ b. IsWellFormed kind b) (sym bytes_is) well),
         ap (λ l. l.pairs) (left m means) ∙ ap (λ f. nearest_of f (entries m) 0 (suc (most_by_it automaton))) same ∙ ap (λ n. nearest_of measure (entries m) 0 (suc n)) as_many,
       )
-  near_known (Err e) left kind_is bytes_is is m means = tt
 
-  pub near_any : (r : Result (Nearing T) E) → IfOk r (λ s. s.most ≤ suc (most_by_it automaton) * length bytes) → IfOk r (λ s. s.automaton ≡ automaton)
-      → IfOk r (λ s. (measure_by s.automaton ≡ measure) × (s.most ≤ suc edits * length bytes))
-  near_any (Ok s) most is = (ap measure_by is ∙ same, subst (λ n. s.most ≤ suc n * length bytes) as_many most)
-  near_any (Err e) most is = tt
+  pub near_any : (s : Nearing T) → s.most ≤ suc (most_by_it automaton) * length bytes → s.automaton ≡ automaton → (measure_by s.automaton ≡ measure) × (s.most ≤ suc edits * length bytes)
+  near_any s most is = (ap measure_by is ∙ same, subst (λ n. s.most ≤ suc n * length bytes) as_many most)
 
 -- what measures a word as a kind compares it measures the word
 pub measured_by : (kind : Kind) (how : SearchBy) (word folded : List ℕ) (edits : List ℕ → Option ℕ) → folded ≡ word_by kind how word → edits ≡ edits_to (ignores_case kind) how folded

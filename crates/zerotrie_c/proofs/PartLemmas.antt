@@ -1,13 +1,15 @@
 -- Pairs that are written one after another at the front of three rooms.
-use Rattle.std.proofs.Common.{◌≡◌, ℕ, suc, ◌+◌, ◌<◌, ◌≤◌, ◌⊎◌, inl, inr, List, [], ◌∷◌, ◌++◌, length, take, drop, set, refl, sym, ◌∙◌, ap, subst, arith, add-one, true, append_assoc, length-append, Result, Ok, Err, IfOk}
+use Rattle.std.proofs.Common.{◌≡◌, ℕ, suc, ◌+◌, ◌<◌, ◌≤◌, ◌⊎◌, inl, inr, List, [], ◌∷◌, ◌++◌, length, take, drop, set, refl, sym, ◌∙◌, ap, subst, arith, add-one, Bool, true, append_assoc, length-append, Result, Ok, Err, IfOk}
 use Rattle.std.proofs.lemmas.List.{append-nil, take_at, take-append-drop, length-take-le, length-drop, set_split}
 use Rattle.std.proofs.lemmas.Bool.{cases_lt}
+use Rattle.std.proofs.lemmas.List.Elements.{filter-append}
 use Rattle.std.proofs.Math.Seq.{drop-append-add}
 use Rattle.zerotrie_core.specs.Kind.{Kind}
 use Rattle.zerotrie_core.specs.Listings.{to_come}
 use Rattle.zerotrie_core.specs.Maps.{Pairs, Map}
 use Rattle.zerotrie_core.specs.Texts.{Means}
 use Rattle.zerotrie_core.specs.WellFormed.{IsWellFormed}
+use Rattle.zerotrie_search.specs.Searches.{accepted}
 use Rattle.zerotrie_search.specs.Sorted.{Sorting}
 use Rattle.zerotrie_c.specs.Listed.{joined, ends_from, values_of, Part, part, IsPut, IsWritten, HasNoRoom, IsListedSome}
 
@@ -107,6 +109,10 @@ going_more {found} {before} {after} {used} g key v fits room_ends room_values =
         subst (λ x. IsPut x true before.values (set after.values after.count v)) (sym (values_more w key v)) (set_more (values_of w) v before.values after.values after.count g.done.2 (g.count_is ∙ sym (values_len w)) room_values),
       );
     }
+
+-- each of these pairs is one that a listing takes, and so is one more
+pub taken_more : (takes : List ℕ → Bool) (found : Pairs) (key : List ℕ) (v : ℕ) → accepted takes found ≡ found → takes key ≡ true → accepted takes (found ++ (key, v) ∷ []) ≡ found ++ (key, v) ∷ []
+taken_more takes found key v so_far is = filter-append (λ e. takes e.0) found ((key, v) ∷ []) ∙ ap (λ ps. ps ++ accepted takes ((key, v) ∷ [])) so_far ∙ rw is refl
 
 -- some room has too few places
 pub no_room : (keys ends values used count len : ℕ) → (used + len ≤ keys → count < ends → count < values → ⊥) → (keys < used + len) ⊎ ((ends ≤ count) ⊎ (values ≤ count))

@@ -3,7 +3,8 @@ use Rattle.std.specs.Prelude.{◌≡◌, ◌≢◌, ◌<◌, ◌⊎◌, ◌==◌
 use Rattle.std.specs.declared.ops.Bound.{Bound}
 use Rattle.std.specs.declared.ops.Bound.TheVariants.{Included, Excluded, Unbounded}
 use Rattle.zerotrie_core.specs.Kind.{Kind}
-use Rattle.zerotrie_core.specs.Maps.{Pairs}
+use Rattle.zerotrie_core.specs.Kinds.{kind_of}
+use Rattle.zerotrie_core.specs.Maps.{Pairs, begins_with}
 use Rattle.zerotrie_index.specs.Tries.{folded_key}
 use Rattle.zerotrie_search.specs.Searches.{accepted}
 use Rattle.zerotrie_search.specs.Sets.{from_left, to_left, some_front}
@@ -13,6 +14,7 @@ use Rattle.zerotrie_search.specs.declared.any.SearchBy.TheVariants as by
 use Rattle.zerotrie_c.specs.Statuses.{done, unknown_search, malformed_search, search_too_long, too_many_edits, IsUnwritten}
 use Rattle.zerotrie_c.specs.Listed.{Part, IsListedSome}
 use Rattle.zerotrie_c.specs.declared.folding.FoldedTexts.{FoldedTexts}
+use Rattle.zerotrie_c.specs.declared.searches.Asked.{Asked}
 use Rattle.zerotrie_c.specs.declared.searches.Search.{Search}
 
 -- the bound of this number at a key, if one has it
@@ -67,11 +69,19 @@ IsFaultHow (Some by) s status = IsWordFault by s.text.now status
 abbrev pub IsSearchFault : Search → ℕ → Type 0
 IsSearchFault s = IsFaultHow (search_by s.by s.edits) s
 
--- What a part of a search of these pairs comes to: a search without a fault is a listing of the pairs that it finds, as
--- the kind compares keys; one with a fault is refused by it, and nothing is written.
-abbrev pub IsSearchedSome : Kind → Search → Pairs → ℕ → Part → Part → Type 0
-IsSearchedSome kind s pairs status before after =
-    (((fault : ℕ) → IsSearchFault s fault → ⊥) × IsListedSome (accepted (finds kind s) pairs) status before after)
+-- the lower bound of what a listing has left: above the last key that it gave, if it continues
+abbrev pub bound_after : Bool → List ℕ → Bound (List ℕ)
+bound_after goes_on last = if goes_on then Excluded last else Unbounded
+
+-- the keys that a search finds, of those with a prefix, as a kind compares them
+abbrev pub finds_below : Kind → Search → (prefix : List ℕ) → List ℕ → Bool
+finds_below kind s prefix key = finds kind s key && begins_with kind prefix key
+
+-- What a part of a search of these pairs comes to: a search without a fault is a listing of the pairs with the prefix that
+-- it finds, as the kind compares keys; one with a fault is refused by it, and nothing is written.
+abbrev pub IsSearchedSome : Kind → Search → (prefix : List ℕ) → Pairs → ℕ → Part → Part → Type 0
+IsSearchedSome kind s prefix pairs status before after =
+    (((fault : ℕ) → IsSearchFault s fault → ⊥) × IsListedSome (accepted (finds_below kind s prefix) pairs) status before after)
     ⊎ (IsSearchFault s status × IsUnwritten before after)
 
 -- what is told of a search alone: that it has no fault, or its fault
@@ -86,6 +96,11 @@ given_how (Some by) any_case from to word = finds_in any_case by word
 
 abbrev pub finds_given : (any_case : Bool) → Search → List ℕ → Bool
 finds_given any_case s = given_how (search_by s.by s.edits) any_case (bound_with s.from_bound s.text.now) (bound_with s.to_bound s.to.now) s.text.now
+
+-- words of private functions: the keys with the prefix of what is asked, as its kind compares them, that an automaton accepts
+abbrev pub asks : Asked → (accepts : List ℕ → Bool) → List ℕ → Bool
+asks a accepts key =
+    or_beginnings a.beginnings (λ k. accepts (folded_key (kind_of a.prefix.kind) k)) key && begins_with (kind_of a.prefix.kind) a.prefix.prefix.now key
 
 -- words of private functions: the text of a search as a kind compares it; a pattern stays as it is
 abbrev pub text_by : Option SearchBy → Kind → List ℕ → List ℕ

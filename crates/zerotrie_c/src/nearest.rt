@@ -1,6 +1,6 @@
 //! The keys that few edits make of a word, the nearest first.
 
-ghost use Rattle.std.specs.Prelude.{◌≡◌, ◌≤◌, ◌*◌, ℕ, List, Option, length, IfOk, IfSome, IfNone};
+ghost use Rattle.std.specs.Prelude.{◌≡◌, ◌≤◌, ◌*◌, ℕ, List, Option, length, IfSome, IfNone};
 ghost use Rattle.std.proofs.Common.{suc};
 ghost use Rattle.std.specs.FinMap.{entries};
 ghost use Rattle.zerotrie_core.specs.Maps.{Pairs, Map};
@@ -18,7 +18,7 @@ use crate::numbers::{
 };
 use crate::parts::{Page, put_at};
 use crate::searches::{search_by, word_of};
-use std::alloc::{AllocError, Global};
+use std::alloc::Global;
 use zerotrie_search::{AnyAutomaton, ByKind, Fuzzy, Search, SearchBy, ZeroTrieNearest};
 
 /// Returns how edits are counted, by the number of the search, or `None` if no search with edits has it.
@@ -31,31 +31,27 @@ fn edits_by(number: u32, edits: u32) -> Option<SearchBy>
     }
 }
 
-/// Writes the next pairs of a listing of the nearest, as many as the rooms have places for. Without a
-/// listing, an allocation failed.
+/// Writes the next pairs of a listing of the nearest, as many as the rooms have places for.
 fn fill_nearest<T: Fuzzy>(
-    listing: Result<ZeroTrieNearest<'_, T>, AllocError>,
+    mut pairs: ZeroTrieNearest<'_, T>,
     next_len: usize,
     keys: &mut [u8],
     ends: &mut [usize],
     values: &mut [usize],
     distances: &mut [usize],
 ) -> Page
-    ensures listed { (measure : List ℕ → Option ℕ) (pairs : Pairs)
-        → IfOk listing.entry (λ l. (T.measure l.automaton ≡ measure)
-        × IsWellFormed l.kind l.bytes × (l.left.pairs ≡ pairs))
-        → IsNearestListed measure pairs result.status
+    ensures listed { (measure : List ℕ → Option ℕ) (left : Pairs)
+        → (T.measure pairs.entry.automaton ≡ measure)
+        × IsWellFormed pairs.entry.kind pairs.entry.bytes × (pairs.entry.left.pairs ≡ left)
+        → IsNearestListed measure left result.status
         (part keys.old ends.old values.old 0 next_len, distances.old)
         (part keys.new ends.new values.new result.count result.next_len, distances.new) }
     ensures any { (measure : List ℕ → Option ℕ) (most : ℕ)
-        → IfOk listing.entry (λ l. (T.measure l.automaton ≡ measure) × (l.most ≤ most))
-        → (pairs : Pairs) × (length pairs ≤ most) × IsNearestListed measure pairs result.status
+        → (T.measure pairs.entry.automaton ≡ measure) × (pairs.entry.most ≤ most)
+        → (found : Pairs) × (length found ≤ most) × IsNearestListed measure found result.status
         (part keys.old ends.old values.old 0 next_len, distances.old)
         (part keys.new ends.new values.new result.count result.next_len, distances.new) }
 {
-    let Ok(mut pairs) = listing else {
-        return Page::new(OUT_OF_MEMORY, 0, next_len);
-    };
     let mut count = 0;
     let mut used = 0;
     let room = ends.len().min(values.len()).min(distances.len());

@@ -1,10 +1,11 @@
 //! Listings, a part at a time.
 
-ghost use Rattle.std.specs.Prelude.{◌≡◌, ◌≤◌, ◌+◌, ◌++◌, ℕ, length, take, drop, IfOk, IfSome, IfNone};
+ghost use Rattle.std.specs.Prelude.{◌≡◌, ◌≤◌, ◌+◌, ◌++◌, ℕ, List, Bool, length, take, drop, IfOk, IfSome, IfNone};
 ghost use Rattle.zerotrie_core.specs.Kinds.{kind_of as kind_that_is};
 ghost use Rattle.zerotrie_core.specs.Maps.{Pairs, beginning};
 ghost use Rattle.zerotrie_core.specs.Texts.{Lists};
 ghost use Rattle.zerotrie_core.specs.Listings.{to_come};
+ghost use Rattle.zerotrie_search.specs.Searches.{accepted};
 ghost use Rattle.zerotrie_c.specs.Numbers.{kind_of};
 ghost use Rattle.zerotrie_c.specs.Statuses.{unknown_kind, IsUnwritten};
 ghost use Rattle.zerotrie_c.specs.Listed.{left_of, part, IsListedSome};
@@ -71,10 +72,12 @@ pub fn fill<L: TrieListing + Drop>(
         → IfOk listing (λ l. L.IsValid l × ((L.left l).pairs ≡ pairs))
         → IsListedSome pairs result.status (part keys.old ends.old values.old 0 next_len)
         (part keys.new ends.new values.new result.count result.next_len) }
-    ensures any { (most : ℕ) → IfOk listing (λ l. L.most l ≤ most)
+    ensures any { (most : ℕ) (takes : List ℕ → Bool)
+        → IfOk listing (λ l. (L.most l ≤ most) × (L.takes l ≡ takes))
         → (pairs : Pairs) × (length pairs ≤ most)
         × IsListedSome pairs result.status (part keys.old ends.old values.old 0 next_len)
-        (part keys.new ends.new values.new result.count result.next_len) }
+        (part keys.new ends.new values.new result.count result.next_len)
+        × (accepted takes pairs ≡ pairs) }
 {
     let Ok(mut pairs) = listing else {
         return Page::new(OUT_OF_MEMORY, 0, next_len);
@@ -100,7 +103,7 @@ pub fn fill<L: TrieListing + Drop>(
     }
 }
 
-/// Returns the pairs of a prefix that are left of a listing.
+/// Returns the pairs of a prefix that are left of a listing, in the order of the trie.
 pub fn left_of<'a>(
     alloc: Global,
     trie: &'a TrieRef<'_>,

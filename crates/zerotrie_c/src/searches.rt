@@ -5,15 +5,17 @@ ghost use Rattle.std.specs.Option.{option_map};
 ghost use Rattle.std.specs.Range.Bound.{bound_map};
 ghost use Rattle.zerotrie_core.specs.Kinds.{kind_of as kind_that_is};
 ghost use Rattle.zerotrie_core.specs.declared.TrieKind.TheVariants.{Ignore};
-ghost use Rattle.zerotrie_core.specs.Maps.{Pairs, beginning};
-ghost use Rattle.zerotrie_core.specs.Texts.{Lists};
-ghost use Rattle.zerotrie_index.specs.Tries.{folded_key};
+ghost use Rattle.std.specs.declared.ops.Bound.TheVariants.{Unbounded};
+ghost use Rattle.zerotrie_core.specs.Maps.{Map, Pairs};
+ghost use Rattle.zerotrie_core.specs.Texts.{Means};
+ghost use Rattle.zerotrie_core.specs.WellFormed.{IsWellFormed};
 ghost use Rattle.zerotrie_search.specs.Automata.{any_accepts, any_edits_to, any_most, edits_to, finds_in, ignores_case, most_by};
 ghost use Rattle.zerotrie_search.specs.Searches.{accepted};
+ghost use Rattle.zerotrie_search.specs.Sorted.{within};
 ghost use Rattle.zerotrie_c.specs.Numbers.{kind_of};
 ghost use Rattle.zerotrie_c.specs.Statuses.{unknown_kind, IsUnwritten};
-ghost use Rattle.zerotrie_c.specs.Listed.{left_of, part, IsListedSome};
-ghost use Rattle.zerotrie_c.specs.Searched.{bound_with, finds_given, or_beginnings, search_by, IsSearchChecked, IsSearchFault, IsSearchedSome, IsWordFault, IsRightWord};
+ghost use Rattle.zerotrie_c.specs.Listed.{part, IsListedSome};
+ghost use Rattle.zerotrie_c.specs.Searched.{asks, bound_after, bound_with, finds_given, search_by, IsSearchChecked, IsSearchFault, IsSearchedSome, IsWordFault, IsRightWord};
 
 use crate::folding;
 use crate::folding::FoldedTexts;
@@ -21,13 +23,13 @@ use crate::numbers::{
     DONE, MALFORMED_SEARCH, OUT_OF_MEMORY, SEARCH_TOO_LONG, TOO_MANY_EDITS, UNKNOWN_KIND,
     UNKNOWN_SEARCH, trie_of,
 };
-use crate::parts::{Page, fill, left_of};
+use crate::parts::{Page, fill};
 use std::alloc::Global;
 use std::ops::Bound;
-use zerotrie_core::{TrieKind, ZeroTrieStream};
+use zerotrie_core::TrieKind;
 use zerotrie_search::{
-    AnyAutomaton, Automaton, BeginsWith, ByKind, KeyRange, SearchBy, WordError, ZeroTrieSearch,
-    by_automaton,
+    AnyAutomaton, Automaton, BeginsWith, Both, ByKind, KeyRange, KindPrefix, Search as _, SearchBy,
+    WordError, ZeroTrieSearch, ZeroTrieSorted, by_automaton,
 };
 
 /// What is searched, with C's layout. `by` is the number of how keys are found, and the bounds are
@@ -141,64 +143,94 @@ pub extern "C" fn zerotrie_search_check(search: &Search<'_>) -> u32
     }
 }
 
-/// Writes the next pairs of a stream whose keys an automaton accepts as a kind compares them, or begin
-/// with such a key.
+/// Returns the lower bound of what a listing has left: above the last key that it gave, if it goes on.
+fn bound_after(goes_on: bool, last: &[u8]) -> Bound<&[u8]>
+    ensures { bound_map (λ b. b.now) result ≡ bound_after goes_on last.now }
+{
+    if goes_on {
+        Bound::Excluded(last)
+    } else {
+        Bound::Unbounded
+    }
+}
+
+/// What is searched: the pairs that are left, of these the keys with a prefix, and whether keys need only
+/// begin with one that is found.
+#[derive(Drop)]
+struct Asked<'t, 'p> {
+    pairs: ZeroTrieSorted<'t, 'p>,
+    prefix: KindPrefix<'p>,
+    beginnings: bool,
+}
+
+/// Writes the next pairs whose keys an automaton accepts as their kind compares them.
 fn fill_accepted<T: Automaton + Drop>(
     alloc: Global,
-    pairs: ZeroTrieStream<'_>,
-    kind: TrieKind,
+    asked: Asked<'_, '_>,
     automaton: T,
-    beginnings: bool,
     next_len: usize,
     keys: &mut [u8],
     ends: &mut [usize],
     values: &mut [usize],
 ) -> Page
-    ensures { IsListedSome (accepted (or_beginnings beginnings
-        (λ key. T.accepts automaton (folded_key (kind_that_is kind) key))) pairs.entry.left.pairs)
+    ensures listed { IsWellFormed asked.entry.pairs.kind asked.entry.pairs.bytes
+        → IsListedSome (accepted (asks asked.entry (T.accepts automaton)) asked.entry.pairs.left.pairs)
         result.status (part keys.old ends.old values.old 0 next_len)
         (part keys.new ends.new values.new result.count result.next_len) }
+    ensures any { (pairs : Pairs) × (length pairs ≤ asked.entry.pairs.most)
+        × IsListedSome pairs result.status (part keys.old ends.old values.old 0 next_len)
+        (part keys.new ends.new values.new result.count result.next_len)
+        × (accepted (asks asked.entry (T.accepts automaton)) pairs ≡ pairs) }
 {
-    if beginnings {
-        let begun = ZeroTrieSearch::new(alloc, pairs, BeginsWith(ByKind(kind, automaton)));
+    let (pairs, prefix) = (asked.pairs, asked.prefix);
+    if asked.beginnings {
+        let begins = Both(BeginsWith(ByKind(prefix.kind, automaton)), prefix);
+        let begun = ZeroTrieSearch::new(alloc, pairs, begins);
         return fill(Ok(begun), next_len, keys, ends, values);
     }
-    if folding::ignores_case(kind) {
-        let folded = ZeroTrieSearch::new(alloc, pairs, ByKind(kind, automaton));
+    if folding::ignores_case(prefix.kind) {
+        let folds = Both(ByKind(prefix.kind, automaton), prefix);
+        let folded = ZeroTrieSearch::new(alloc, pairs, folds);
         return fill(Ok(folded), next_len, keys, ends, values);
     }
-    let search = ZeroTrieSearch::new(alloc, pairs, automaton);
+    let search = ZeroTrieSearch::new(alloc, pairs, Both(automaton, prefix));
     fill(Ok(search), next_len, keys, ends, values)
 }
 
-/// Writes the next pairs of a stream that are sought, with keys as a kind compares them.
+/// Writes the next pairs that are sought, with keys as their kind compares them.
 fn fill_sought(
     alloc: Global,
-    pairs: ZeroTrieStream<'_>,
-    kind: TrieKind,
+    asked: Asked<'_, '_>,
     sought: AnyAutomaton<'_>,
-    beginnings: bool,
     next_len: usize,
     keys: &mut [u8],
     ends: &mut [usize],
     values: &mut [usize],
 ) -> Page
-    ensures { IsListedSome (accepted (or_beginnings beginnings
-        (λ key. any_accepts sought.entry (folded_key (kind_that_is kind) key))) pairs.entry.left.pairs)
+    ensures listed { IsWellFormed asked.entry.pairs.kind asked.entry.pairs.bytes
+        → IsListedSome (accepted (asks asked.entry (any_accepts sought.entry)) asked.entry.pairs.left.pairs)
         result.status (part keys.old ends.old values.old 0 next_len)
         (part keys.new ends.new values.new result.count result.next_len) }
+    ensures any { (pairs : Pairs) × (length pairs ≤ asked.entry.pairs.most)
+        × IsListedSome pairs result.status (part keys.old ends.old values.old 0 next_len)
+        (part keys.new ends.new values.new result.count result.next_len)
+        × (accepted (asks asked.entry (any_accepts sought.entry)) pairs ≡ pairs) }
 {
     by_automaton!(sought, automaton => fill_accepted(
-        alloc, pairs, kind, automaton, beginnings, next_len, keys, ends, values,
+        alloc, asked, automaton, next_len, keys, ends, values,
     ))
 }
 
-/// Like `zerotrie_list_some`, of those pairs whose keys a search finds: a range, a pattern, bytes in
-/// their order, or a word with few edits, and with `beginnings` also the keys that begin with one
-/// that it finds.
+/// Writes the pairs that a search finds, of those whose keys begin with a prefix, in the order of bytes
+/// in every kind, as many as the rooms have places for: a range, a pattern, bytes in their order, or a word
+/// with few edits, and with `beginnings` also the keys that begin with one that it finds.
 ///
-/// In the kind that ignores case, keys, bounds and words are compared in lower case, and the letters of a
+/// The rooms, `count`, `next_len`, the status, and how a call continues are as in `zerotrie_list_some`. In
+/// the kind that ignores case, keys, bounds and words are compared in lower case, and the letters of a
 /// pattern are taken in both cases. A search that has no meaning is refused, and then nothing is written.
+///
+/// On malformed bytes it does the same for some pairs that the search finds, at most as many as there are
+/// bytes.
 #[unsafe(no_mangle)]
 pub extern "C" fn zerotrie_search_some(
     alloc: Global,
@@ -214,13 +246,12 @@ pub extern "C" fn zerotrie_search_some(
     count: &mut usize,
     next_len: &mut usize,
 ) -> u32
-    ensures known { IfSome (kind_of kind) (λ k. (pairs : Pairs) → Lists k bytes.now pairs
-        → IsSearchedSome k search.now
-        (left_of k goes_on last.now (beginning k prefix.now pairs)) result
+    ensures known { IfSome (kind_of kind) (λ k. (m : Map) → Means k bytes.now m
+        → IsSearchedSome k search.now prefix.now (within (bound_after goes_on last.now) Unbounded m) result
         (part keys.old ends.old values.old count.old next_len.old)
         (part keys.new ends.new values.new count.new next_len.new)) }
     ensures any { IfSome (kind_of kind) (λ k. (pairs : Pairs) × (length pairs ≤ length bytes.now)
-        × IsSearchedSome k search.now pairs result
+        × IsSearchedSome k search.now prefix.now pairs result
         (part keys.old ends.old values.old count.old next_len.old)
         (part keys.new ends.new values.new count.new next_len.new)) }
     ensures unknown { IfNone (kind_of kind) ((result ≡ unknown_kind)
@@ -242,19 +273,16 @@ pub extern "C" fn zerotrie_search_some(
         Ok(sought) => sought,
         Err(status) => return status,
     };
-    match left_of(alloc, &trie, prefix, goes_on, last) {
-        Ok(pairs) => fill_sought(
-            alloc,
-            pairs,
-            trie.kind,
-            sought,
-            search.beginnings,
-            *next_len,
-            keys,
-            ends,
-            values,
-        )
-        .unpack(count, next_len),
-        Err(_) => Page::new(OUT_OF_MEMORY, 0, *next_len).unpack(count, next_len),
-    }
+    let Ok(pairs) = trie.stream_sorted(alloc, bound_after(goes_on, last), Bound::Unbounded) else {
+        return Page::new(OUT_OF_MEMORY, 0, *next_len).unpack(count, next_len);
+    };
+    let asked = Asked {
+        pairs,
+        prefix: KindPrefix {
+            kind: trie.kind,
+            prefix,
+        },
+        beginnings: search.beginnings,
+    };
+    fill_sought(alloc, asked, sought, *next_len, keys, ends, values).unpack(count, next_len)
 }

@@ -1,10 +1,9 @@
 -- On valid bytes a part of what is to come is written. On any bytes, what was found.
 use Rattle.std.proofs.Common.{◌≡◌, ◌+◌, ◌<◌, ◌≤◌, ◌∙◌, ◌∷◌, ◌++◌, ℕ, List, [], Some, ap, sym, inl, inr, refl, subst, arith, rules, length, length-append, append_assoc, min}
 use Rattle.std.proofs.lemmas.List.{append-nil}
-use Rattle.std.proofs.lemmas.Result.{IfOk-at_ok}
 use Rattle.zerotrie_core.specs.WellFormed.{IsWellFormed}
 use Rattle.zerotrie_c.proofs.PartLemmas.{going_start, going_more, has_no_room, placed_len}
-use Rattle.zerotrie_c.proofs.NearestLemmas.{Distances, distances_start, distances_more, none_near}
+use Rattle.zerotrie_c.proofs.NearestLemmas.{Distances, distances_start, distances_more}
 use Rattle.zerotrie_c.proofs.nearest.fill_nearest.Goals as goal
 use Rattle.zerotrie_c.proofs.nearest.fill_nearest.Goals.{then-count-room-via-then-count-room, then-count-room-via-else-count-room+then-key-keys}
 
@@ -17,7 +16,7 @@ loop-pairs-init g c = record {
   valid = λ w. (w, refl);
   most = omega arith;
   going = going_start c.args.keys.now c.args.ends.now c.args.values.now c.args.next_len;
-  distances = distances_start (g.T.Fuzzy.measure c.in-Ok.pairs.automaton) c.args.distances.now;
+  distances = distances_start (g.T.Fuzzy.measure c.args.pairs.automaton) c.args.distances.now;
 }
 
 pub loop-pairs-preserved : goal.loop-pairs-preserved
@@ -28,7 +27,7 @@ loop-pairs-preserved g c =
     let key = c.key-key.result.now in
     let v = c.value.result in
     let e : List ℕ × ℕ = (key, v) in
-    let start = c.in-Ok.pairs.automaton in
+    let start = c.args.pairs.automaton in
     let measure = g.T.Fuzzy.measure in
     let one = rw c.in-Ok-true.field-0-test at c.in-Ok-true.ensures.lists in
     let fewer = rw c.in-Ok-true.field-0-test at c.in-Ok-true.ensures.most in
@@ -61,48 +60,43 @@ loop-pairs-preserved g c =
     })
 
 pub returns-in-Ok-false-clause-listed : goal.returns-in-Ok-false-clause-listed
-returns-in-Ok-false-clause-listed g c measure pairs listing =
+returns-in-Ok-false-clause-listed g c measure pairs start =
     let i = c.loop-pairs.invariant in
     let page = c.new-in-Ok-false.ensures in
-    let start = IfOk-at_ok (λ l. (g.T.Fuzzy.measure l.automaton ≡ measure) × IsWellFormed l.kind l.bytes × (l.left.pairs ≡ pairs)) c.in-Ok.is listing in
     let here = i.valid start.1 in
     let ds = subst (λ m. Distances m i.found c.args.distances.now c.loop-pairs.distances) start.0 i.distances in
     let ends = (rw c.in-Ok-false.field-0-test at c.in-Ok-false.ensures.lists) here.0 in
     (i.found, c.loop-pairs.pairs.left.pairs, ds.told, sym start.2 ∙ here.1, page.1 ∙ i.going.count_is, i.going.done, ds.told_are, ds.placed, inl (page.0, ends.0, page.2))
 
 pub returns-in-Ok-false-clause-any : goal.returns-in-Ok-false-clause-any
-returns-in-Ok-false-clause-any g c measure most listing =
+returns-in-Ok-false-clause-any g c measure most start =
     let i = c.loop-pairs.invariant in
     let page = c.new-in-Ok-false.ensures in
-    let start = IfOk-at_ok (λ l. (g.T.Fuzzy.measure l.automaton ≡ measure) × (l.most ≤ most)) c.in-Ok.is listing in
     let ds = subst (λ m. Distances m i.found c.args.distances.now c.loop-pairs.distances) start.0 i.distances in
     (i.found, omega (arith, i.most, start.1), (i.found, [], ds.told, sym (append-nil i.found), page.1 ∙ i.going.count_is, i.going.done, ds.told_are, ds.placed, inl (page.0, refl, page.2)))
 
 pub returns-in-Err-clause-listed : goal.returns-in-Err-clause-listed
-returns-in-Err-clause-listed g c measure pairs listing =
+returns-in-Err-clause-listed g c measure pairs start =
     let i = c.loop-pairs.invariant in
     let page = c.new-in-Err.ensures in
-    let start = IfOk-at_ok (λ l. (g.T.Fuzzy.measure l.automaton ≡ measure) × IsWellFormed l.kind l.bytes × (l.left.pairs ≡ pairs)) c.in-Ok.is listing in
     let here = i.valid start.1 in
     let ds = subst (λ m. Distances m i.found c.args.distances.now c.loop-pairs.distances) start.0 i.distances in
     (i.found, c.loop-pairs.pairs.left.pairs, ds.told, sym start.2 ∙ here.1, page.1 ∙ i.going.count_is, i.going.done, ds.told_are, ds.placed, inr (inr (page.0, page.2)))
 
 pub returns-in-Err-clause-any : goal.returns-in-Err-clause-any
-returns-in-Err-clause-any g c measure most listing =
+returns-in-Err-clause-any g c measure most start =
     let i = c.loop-pairs.invariant in
     let page = c.new-in-Err.ensures in
-    let start = IfOk-at_ok (λ l. (g.T.Fuzzy.measure l.automaton ≡ measure) × (l.most ≤ most)) c.in-Ok.is listing in
     let ds = subst (λ m. Distances m i.found c.args.distances.now c.loop-pairs.distances) start.0 i.distances in
     (i.found, omega (arith, i.most, start.1), (i.found, [], ds.told, sym (append-nil i.found), page.1 ∙ i.going.count_is, i.going.done, ds.told_are, ds.placed, inr (inr (page.0, page.2))))
 
 pub returns-then-count-room-clause-listed : goal.returns-then-count-room-clause-listed
-returns-then-count-room-clause-listed g c measure pairs listing =
+returns-then-count-room-clause-listed g c measure pairs start =
     let l = c.loop-pairs in
     let i = l.invariant in
     let page = c.new-then-count-room.ensures in
     let now = c.advance.new.self in
     let key = c.key-key.result.now in
-    let start = IfOk-at_ok (λ l. (g.T.Fuzzy.measure l.automaton ≡ measure) × IsWellFormed l.kind l.bytes × (l.left.pairs ≡ pairs)) c.in-Ok.is listing in
     let here = i.valid start.1 in
     let ds = subst (λ m. Distances m i.found c.args.distances.now l.distances) start.0 i.distances in
     let one = (rw c.in-Ok-true.field-0-test at c.in-Ok-true.ensures.lists) here.0 in
@@ -116,7 +110,7 @@ returns-then-count-room-clause-listed g c measure pairs listing =
     (i.found, (key, now.value) ∷ now.left.pairs, ds.told, sym start.2 ∙ here.1 ∙ ap (λ ps. i.found ++ ps) is, page.1 ∙ i.going.count_is, i.going.done, ds.told_are, ds.placed, inr (inl (page.0, (page.2, full.1))))
 
 pub returns-then-count-room-clause-any : goal.returns-then-count-room-clause-any
-returns-then-count-room-clause-any g c measure most listing =
+returns-then-count-room-clause-any g c measure most start =
     let l = c.loop-pairs in
     let i = l.invariant in
     let page = c.new-then-count-room.ensures in
@@ -124,7 +118,6 @@ returns-then-count-room-clause-any g c measure most listing =
     let v = c.advance.new.self.value in
     let e : List ℕ × ℕ = (key, v) in
     let fewer = rw c.in-Ok-true.field-0-test at c.in-Ok-true.ensures.most in
-    let start = IfOk-at_ok (λ l. (g.T.Fuzzy.measure l.automaton ≡ measure) × (l.most ≤ most)) c.in-Ok.is listing in
     let ds = subst (λ m. Distances m i.found c.args.distances.now l.distances) start.0 i.distances in
     let same_keys : length l.keys ≡ length c.args.keys.now = search rules in
     let full = has_no_room i.going (min (length c.args.values.now) (length c.args.distances.now)) key v [] (elim c.then-count-room.branch [
@@ -135,11 +128,3 @@ returns-then-count-room-clause-any g c measure most listing =
       omega (arith, length-append i.found (e ∷ []), fewer, i.most, start.1),
       (i.found, e ∷ [], ds.told, refl, page.1 ∙ i.going.count_is, i.going.done, ds.told_are, ds.placed, inr (inl (page.0, (page.2, full.1)))),
     )
-
-pub returns-in_default-clause-listed : goal.returns-in_default-clause-listed
-returns-in_default-clause-listed g c measure pairs listed =
-    none_near measure pairs c.args.keys.now c.args.ends.now c.args.values.now c.args.distances.now c.args.next_len c.new.ensures
-
-pub returns-in_default-clause-any : goal.returns-in_default-clause-any
-returns-in_default-clause-any g c measure most listed =
-    ([], omega arith, none_near measure [] c.args.keys.now c.args.ends.now c.args.values.now c.args.distances.now c.args.next_len c.new.ensures)

@@ -1,5 +1,5 @@
 -- What is left of the listing of the trie is written.
-use Rattle.std.proofs.Common.{ap, sym, subst, arith, length}
+use Rattle.std.proofs.Common.{ap, sym, subst, arith, length, refl, true}
 use Rattle.std.proofs.lemmas.Result.{IfOk-weaker}
 use Rattle.zerotrie_core.specs.Kinds.{kind_of}
 use Rattle.zerotrie_core.specs.Texts.{Lists}
@@ -16,6 +16,6 @@ returns-clause-known c =
 pub returns-clause-any : goal.returns-clause-any
 returns-clause-any c =
     let page = c.unpack.ensures in
-    let some = c.fill.ensures.any (length c.in-Some.trie.bytes.now) c.left_of-pairs.ensures.most in
+    let some = c.fill.ensures.any (length c.in-Some.trie.bytes.now) (λ key. true) (IfOk-weaker c.left_of-pairs.result _ _ (λ s few. (few, refl)) c.left_of-pairs.ensures.most) in
     let same = ap length c.in-Some.ensures.bytes in
     rw c.in-Some.ensures.kind (some.0, omega (arith, some.1, same), rw (page.status, page.count, page.next_len) some.2)

@@ -1,5 +1,6 @@
 -- The pairs between the bounds are written.
-use Rattle.std.proofs.Common.{ap, sym, subst, arith, length}
+use Rattle.std.proofs.Common.{ap, sym, subst, arith, length, refl, true}
+use Rattle.std.proofs.lemmas.Result.{IfOk-weaker}
 use Rattle.zerotrie_core.specs.Kinds.{kind_of}
 use Rattle.zerotrie_core.specs.Texts.{Means}
 use Rattle.zerotrie_c.proofs.PartLemmas.{valid_sorted}
@@ -16,6 +17,6 @@ returns-clause-known c =
 pub returns-clause-any : goal.returns-clause-any
 returns-clause-any c =
     let page = c.unpack.ensures in
-    let some = c.fill.ensures.any (length c.in-Some.trie.bytes.now) c.stream_sorted-pairs.ensures.most in
+    let some = c.fill.ensures.any (length c.in-Some.trie.bytes.now) (λ key. true) (IfOk-weaker c.stream_sorted-pairs.result _ _ (λ s few. (few, refl)) c.stream_sorted-pairs.ensures.most) in
     let same = ap length c.in-Some.ensures.bytes in
     rw c.in-Some.ensures.kind (rw (sym c.in-Some-bounds_with.ensures) (some.0, omega (arith, some.1, same), rw (page.status, page.count, page.next_len) some.2))
