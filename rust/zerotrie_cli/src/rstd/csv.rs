@@ -25,6 +25,7 @@ impl ReaderBuilder {
         self
     }
 
+    #[allow(clippy::wrong_self_convention)] // as `csv` has it
     pub fn from_reader<A: Allocator>(self, _: A, input: &[u8]) -> ::csv::Reader<&[u8]> {
         self.0.from_reader(input)
     }

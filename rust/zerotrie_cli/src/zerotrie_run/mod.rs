@@ -3,6 +3,7 @@
 #![cfg_attr(rustfmt, rustfmt::skip)]
 #![forbid(unsafe_code)]
 #![deny(unused_must_use)]
+#![allow(clippy::complexity, clippy::manual_unwrap_or_default, clippy::perf, clippy::style)]
 #![allow(dead_code, missing_docs, unused_imports, unused_variables)]
 
 mod ask;
