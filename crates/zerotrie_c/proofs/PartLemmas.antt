@@ -154,6 +154,13 @@ valid_sorted {kind = kind} {bytes = bytes} pairs (Ok s) left kind_is bytes_is m 
     (subst (λ k. IsWellFormed k s.bytes) (sym kind_is) (subst (λ b. IsWellFormed kind b) (sym bytes_is) well), ap (λ l. l.pairs) (left m means))
 valid_sorted pairs (Err e) left kind_is bytes_is m means = tt
 
+-- what a search reads is valid if the listing is, and has as many pairs
+pub still_valid : {s t : Sorting} → s ≡ t → IsWellFormed t.kind t.bytes → IsWellFormed s.kind s.bytes
+still_valid {s} {t} is well = subst (λ r. IsWellFormed r.kind r.bytes) (sym is) well
+
+pub at_most : {s t : Sorting} → s ≡ t → s.most ≤ t.most
+at_most {s} {t} is = let same = ap (λ r. r.most) is in omega (arith, same)
+
 -- no pair is written, since an allocation failed
 pub none_listed : (pairs : Pairs) (keys ends values : List ℕ) (next_len : ℕ) {status count next : ℕ} → (status ≡ 11) × (count ≡ 0) × (next ≡ next_len)
     → IsListedSome pairs status (part keys ends values 0 next_len) (part keys ends values count next)

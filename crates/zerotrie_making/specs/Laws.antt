@@ -6,8 +6,7 @@ use Rattle.zerotrie_lines.specs.declared.reading.Format.TheVariants.{Tsv}
 use Rattle.zerotrie_lines.specs.declared.reading.Header.TheVariants.{Absent}
 use Rattle.zerotrie_lines.specs.declared.reading.LineEnd.{LineEnd}
 use Rattle.zerotrie_core.specs.Kinds.{kind_of}
-use Rattle.zerotrie_queries.specs.Printed.{listed}
-use Rattle.zerotrie_queries.specs.declared.print.Form.TheVariants.{Lines}
+use Rattle.zerotrie_queries.specs.Printed.{lines_of, pair_line}
 use Rattle.zerotrie_queries.specs.declared.print.Style.TheVariants as style
 use Rattle.zerotrie_core.specs.declared.TrieKind.{TrieKind}
 use Rattle.zerotrie_core.specs.declared.ZeroTrieBuildError.TheVariants.{CouldNotSolvePerfectHash}
@@ -25,7 +24,7 @@ use Rattle.zerotrie_making.specs.declared.plan.Source.TheVariants.{Text}
 -- a trie file of this kind that is made of the lines in which all pairs of a trie are listed has bytes that mean the map of that trie
 abbrev pub ListedIsMadeAgain : Type 0
 ListedIsMadeAgain = (kind : TrieKind) (bytes file : List ℕ) (m : Map) (plan : Plan) (means : Means (kind_of kind) bytes m)
-    → (end : LineEnd) → plan.read.source ≡ Text Tsv end Absent → plan.file.form ≢ Index → plan.file.kind ≡ Some kind → plan.read.lower_case ≡ false → plan.read.duplicates ≡ Refuse → IsFile plan (listed (Lines style.Tsv) (beginning (kind_of kind) [] means.pairs)) file
+    → (end : LineEnd) → plan.read.source ≡ Text Tsv end Absent → plan.file.form ≢ Index → plan.file.kind ≡ Some kind → plan.read.lower_case ≡ false → plan.read.duplicates ≡ Refuse → IsFile plan (lines_of (pair_line style.Tsv) (beginning (kind_of kind) [] means.pairs)) file
     → (again : List ℕ) × IsFormOf plan.file.form (kind_of kind) again file × Means (kind_of kind) again m
 
 -- an input that is no pairs makes no file

@@ -61,3 +61,7 @@ and_true false = refl
 pub by_all : (kind : TrieKind) (c : Choice) (keeps accepts : List ℕ → Bool) → ((key : List ℕ) → keeps key ≡ is_kept kind c key) → ((key : List ℕ) → accepts key ≡ is_matched kind c.sought key)
     → (key : List ℕ) → (keeps key && accepts key) ≡ is_chosen kind c key
 by_all kind c keeps accepts kept is key = ap (λ b. b && accepts key) (kept key) ∙ ap (λ b. is_kept kind c key && b) (is key)
+
+-- without a word those are chosen that are kept
+pub kept_alone : (kind : TrieKind) (c : Choice) → c.sought ≡ None → (key : List ℕ) → is_kept kind c key ≡ is_chosen kind c key
+kept_alone kind c none key = sym (ap (λ o. is_kept kind c key && is_matched kind o key) none ∙ and_true (is_kept kind c key))

@@ -6,10 +6,12 @@ use Rattle.std.specs.FinMap.{entries}
 use Rattle.std.specs.Io.KnownBytes.{Appends}
 use Rattle.std.specs.declared.alloc.AllocError.{AllocError}
 use Rattle.zerotrie_base.proofs.CanonicalLemmas.Bounds.{entries_count}
+use Rattle.zerotrie_core.specs.Kind.{Kind}
 use Rattle.zerotrie_core.specs.Kinds.{kind_of}
 use Rattle.zerotrie_core.specs.Listings.{Left, to_come}
 use Rattle.zerotrie_core.specs.Maps.{Pairs, Map, beginning, begins_with, map_of}
 use Rattle.zerotrie_core.specs.Texts.{Lists, Means}
+use Rattle.zerotrie_core.specs.WellFormed.{IsWellFormed}
 use Rattle.zerotrie_core.specs.declared.TrieKind.{TrieKind}
 use Rattle.zerotrie_files.specs.Parts.{AppendsPart}
 use Rattle.zerotrie_search.proofs.PathLemmas.{lists_few}
@@ -28,11 +30,11 @@ use Rattle.zerotrie_queries.specs.declared.question.Choice.{Choice}
 use Rattle.zerotrie_queries.specs.declared.question.Order.{Order}
 use Rattle.zerotrie_queries.specs.declared.question.Order.TheVariants.{Stored, ByBytes, Closest, Nearest}
 use Rattle.zerotrie_queries.specs.declared.question.ListQuery.{ListQuery}
-use Rattle.zerotrie_queries.proofs.ChoiceLemmas.{accepted_alike, by_all, few_accepted}
+use Rattle.zerotrie_queries.proofs.ChoiceLemmas.{accepted_alike, by_all, few_accepted, kept_alone}
 use Rattle.zerotrie_queries.proofs.FoldLemmas.{picked_folded}
 use Rattle.zerotrie_queries.proofs.NearLemmas.{few_of_nearest, near_kept, two_as_one}
 use Rattle.zerotrie_queries.proofs.PartLemmas.{part_none}
-use Rattle.zerotrie_queries.proofs.SortedLemmas.{chosen_within}
+use Rattle.zerotrie_queries.proofs.SortedLemmas.{chosen_within, gives_between}
 
 -- of the pairs that its word finds those of which the other conditions of a choice hold
 chosen_so : (kind : TrieKind) (c : Choice) (keep : List ℕ → Bool) → ((key : List ℕ) → keep key ≡ is_kept kind c key) → (r : KeyRange) → AreWithin kind c (bound_map (λ b. b.now) r.from) (bound_map (λ b. b.now) r.to) → (pairs : Pairs)
@@ -70,6 +72,23 @@ gives_prefix kind c alone same bytes left h pairs lists =
     let one : begun ≡ chosen kind c pairs = accepted_alike (begins_with (kind_of kind) c.prefix.now) (is_chosen kind c) (λ key. sym (same key)) pairs in
     let as_stored : chosen kind c pairs ≡ picked Stored kind c pairs = ap (λ b. if b then chosen kind c pairs else chosen kind c (entries (map_of pairs))) (sym alone) in
     (tt, ap (accepted_left (λ _. true)) (h pairs lists) ∙ ap to_come (all_accepted begun ∙ one ∙ as_stored))
+
+pub gives_all : {P : Type 0} (IsValid : P → Type 0) (left : P → Left) (pick : Pairs → Pairs) (kind : TrieKind) (bytes : List ℕ) (p : P)
+    → Gives IsValid left pick kind bytes p → (pairs : Pairs) → Lists (kind_of kind) bytes pairs → IsValid p × (accepted_left (λ _. true) (left p) ≡ to_come (pick pairs))
+gives_all IsValid left pick kind bytes p h pairs lists =
+    let given = h pairs lists in
+    (given.0, ap (accepted_left (λ _. true)) given.1 ∙ ap to_come (all_accepted (pick pairs)))
+
+-- without a word those are chosen that are kept
+pub gives_kept_alone : (kind : TrieKind) (c : Choice) (keep : List ℕ → Bool) → c.sought ≡ None → ((key : List ℕ) → keep key ≡ is_kept kind c key) → (r : KeyRange) → AreWithin kind c (bound_map (λ b. b.now) r.from) (bound_map (λ b. b.now) r.to)
+    → (bytes : List ℕ) (k : Kind) (b : List ℕ) (left : Left) → length bytes < 2 ^ 64 → k ≡ kind_of kind → b ≡ bytes
+    → ((m : Map) → Means (kind_of kind) bytes m → left ≡ to_come (accepted keep (within (bound_map (λ b. b.now) r.from) (bound_map (λ b. b.now) r.to) m)))
+    → (pairs : Pairs) → Lists (kind_of kind) bytes pairs → IsWellFormed k b × (left ≡ to_come (picked ByBytes kind c pairs))
+gives_kept_alone kind c keep none kept r inside bytes k b left short is_kind is_bytes h pairs lists =
+    let from = bound_map (λ b. b.now) r.from in
+    let to = bound_map (λ b. b.now) r.to in
+    let given = gives_between kind keep (is_chosen kind c) (λ key. kept key ∙ kept_alone kind c none key) from to bytes k b left short is_kind is_bytes h pairs lists in
+    (given.0, given.1 ∙ ap to_come (chosen_within kind c from to (map_of pairs) inside))
 
 -- any other choice is listed in the order of bytes
 pub gives_else : {P : Type 0} (IsValid : P → Type 0) (left : P → Left) (kind : TrieKind) (c : Choice) → is_prefix_alone c ≡ false → (bytes : List ℕ) (p : P)
@@ -152,7 +171,7 @@ listed_alike Count e f same pairs = refl
 
 -- what is written of a listing is what is picked of the pairs that the bytes list
 module _ {P : Type 0} (IsValid : P → Type 0) (left : P → Left) (form : Form) (s : ListQuery) (kind : TrieKind) (bytes : List ℕ) (p : P) (short : length bytes < 2 ^ 64) (gives : Gives IsValid left (first_picked s kind) kind bytes p)
-(edits : List ℕ → ℕ) (told : (key : List ℕ) → edits key ≡ told_edits kind s.choice key) (old new : Option (List ℕ)) where
+    (edits : List ℕ → ℕ) (told : (key : List ℕ) → edits key ≡ told_edits kind s.choice key) (old new : Option (List ℕ)) where
   pub written_all : ((pairs : Pairs) → Lists (kind_of kind) bytes pairs → IsPrintable form (first_picked s kind pairs)) → (IsValid p → length (left p).pairs < 2 ^ 64 → Appends old new (listed form edits (left p).pairs))
       → AreListed form s kind bytes old new
   written_all printable wrote pairs lists =

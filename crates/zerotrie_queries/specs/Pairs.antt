@@ -13,6 +13,7 @@ use Rattle.zerotrie_queries.specs.declared.listing.listed.ListedPairs.TheVariant
 -- the bytes are a trie, where that matters
 abbrev pub IsValid : ListedPairs → Type 0
 IsValid (pairs.Plain s) = Unit {0}
+IsValid (pairs.Kept s) = IsWellFormed s.sorted.kind s.sorted.bytes
 IsValid (pairs.Prefix s) = IsWellFormed s.sorted.kind s.sorted.bytes
 IsValid (pairs.Range s) = IsWellFormed s.sorted.kind s.sorted.bytes
 IsValid (pairs.Glob s) = IsWellFormed s.sorted.kind s.sorted.bytes
@@ -30,6 +31,7 @@ IsValid (pairs.NearSwapsChars s) = IsWellFormed s.kind s.bytes
 -- what is left
 abbrev pub left_of : ListedPairs → Left
 left_of (pairs.Plain s) = s.left
+left_of (pairs.Kept s) = s.left
 left_of (pairs.Prefix s) = s.left
 left_of (pairs.Range s) = s.left
 left_of (pairs.Glob s) = s.left
@@ -47,6 +49,7 @@ left_of (pairs.NearSwapsChars s) = s.left
 -- the current pair
 abbrev pub now_of : ListedPairs → List ℕ × ℕ
 now_of (pairs.Plain s) = (s.key, s.value)
+now_of (pairs.Kept s) = (s.sorted.key, s.sorted.value)
 now_of (pairs.Prefix s) = (s.sorted.key, s.sorted.value)
 now_of (pairs.Range s) = (s.sorted.key, s.sorted.value)
 now_of (pairs.Glob s) = (s.sorted.key, s.sorted.value)
@@ -64,6 +67,7 @@ now_of (pairs.NearSwapsChars s) = (s.key, s.value)
 -- at most how many pairs are to come on any bytes
 abbrev pub most_of : ListedPairs → ℕ
 most_of (pairs.Plain s) = length s.left.pairs
+most_of (pairs.Kept s) = s.sorted.most
 most_of (pairs.Prefix s) = s.sorted.most
 most_of (pairs.Range s) = s.sorted.most
 most_of (pairs.Glob s) = s.sorted.most

@@ -1,6 +1,6 @@
 //! Which pairs are listed: the choice, made once, and returned as a listing.
 
-ghost use Rattle.std.specs.Prelude.{◌≡◌, ◌==◌, ◌&&◌, ℕ, List, is_some, length, not, true, IfOk};
+ghost use Rattle.std.specs.Prelude.{◌≡◌, ◌==◌, ◌&&◌, ℕ, List, is_some, length, not, true, None, IfOk};
 ghost use Rattle.std.proofs.Common.{suc};
 ghost use Rattle.std.specs.FinMap.{entries};
 ghost use Rattle.std.specs.Range.Bound.{bound_map};
@@ -39,10 +39,12 @@ type WordPairs<'t, 'q, W> = ZeroTrieSearch<'t, 'q, ByKind<Found<W>>>;
 /// The pairs that edits of a word find, the nearest first.
 type NearPairs<'t, W> = ZeroTrieNearest<'t, ByKind<W>>;
 
-/// The pairs with a prefix in the order of the trie, or those that a word finds.
+/// The pairs with a prefix in the order of the trie, those of which the conditions of a choice hold, or those
+/// that a word finds.
 #[derive(Drop)]
 pub(crate) enum ListedPairs<'t, 'q> {
     Plain(ZeroTrieStream<'t>),
+    Kept(ZeroTrieSearch<'t, 'q, Conditions<'q>>),
     Prefix(WordPairs<'t, 'q, StartsWith<'q>>),
     Range(WordPairs<'t, 'q, KeyRange<'q>>),
     Glob(WordPairs<'t, 'q, Glob<'q>>),
@@ -63,6 +65,7 @@ macro_rules! by_pairs {
     ($any:expr, $pairs:ident => $result:expr) => {
         match $any {
             ListedPairs::Plain($pairs) => $result,
+            ListedPairs::Kept($pairs) => $result,
             ListedPairs::Prefix($pairs) => $result,
             ListedPairs::Range($pairs) => $result,
             ListedPairs::Glob($pairs) => $result,
@@ -309,6 +312,25 @@ fn bounds<'q>(
     }
 }
 
+/// Lists the pairs between two bounds whose keys are chosen. The choice has no word.
+fn unsought<'t, 'q>(
+    alloc: Global,
+    trie: &'t TrieRef<'_>,
+    choice: Choice<'q>,
+    part: KeyRange<'q>,
+) -> Result<ListedPairs<'t, 'q>, AllocError>
+    requires folded { IsFolded trie.now.kind choice }
+    requires within { AreWithin trie.now.kind choice (bound_map (λ b. b.now) part.from)
+        (bound_map (λ b. b.now) part.to) }
+    requires none { choice.sought ≡ None }
+    ensures { IfOk result (Gives IsValid left_of (picked ByBytes trie.now.kind choice.entry)
+        trie.now.kind trie.now.bytes.now) }
+{
+    let kept = conditions(trie.kind, choice);
+    let pairs = trie.search_range(alloc, part.from, part.to, kept)?;
+    Ok(ListedPairs::Kept(pairs))
+}
+
 /// Lists the pairs whose keys are chosen, in the order of their bytes.
 fn sorted<'t, 'q>(
     alloc: Global,
@@ -322,6 +344,13 @@ fn sorted<'t, 'q>(
         (picked ByBytes trie.now.kind choice.entry) trie.now.kind trie.now.bytes.now) }
 {
     let part = bounds(trie.kind, choice, above);
+    if choice.sought.is_none() {
+        let pairs = unsought(alloc, trie, choice, part)?;
+        return Ok(ChosenPairs {
+            pairs,
+            condition: None,
+        });
+    }
     let pairs = found(alloc, trie, choice, part)?;
     let condition = condition_of(trie.kind, choice);
     Ok(ChosenPairs { pairs, condition })

@@ -9,12 +9,18 @@ use crate::text::is_text;
 use std::alloc::{AllocError, Global};
 use zerotrie_search::TrieListing;
 
-/// Returns whether a key has no tab and no line feed.
-fn is_raw(key: &[u8]) -> bool
-    ensures { result ≡ list_all is_raw key.now }
+/// Returns whether a byte is no tab and no line feed.
+fn is_raw(byte: u8) -> bool
+    ensures { result ≡ is_raw byte }
 {
-    for byte in key {
-        if *byte == b'\t' || *byte == b'\n' {
+    byte != b'\t' && byte != b'\n'
+}
+
+fn are_raw(bytes: &[u8]) -> bool
+    ensures { result ≡ list_all is_raw bytes.now }
+{
+    for byte in bytes {
+        if !is_raw(*byte) {
             return false;
         }
     }
@@ -37,7 +43,7 @@ fn can_print(form: Form, key: &[u8]) -> bool
     ensures { result ≡ can_print form key.now }
 {
     match form {
-        Form::Lines(Style::TsvRaw) => is_raw(key),
+        Form::Lines(Style::TsvRaw) => are_raw(key),
         Form::Lines(
             Style::Tsv | Style::Csv | Style::JsonLines | Style::Keys | Style::Values,
         )

@@ -62,7 +62,7 @@ loop-pairs-preserved g c =
 pub returns-in-Ok-false-clause-listed : goal.returns-in-Ok-false-clause-listed
 returns-in-Ok-false-clause-listed g c measure pairs start =
     let i = c.loop-pairs.invariant in
-    let page = c.new-in-Ok-false.ensures in
+    let page = c.new.ensures in
     let here = i.valid start.1 in
     let ds = subst (λ m. Distances m i.found c.args.distances.now c.loop-pairs.distances) start.0 i.distances in
     let ends = (rw c.in-Ok-false.field-0-test at c.in-Ok-false.ensures.lists) here.0 in
@@ -71,7 +71,7 @@ returns-in-Ok-false-clause-listed g c measure pairs start =
 pub returns-in-Ok-false-clause-any : goal.returns-in-Ok-false-clause-any
 returns-in-Ok-false-clause-any g c measure most start =
     let i = c.loop-pairs.invariant in
-    let page = c.new-in-Ok-false.ensures in
+    let page = c.new.ensures in
     let ds = subst (λ m. Distances m i.found c.args.distances.now c.loop-pairs.distances) start.0 i.distances in
     (i.found, omega (arith, i.most, start.1), (i.found, [], ds.told, sym (append-nil i.found), page.1 ∙ i.going.count_is, i.going.done, ds.told_are, ds.placed, inl (page.0, refl, page.2)))
 
