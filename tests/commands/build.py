@@ -110,7 +110,7 @@ def test_raw_keys():
     for words, wanted in [(['-r'], b'a\\b\t1\n\xff\t2\n'), (['--raw', '-f', 'tsv'], b'a\\b\t1\n\xff\t2\n'), ([], b'a\\\\b\t1\n\\xff\t2\n')]:
         holds('a file of raw keys', ['build', '-', '-o', path, '-r'], b'', 0, given=b'a\\b\t1\n\xff\t2\n')
         holds(f'raw keys, listed {words}', ['list', path, '-S', *words], wanted, 0)
-        holds(f'raw keys, found {words}', ['search', path, '-S', '-p', '', *words], wanted, 0)
+        holds(f'raw keys, found {words}', ['search', path, '-p', '', *words], wanted, 0)
     for words, why in [(['-r', '-f', 'csv'], b'--raw is for tsv'),
                        (['-r', '-c'], b'--count prints no pairs: leave out --format and --raw')]:
         holds(f'raw keys, listed {words}', ['list', path, *words], b'', 2, why)

@@ -58,14 +58,15 @@ def test_conditions():
                     letters = bytes(chance.choice(sorted(pairs))[::2])[:3]
                     words += ['--subsequence', letters.decode()]
                     tests.append(lambda key: is_within(folds(letters), folds(key)))
-            in_order = chance.random() < 0.5
-            wanted = [pair for pair in (sorted(stored) if in_order or far else stored) if all(test(pair[0]) for test in tests)]
-            if far and not in_order:
+            if command == 'list' and chance.random() < 0.5:
+                words += ['-S']
+            is_stored = command == 'list' and not {'-S', '--from', '--below'} & {*words}
+            wanted = [pair for pair in (stored if is_stored else sorted(stored)) if all(test(pair[0]) for test in tests)]
+            if far:
                 wanted.sort(key=lambda pair: far(pair[0]))
-            words += ['-S'] if in_order else []
             holds(f'{kind}: {command} {words}', [command, path, *words], lines_of(wanted), 0)
             holds(f'{kind}: {command} {words}, counted', [command, path, *words, '-c'], b'%d\n' % len(wanted), 0)
             holds(f'{kind}: {command} {words}, the first', [command, path, *words, '-n', '1'], lines_of(wanted[:1]), 0)
-            if far and not in_order and '--beginnings' not in words:
+            if far and '--beginnings' not in words:
                 measured = b''.join(escaped(key) + b'\t%d\t%d\n' % (value, far(key)) for key, value in wanted)
                 holds(f'{kind}: {command} {words}, how far', [command, path, *words, '--distance'], measured, 0)

@@ -53,7 +53,7 @@ def test_other_commands():
                   ['longest', path, '--escaped', 'amp'], ['longest', path, '-'], ['list', path], ['list', path, '-S'], ['list', path, '-c'],
                   ['list', path, '-p', 'amp', '-n', '1'],
                   *(['list', path, '-f', form] for form in ['tsv', 'csv', 'keys', 'values', 'json', 'jsonl']),
-                  ['search', path, '--glob', 'a*'], ['search', path, '--fuzzy', 'amp'], ['search', path, '--subsequence', 'amp', '-S'],
+                  ['search', path, '--glob', 'a*'], ['search', path, '--fuzzy', 'amp'], ['search', path, '--subsequence', 'amp'],
                   ['search', path, '--from', 'a', '--below', 'b', '-c'], ['stats', path], ['stats', path, '-f', 'json'],
                   ['inspect', 'dump', path], ['inspect', 'dot', path], ['inspect', 'dot', path, '-n', '1'],
                   ['code', path, '--lang', 'rust'], ['code', path, '--lang', 'c'], ['code', path, '--lang', 'c', '--alone'],

@@ -2,7 +2,7 @@
 import re
 import subprocess
 
-from .cases import HELD, LOWER, NAMES, as_json, asks, forms, good_file, held_in, here, holds, json_key, lines_of, run, said
+from .cases import HELD, LOWER, NAMES, as_json, asks, forms, good_file, held_in, here, holds, json_key, lines_of, made, run, said
 from .formats import escaped, sealed
 from .reverse import first_keys
 from .search import edits_between, is_within
@@ -97,17 +97,14 @@ def test_json():
 
 
 def test_sorted():
-    """Lists and searches in the order of bytes, in every kind, against sorted pairs."""
+    """Searches, listings of a range and sorted ones: in every kind the order is that of bytes."""
     odd = {b'': 7, b'a\tb': 1, b'a\nb': 2, 'äö'.encode(): 2 ** 64 - 1, b'\xff\xff': 5, b'\xff\xffa': 6, b'\xfe\xff': 7, b'\xfe': 8,
            b'\xc3': 9}
     path = here('sorted')
-    for kind, pairs in [('simple', NAMES), ('ignore', LOWER), ('ignore', {b'Ab': 1, b'aC': 2, b'AB!': 3, b'b': 4}), ('hash', NAMES),
+    for kind, pairs in [('simple', NAMES), ('ignore', LOWER), ('ignore', {b'b': 1, b'C': 2, b'Cz': 3, b'CA': 4, b'd': 5}), ('hash', NAMES),
                         ('ext', NAMES), ('hash', odd), ('ext', odd), ('hash', {})]:
         folds = kind == 'ignore'
-        build = run(['build', '-', '-o', path, '--kind', kind], lines_of(pairs))
-        if build.returncode and folds:
-            continue
-        said(f'a file to list in order: {build.stderr!r}', build.returncode == 0)
+        made('sorted', pairs, ['--kind', kind])
         name = f'sorted, {kind}, {len(pairs)} pairs'
         in_order = sorted(pairs.items())
         for words, has in [([], lambda key: True), (['-p', 'a'], lambda key: (key.lower() if folds else key).startswith(b'a')),
@@ -123,13 +120,16 @@ def test_sorted():
                            (['--glob', 'a*;', '--bytes'], lambda key: re.fullmatch(rb'a.*;', key, re.S)),
                            (['--subsequence', 'sbq'], lambda key: is_within(b'sbq', key))]:
             wanted = [pair for pair in in_order if has(pair[0].lower() if folds else pair[0])]
-            holds(f'{name}, search {words}', ['search', path, '--sorted', *words], lines_of(wanted), 0)
-            holds(f'{name}, search {words}, the first two', ['search', path, '-S', '-n', '2', '-f', 'csv', *words],
+            holds(f'{name}, search {words}', ['search', path, *words], lines_of(wanted), 0)
+            if words[0] in ('--from', '--below'):
+                holds(f'{name}, list {words}', ['list', path, *words], lines_of(wanted), 0)
+            holds(f'{name}, search {words}, the first two', ['search', path, '-n', '2', '-f', 'csv', *words],
                   b''.join(b'%s,%d\n' % pair if re.fullmatch(rb'[ !#-+\--~]*', pair[0])
                            else b'"%s",%d\n' % (pair[0].replace(b'"', b'""'), pair[1]) for pair in wanted[:2]), 0)
         if pairs is NAMES:
-            wanted = [pair for pair in in_order if edits_between('amp;', pair[0].decode()) <= 1]
-            holds(f'{name}, near a word', ['search', path, '-S', '--fuzzy', 'amp;', '-e', '1'], lines_of(wanted), 0)
+            how_far = lambda pair: edits_between('amp;', pair[0].decode())
+            wanted = sorted((pair for pair in in_order if how_far(pair) <= 1), key=how_far)
+            holds(f'{name}, near a word', ['search', path, '--fuzzy', 'amp;', '-e', '1'], lines_of(wanted), 0)
 
 
 def test_steers_nothing():
