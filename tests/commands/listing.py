@@ -132,6 +132,18 @@ def test_sorted():
             holds(f'{name}, near a word', ['search', path, '--fuzzy', 'amp;', '-e', '1'], lines_of(wanted), 0)
 
 
+def test_raw():
+    """A key that would be read as two columns or lines is not printed as it is."""
+    path = made('keys', {b'a': 1, b'b\tc': 2, b'd\ne': 3, b'f\r\\': 4}, ['--kind', 'hash'])
+    for words, bad in [(['list'], b'b\\tc'), (['list', '-n', '2'], b'b\\tc'), (['list', '-p', 'd'], b'd\\ne'), (['list', '-S'], b'b\\tc'),
+                       (['search', '-g', '?*'], b'b\\tc'), (['search', '--from', 'c'], b'd\\ne'), (['search', '-z', 'de'], b'd\\ne')]:
+        holds(f'raw keys that are none, {words}', [words[0], path, '--raw', *words[1:]], b'', 1,
+              path.encode() + b': a key has a tab or a line feed, so leave out --raw: ' + bad + b'\n')
+    for words, wanted in [(['list', '-n', '1'], b'a\t1\n'), (['list', '-p', 'f'], b'f\r\\\t4\n'), (['list', '-p', 'b', '-n', '0'], b''),
+                          (['search', '-g', '?*', '-n', '1'], b'a\t1\n'), (['search', '-z', 'a'], b'a\t1\n')]:
+        holds(f'raw keys, {words}', [words[0], path, '--raw', *words[1:]], wanted, 0)
+
+
 def test_steers_nothing():
     """What is printed of keys and names has no byte that steers a terminal, and is read back."""
     keys = ['\x80', 'a\x9b31mb', '\xa0', '\u202a', 'a\u202eb', '\u2066\u2069', '\u2029', '\u202f', '\ufeff', 'a\ufeff', '\x7f', '\x1b[2J',
