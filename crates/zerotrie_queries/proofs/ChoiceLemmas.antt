@@ -1,10 +1,8 @@
 -- The pairs that are chosen.
-use Rattle.std.proofs.Common.{◌≡◌, ℕ, suc, ◌≤◌, List, [], ◌∷◌, Bool, true, false, cond, not, length, refl, sym, ap, ◌∙◌, arith, Option, Some, None, Result, Ok, Err, IfOk, IfSome, IfNone, OnOk, OnErr}
-use Rattle.std.specs.Prelude.{◌&&◌, ◌==◌}
-use Rattle.std.proofs.lemmas.Bool.{ne_eqb}
+use Rattle.std.proofs.Common.{◌≡◌, ℕ, ◌≤◌, List, [], ◌∷◌, Bool, true, false, cond, not, length, refl, sym, ap, ◌∙◌, arith, Option, Some, None, Result, Ok, Err, IfOk, IfSome, IfNone, OnOk, OnErr}
+use Rattle.std.specs.Prelude.{◌&&◌}
 use Rattle.std.proofs.lemmas.List.Filters.{length-filter_both}
-use Rattle.zerotrie_core.specs.Kinds.{kind_of}
-use Rattle.zerotrie_core.specs.Maps.{Pairs, beginning, begins_with}
+use Rattle.zerotrie_core.specs.Maps.{Pairs}
 use Rattle.zerotrie_core.specs.declared.TrieKind.{TrieKind}
 use Rattle.zerotrie_search.specs.Searches.{accepted}
 use Rattle.zerotrie_queries.specs.Chosen.{is_chosen, is_kept, is_matched}

@@ -1,5 +1,5 @@
 -- Keys, bounds and words as a kind compares them.
-use Rattle.std.proofs.Common.{◌≡◌, ◌≢◌, ℕ, zero, suc, List, [], ◌∷◌, Bool, true, false, ◌+◌, ◌-◌, ◌<◌, ◌^◌, arith, length, not, refl, sym, ap, ◌∙◌, subst, Option, Some, None, Result, Ok, Err, IfOk}
+use Rattle.std.proofs.Common.{◌≡◌, ◌≢◌, ℕ, zero, suc, List, [], ◌∷◌, Bool, true, false, ◌+◌, ◌-◌, ◌<◌, ◌^◌, arith, length, refl, sym, ap, ◌∙◌, subst, Option, Some, None}
 use Rattle.std.specs.Prelude.{◌&&◌, ◌==◌, ◌||◌, is_some, unwrap_or, if◌then◌else◌}
 use Rattle.std.specs.Borrow.{Bor}
 use Rattle.std.specs.Option.{option_map}
@@ -11,17 +11,13 @@ use Rattle.std.proofs.lemmas.Str.Ascii.{lowercase-lowercase}
 use Rattle.zerotrie_core.specs.Kind.{Kind, simple_ascii, ignore_case, perfect_hash, extended_capacity, fold_byte, same_byte}
 use Rattle.zerotrie_core.specs.Kinds.{kind_of}
 use Rattle.std.specs.FinMap.{entries}
-use Rattle.zerotrie_core.specs.Listings.{Left, to_come}
 use Rattle.zerotrie_core.specs.Maps.{Pairs, Map, begins_with, map_of}
 use Rattle.zerotrie_core.specs.Texts.{Lists, Means}
-use Rattle.std.specs.declared.alloc.AllocError.{AllocError}
 use Rattle.zerotrie_core.specs.declared.TrieKind.{TrieKind}
 use Rattle.zerotrie_core.specs.declared.TrieKind.TheVariants.{Simple, Ignore, Hash, Ext}
 use Rattle.zerotrie_index.specs.Tries.{folded_key}
 use Rattle.zerotrie_search.specs.Automata.{edits_to, finds_by, finds_in, free_if, ignores_case, most_by, word_by}
-use Rattle.zerotrie_search.specs.Searches.{accepted}
 use Rattle.zerotrie_search.specs.Sets.{by_bytes, some_front}
-use Rattle.zerotrie_search.specs.Sorted.{within}
 use Rattle.zerotrie_queries.specs.Chosen.{at_edits, by_edits, found_from, sought_at, closest, edits_matched, edits_of, folded_bound, measured, is_in, is_kept, is_matched, is_chosen, is_word, told_edits, word_of, chosen, IsFolded, AreWordsOf, HasWords}
 use Rattle.zerotrie_queries.specs.Sorted.{is_free, is_prefix_alone, picked}
 use Rattle.zerotrie_queries.specs.declared.folding.FoldedWords.{FoldedWords}
@@ -34,7 +30,7 @@ use Rattle.zerotrie_search.specs.declared.any.SearchBy.{SearchBy}
 use Rattle.zerotrie_search.specs.declared.any.SearchBy.TheVariants as by
 use Rattle.zerotrie_queries.proofs.BeginsLemmas.{no_front}
 use Rattle.zerotrie_queries.proofs.NearLemmas.{nearest_alike}
-use Rattle.zerotrie_queries.proofs.ChoiceLemmas.{accepted_alike, accepted_within, by_all}
+use Rattle.zerotrie_queries.proofs.ChoiceLemmas.{accepted_alike}
 
 some_inj : {A : Type 0} {x y : A} → Some x ≡ Some y → x ≡ y
 some_inj {A} {x} {y} h = ap (λ o. unwrap_or o x) h

@@ -1,5 +1,5 @@
 -- Keys that can be printed in a form, and the first that can't.
-use Rattle.std.proofs.Common.{◌≡◌, ℕ, List, [], ◌∷◌, Bool, true, false, refl, sym, ◌∙◌, ap}
+use Rattle.std.proofs.Common.{◌≡◌, ℕ, List, [], ◌∷◌, true, false, refl, sym, ◌∙◌, ap}
 use Rattle.std.specs.Prelude.{◌&&◌}
 use Rattle.zerotrie_core.specs.Maps.{Pairs}
 use Rattle.zerotrie_queries.specs.Printed.{are_printable, can_print, IsFirstUnprintable}

@@ -1,8 +1,7 @@
 -- Sorted listings of the pairs that are chosen.
-use Rattle.std.proofs.Common.{◌≡◌, ℕ, suc, ◌+◌, ◌<◌, ◌^◌, take, drop, List, [], ◌∷◌, ◌++◌, Bool, true, false, cond, length, refl, sym, ◌∙◌, ap, subst, arith, Option, Some, None, Vec, inl, inr, Less, Equal}
+use Rattle.std.proofs.Common.{◌≡◌, ℕ, suc, ◌+◌, ◌<◌, ◌^◌, take, drop, List, [], ◌∷◌, ◌++◌, Bool, true, false, cond, length, refl, sym, ◌∙◌, ap, subst, arith, Option, None, inl, inr, Less, Equal}
 use Rattle.std.proofs.Math.Seq.{split_at}
-use Rattle.std.specs.Prelude.{slice_index, is_some, IfSome, IsTrue, ◌==◌, ◌&&◌, ◌≢◌, ◌↔◌}
-use Rattle.std.specs.Option.{option_map}
+use Rattle.std.specs.Prelude.{slice_index, is_some, ◌==◌, ◌&&◌, ◌≢◌}
 use Rattle.std.specs.FinMap.{entries}
 use Rattle.std.specs.Ordering.{nat_cmp, is_le}
 use Rattle.std.specs.Cmp.{nat_cmp_is}
@@ -23,8 +22,7 @@ use Rattle.zerotrie_search.specs.Searches.{accepted}
 use Rattle.zerotrie_search.specs.Sets.{by_bytes}
 use Rattle.zerotrie_search.specs.Sorted.{within}
 use Rattle.zerotrie_queries.specs.Chosen.{AreBelow, chosen, is_chosen, is_in, is_matched, is_spared, IsFolded}
-use Rattle.zerotrie_queries.specs.Sorted.{picked, AreWithin}
-use Rattle.zerotrie_queries.specs.declared.question.Order.TheVariants.{ByBytes}
+use Rattle.zerotrie_queries.specs.Sorted.{AreWithin}
 use Rattle.zerotrie_queries.specs.declared.question.Choice.{Choice}
 use Rattle.zerotrie_queries.proofs.ChoiceLemmas.{accepted_alike, accepted_within}
 use Rattle.zerotrie_queries.proofs.FoldLemmas.{exact_key, in_range}

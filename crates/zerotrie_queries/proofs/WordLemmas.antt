@@ -1,6 +1,6 @@
 -- Words by which keys are sought.
 use Rattle.std.proofs.Common.{◌≡◌, ◌≢◌, ◌<◌, ℕ, List, [], ◌∷◌, Bool, true, false, length, refl, inl, inr, suc, arith}
-use Rattle.std.specs.Prelude.{◌⊎◌, ◌&&◌, ◌==◌, nat_le}
+use Rattle.std.specs.Prelude.{◌&&◌, ◌==◌, nat_le}
 use Rattle.std.specs.Str.{chars, is_utf8, IsUtf8}
 use Rattle.std.proofs.lemmas.Bool.{lt-leb, ne_eqb}
 use Rattle.std.proofs.lemmas.Bool.Decides.{leb_tells}

@@ -1,5 +1,5 @@
 -- The pairs of a trie in an order.
-use Rattle.std.specs.Prelude.{◌≡◌, ℕ, List, Bool, true, false, Option, Some, None, ◌&&◌, is_some, not, if◌then◌else◌}
+use Rattle.std.specs.Prelude.{◌≡◌, ℕ, List, Bool, true, false, ◌&&◌, is_some, not, if◌then◌else◌}
 use Rattle.std.proofs.Common.{suc}
 use Rattle.std.specs.FinMap.{entries}
 use Rattle.std.specs.Range.Bound.{bound_map, bounds_contain}

@@ -95,7 +95,7 @@ impl<'t, 'q> TrieListing for ListedPairs<'t, 'q> {
     ghost most = { λ s. most_of s };
 
     fn advance(&mut self) -> Result<bool, AllocError> {
-        by_pairs!(self, pairs => pairs.advance())
+        by_pairs!(self, pairs => TrieListing::advance(pairs))
     }
 
     fn key(&self) -> &[u8] {

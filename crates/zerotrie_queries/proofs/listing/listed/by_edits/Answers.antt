@@ -25,7 +25,7 @@ returns-in-Fuzzy c =
     let trie = c.args.trie.now in
     let edits = subst (λ a. (key : List ℕ) → any_edits_to a (folded_key (kind_of trie.kind) key) ≡ edits_matched trie.kind c.args.choice.sought key) c.in-Fuzzy.is c.requires.edits in
     let most = subst (λ a. any_most a ≡ edits_of c.args.choice) c.in-Fuzzy.is c.requires.most in
-    gives_near IsValid left_of trie.kind c.args.choice (may_keep keeps c.condition_of-condition.result) (λ key. any_edits_to (any.Fuzzy c.in-Fuzzy.word) (folded_key (kind_of trie.kind) key)) (any_most (any.Fuzzy c.in-Fuzzy.word)) c.condition_of-condition.ensures edits most trie.bytes.now (pairs.NearFuzzy c.near-in-Fuzzy.result) c.near-in-Fuzzy.ensures
+    gives_near IsValid left_of trie.kind c.args.choice (may_keep keeps c.condition_of-condition.result) (λ key. any_edits_to (any.Fuzzy c.in-Fuzzy.word) (folded_key (kind_of trie.kind) key)) (any_most (any.Fuzzy c.in-Fuzzy.word)) c.condition_of-condition.ensures edits most trie.bytes.now (pairs.NearFuzzy c.near.result) c.near.ensures
 
 pub returns-in-FuzzyChars : goal.returns-in-FuzzyChars
 returns-in-FuzzyChars c =

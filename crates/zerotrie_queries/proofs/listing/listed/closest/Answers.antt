@@ -1,4 +1,4 @@
-use Rattle.std.proofs.Common.{rules, ◌≡◌, ◌<◌, ◌^◌, length, subst, sym}
+use Rattle.std.proofs.Common.{rules, ◌<◌, ◌^◌, length, subst, sym}
 use Rattle.std.proofs.lemmas.Result.{IfOk-weaker}
 use Rattle.std.specs.Range.Bound.{bound_map}
 use Rattle.zerotrie_queries.specs.Chosen.{AreBelow, IsFolded}

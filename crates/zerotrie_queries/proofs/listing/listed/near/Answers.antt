@@ -1,4 +1,4 @@
-use Rattle.std.proofs.Common.{rules, ◌≡◌, ◌<◌, ◌^◌, length, suc}
+use Rattle.std.proofs.Common.{rules, ◌<◌, ◌^◌, length, suc}
 use Rattle.zerotrie_core.specs.Kinds.{kind_of}
 use Rattle.zerotrie_index.specs.Tries.{folded_key}
 use Rattle.zerotrie_queries.proofs.NearLemmas.{gives_nearest}

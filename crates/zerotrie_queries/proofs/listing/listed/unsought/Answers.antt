@@ -1,4 +1,4 @@
-use Rattle.std.proofs.Common.{rules, ◌≡◌, ◌<◌, ◌^◌, length}
+use Rattle.std.proofs.Common.{rules, ◌<◌, ◌^◌, length}
 use Rattle.zerotrie_queries.specs.Kept.{keeps}
 use Rattle.zerotrie_queries.proofs.GivenLemmas.{gives_kept_alone}
 use Rattle.zerotrie_queries.proofs.listing.listed.unsought.Goals as goal
