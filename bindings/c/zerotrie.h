@@ -269,7 +269,7 @@ typedef struct zerotrie_cursor {
 } zerotrie_cursor;
 
 /** How a search finds keys. In IGNORE_CASE, keys, bounds and words are compared in lower case, and the
- * letters of a pattern are taken in both cases, so `[A-_]` has `a` too. Listings in the order of bytes
+ * letters of a pattern are taken in both cases, so `[A-_]` has `a` too. Sorted listings and diffs
  * compare bounds as they are. */
 typedef enum zerotrie_search_by ZEROTRIE_ENUM {
     /** the keys between two bounds, in the order of bytes as memcmp has it, a shorter key first */
@@ -420,9 +420,9 @@ ZEROTRIE_INLINE zerotrie_search zerotrie_range(zerotrie_bound from_bound, const 
 }
 
 /**
- * Returns the range of the keys that begin with a prefix, for calls that list in the order of bytes.
- * It writes its upper bound to `above`, which has room for `prefix_len` bytes and stays as long as
- * the search is used. In IGNORE_CASE too it compares the bytes as they are stored.
+ * Returns the range of the keys that begin with a prefix, for sorted listings and diffs. It writes
+ * its upper bound to `above`, which has room for `prefix_len` bytes and stays as long as the range
+ * is used. In IGNORE_CASE too it compares the bytes as they are stored.
  *
  *     uint8_t above[2];
  *     part = zerotrie_listing_between(trie, zerotrie_range_of_prefix("ba", 2, above), &rooms);
@@ -858,9 +858,11 @@ zerotrie_status zerotrie_list_some(zerotrie_kind_number kind, const uint8_t *byt
 
 /**
  * Lists the next pairs whose keys begin with the prefix and are found by the search, which reads
- * the whole key. All else is as in zerotrie_list_some(), also for malformed bytes: the rooms,
- * `goes_on` and `last`, *count, *next_len and the status. With these statuses too nothing is
- * written: ZEROTRIE_UNKNOWN_SEARCH, if no search or no bound that it uses has its number;
+ * the whole key, in the order of bytes in every kind: that of memcmp, a shorter key first. If
+ * `goes_on`, these are the keys after `last` in that order, whether or not it is a key. All else is
+ * as in zerotrie_list_some(): the rooms, *count, *next_len and the status. Of malformed bytes it
+ * lists some pairs that the search finds, and parts may repeat as there. With these statuses too
+ * nothing is written: ZEROTRIE_UNKNOWN_SEARCH, if no search or no bound that it uses has its number;
  * ZEROTRIE_MALFORMED_SEARCH, of a pattern where a class has no end or no byte, or the last byte is
  * a backslash that escapes nothing, or of a word that is not UTF-8; ZEROTRIE_SEARCH_TOO_LONG, of a
  * pattern of more than 63 items, or of a word of more than 63 bytes or characters;
@@ -872,7 +874,7 @@ zerotrie_status zerotrie_list_some(zerotrie_kind_number kind, const uint8_t *byt
  *
  * It reads the keys node by node, and passes over those that begin as no key that is found does. So
  * a call costs a look-up of `last` and what it reads: of a range about what it lists, of a pattern
- * or a word with few edits a small part of the trie. Allocates as zerotrie_list_some(), and one
+ * or a word with few edits a small part of the trie. Allocates as zerotrie_sorted_some(), and one
  * state for each byte of the longest key, and in IGNORE_CASE copies of the texts of the search.
  */
 ZEROTRIE_ANSWERS
@@ -1846,9 +1848,9 @@ typedef struct zerotrie_listing {
     zerotrie_trie trie;     /**< the trie */
     zerotrie_bytes prefix;  /**< what the keys begin with */
     zerotrie_search search; /**< what finds the keys, or has the bounds, if it searches or is sorted */
-    bool searches;          /**< whether it searches */
-    bool sorted;            /**< whether it lists in the order of bytes */
-    bool reversed;          /**< whether it lists in that order from the last key on */
+    bool searches;          /**< whether it lists what `search` finds, in the order of bytes */
+    bool sorted;            /**< whether it lists the keys between its bounds, in that order */
+    bool reversed;          /**< whether it lists these from the last key on */
     uint8_t *room; /**< room for keys: one half for those of a part, the other for those of the part
                       before */
     size_t room_len;     /**< its bytes */
@@ -1896,7 +1898,8 @@ ZEROTRIE_INLINE zerotrie_listing zerotrie_listing_in(zerotrie_trie trie, const c
 }
 
 /**
- * Returns a listing of the pairs whose keys a search finds, before its first part.
+ * Returns a listing of the pairs whose keys a search finds, in the order of bytes in every kind,
+ * before its first part.
  *
  *     zerotrie_listing part = zerotrie_listing_by(trie, zerotrie_glob(pattern, pattern_len), room,
  *                                                 sizeof room, ends, values, 10);

@@ -455,13 +455,12 @@ class Parts;
 
 /// Which keys a search finds. In Kind::IgnoreCase, keys, bounds and words are compared in lower case,
 /// and the letters of a pattern are taken in both cases. It owns its texts. Trie::search() lists what
-/// it finds.
+/// it finds, in the order of bytes.
 class Search {
 public:
     /// All keys.
     Search() = default;
-    /// The keys from one on and below another one, in the order of their bytes. nullopt: there is
-    /// no bound on this side.
+    /// The keys from one on and below another one. nullopt: there is no bound on this side.
     [[nodiscard]] static Search range(std::optional<std::string_view> from,
                                       std::optional<std::string_view> below) {
         Search made(ZEROTRIE_BY_RANGE, from.value_or(std::string_view()));
@@ -518,12 +517,21 @@ public:
 
 private:
     friend class detail::Parts;
+    friend class Items;
     friend class Map;
     friend class Range;
+    friend class Stream;
+    friend class StreamIterator;
     friend class Trie;
     Search(zerotrie_search_by by, std::string_view text, uint32_t edits = 0)
         : text_(text), by_(by), edits_(edits) {}
-    // A range whose pairs come in the order of bytes in every kind. Without the others' prefix.
+    // All keys with a prefix, in the order of the trie.
+    static Search stored_within(std::string_view prefix) {
+        Search made = Search().within(prefix);
+        made.stored_ = true;
+        return made;
+    }
+    // A range that compares bytes as they are stored. Without the others' prefix.
     Search sorted() const {
         Search made = *this;
         made.sorted_ = true;
@@ -535,7 +543,7 @@ private:
         made.down_ = true;
         return made;
     }
-    // The keys that begin with a prefix, in that order.
+    // The keys that begin with a prefix, as they are stored.
     static Search sorted_within(std::string_view prefix) {
         Search made;
         made.to_ = prefix;
@@ -546,15 +554,11 @@ private:
         made.from_bound_ = search.from_bound, made.to_bound_ = search.to_bound;
         return made.sorted();
     }
-    // The keys after this one, in that order.
+    // The keys after this one.
     static Search after(std::string_view key) {
         Search made = range(key, std::nullopt).sorted();
         made.from_bound_ = ZEROTRIE_EXCLUDED;
         return made;
-    }
-    bool finds_all() const noexcept {
-        return by_ == ZEROTRIE_BY_RANGE && from_bound_ == ZEROTRIE_UNBOUNDED &&
-               to_bound_ == ZEROTRIE_UNBOUNDED;
     }
     // As C has it, with pointers into the texts.
     zerotrie_search raw() const noexcept {
@@ -576,7 +580,7 @@ private:
     zerotrie_search_by by_ = ZEROTRIE_BY_RANGE;
     uint32_t edits_ = 0;
     zerotrie_bound from_bound_ = ZEROTRIE_UNBOUNDED, to_bound_ = ZEROTRIE_UNBOUNDED;
-    bool beginnings_ = false, sorted_ = false, down_ = false;
+    bool beginnings_ = false, stored_ = false, sorted_ = false, down_ = false;
 };
 
 /// @cond
@@ -630,7 +634,7 @@ private:
                                         room(keys_), room_, ends_.data(), places, values_.data(),
                                         places, &count_, next_len);
         }
-        if (search_.finds_all())
+        if (search_.stored_)
             return zerotrie_list_some(kind_, trie_.ptr, trie_.len, prefix.ptr, prefix.len,
                                       listed_ > 0, last.ptr, last.len, room(keys_), room_,
                                       ends_.data(), places, values_.data(), places, &count_,
@@ -789,7 +793,7 @@ public:
     /// @endcond
     /// Lists the pairs of a trie whose keys begin with a prefix.
     Items(Kind kind, Bytes bytes, std::string_view prefix = {}) {
-        for (detail::Parts parts(kind, bytes, Search().within(prefix)); parts.next();) {
+        for (detail::Parts parts(kind, bytes, Search::stored_within(prefix)); parts.next();) {
             const size_t from = keys_.size();
             keys_ += parts.keys();
             for (size_t i = 0; i < parts.size(); i++) ends_.push_back(from + parts.ends()[i]);
@@ -834,7 +838,7 @@ struct StreamEntry {
     }
 };
 
-/// An iterator over the pairs of a trie, in the order of its bytes. It lists a part of them at a
+/// An iterator over the pairs of a trie, or over what a search finds. It lists a part of them at a
 /// time, so the first few cost little. Copies share their place. A key is a view that is valid
 /// until the iterator is moved on.
 class StreamIterator {
@@ -849,14 +853,14 @@ public:
     /// @endcond
     /// After the last pair.
     StreamIterator() noexcept = default;
-    /// At the first pair whose key a search finds.
+    /// At the first pair whose key a search finds, in the order of bytes.
     StreamIterator(Kind kind, Bytes bytes, Search what)
         : parts_(std::make_shared<detail::Parts>(kind, bytes, std::move(what), 256)) {
         next_part();
     }
-    /// At the first pair whose key begins with a prefix.
+    /// At the first pair whose key begins with a prefix, in the order of the trie's bytes.
     StreamIterator(Kind kind, Bytes bytes, std::string_view prefix)
-        : StreamIterator(kind, bytes, Search().within(prefix)) {}
+        : StreamIterator(kind, bytes, Search::stored_within(prefix)) {}
     /// The pair.
     StreamEntry operator*() const noexcept {
         const auto [key, value] = (*parts_)[at_];
@@ -896,12 +900,12 @@ private:
 /// The trie's bytes have to outlive it.
 class ZEROTRIE_VIEW Stream {
 public:
-    /// The pairs of a trie whose keys a search finds.
+    /// The pairs of a trie whose keys a search finds, in the order of bytes.
     Stream(Kind kind, Bytes bytes ZEROTRIE_LIFETIMEBOUND, Search what)
         : kind_(kind), bytes_(bytes), what_(std::move(what)) {}
-    /// The pairs of a trie whose keys begin with a prefix.
+    /// The pairs of a trie whose keys begin with a prefix, in the order of its bytes.
     Stream(Kind kind, Bytes bytes ZEROTRIE_LIFETIMEBOUND, std::string_view prefix)
-        : Stream(kind, bytes, Search().within(prefix)) {}
+        : Stream(kind, bytes, Search::stored_within(prefix)) {}
     /// The first pair.
     [[nodiscard]] StreamIterator begin() const { return StreamIterator(kind_, bytes_, what_); }
     /// After the last.
@@ -1136,7 +1140,8 @@ public:
     }
     /// After the last pair.
     [[nodiscard]] StreamIterator end() const noexcept { return {}; }
-    /// The pairs whose keys begin with a prefix, as a range that lists a part of them at a time.
+    /// The pairs whose keys begin with a prefix, in the order of the trie's bytes, as a range that lists
+    /// a part of them at a time.
     [[nodiscard]] Stream stream(std::string_view prefix = {}) const {
         return Stream(kind_, bytes_, prefix);
     }
@@ -1146,13 +1151,14 @@ public:
     [[nodiscard]] Values values(std::string_view prefix = {}) const {
         return Values(stream(prefix));
     }
-    /// The pairs whose keys a search finds, as a range that lists a part of them at a time.
+    /// The pairs whose keys a search finds, in the order of bytes in every kind, as a range that lists a
+    /// part of them at a time.
     [[nodiscard]] Stream search(Search what) const {
         return Stream(kind_, bytes_, std::move(what));
     }
     /// The pairs whose keys are from one on and below another one, in the order of bytes in every
-    /// kind, a part at a time. nullopt: there is no bound on this side. search() of a
-    /// Search::range() lists them in the order of the trie's bytes.
+    /// kind, a part at a time. nullopt: there is no bound on this side. In Kind::IgnoreCase bytes are
+    /// compared as they are stored, and search() of a Search::range() ignores case.
     [[nodiscard]] Range range(std::optional<std::string_view> from,
                               std::optional<std::string_view> below = std::nullopt) const {
         return Range(kind_, bytes_, Search::range(from, below).sorted());
@@ -1242,7 +1248,8 @@ public:
     /// The number of pairs. It lists them.
     [[nodiscard]] size_t size() const {
         size_t count = 0;
-        for (detail::Parts parts(kind_, bytes_, {}); parts.next();) count += parts.size();
+        for (detail::Parts parts(kind_, bytes_, Search::stored_within({})); parts.next();)
+            count += parts.size();
         return count;
     }
     /// Whether there is no pair.
@@ -1251,7 +1258,8 @@ public:
     /// a bool. They are listed a part at a time; a key is a view for the call alone. Returns
     /// whether no call returned false.
     template <class Each> bool for_each(Each &&each, std::string_view prefix = {}) const {
-        for (detail::Parts parts(kind_, bytes_, Search().within(prefix), 256); parts.next();) {
+        for (detail::Parts parts(kind_, bytes_, Search::stored_within(prefix), 256);
+             parts.next();) {
             for (size_t i = 0; i < parts.size(); i++) {
                 const auto [key, value] = parts[i];
                 if constexpr (std::is_same_v<decltype(each(key, value)), bool>) {

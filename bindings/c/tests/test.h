@@ -13,7 +13,7 @@
 /* Each test, in its order: test_NAME of a file test_*.c */
 #define TESTS(X) \
     X(builds) X(refusals) X(spans) X(readers) X(listings) X(causes) X(prefixes) X(flat_builds) X(nulls) \
-    X(one_value) X(files) X(searches) X(refused_searches) X(combinations) X(sorted_listings) X(single_keys) \
+    X(one_value) X(files) X(searches) X(refused_searches) X(searches_in_order) X(combinations) X(sorted_listings) X(single_keys) \
     X(diffs) X(nearest) X(any_case_searches) X(reversed_listings) X(reverse) X(indexes) X(files_of_indexes) \
     X(dense) X(any_bytes) X(forged_cursors) X(whatever_was_there) X(memory_comes_back)
 #define DECLARED(name) void test_##name(void);

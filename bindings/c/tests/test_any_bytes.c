@@ -51,6 +51,12 @@ void test_any_bytes(void) {
         CHECK(count <= ends_len && count <= values_len && ascend(ends, count, keys_len));
         CHECK(is_left(keys, count ? ends[count - 1] : 0, sizeof keys));
         CHECK(is_left(ends, sizeof *ends * count, sizeof ends) && is_left(values, sizeof *values * count, sizeof values));
+        /* each begins with the prefix and is found, whatever the bytes are */
+        for (size_t i = 0; i < count && kind != ZEROTRIE_IGNORE_CASE; i++) {
+            const size_t from = i ? ends[i - 1] : 0;
+            CHECK(prefix_len == 0 || (ends[i] > from && keys[from] == prefix[0]));
+            CHECK(search.by != ZEROTRIE_BY_SUBSEQUENCE || is_sought(&search, keys + from, ends[i] - from));
+        }
         searched += count;
 
         size_t far[8];

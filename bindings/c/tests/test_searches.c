@@ -1,4 +1,4 @@
-/* Searches beside all keys, one by one; the nearest keys; and searches that are none. */
+/* Searches beside all keys, one by one; their order; the nearest keys; and searches that are none. */
 #include "test.h"
 
 /* Searches of keys of three letters, against all keys one by one: whole, in parts, within a prefix, and by beginnings. */
@@ -154,6 +154,48 @@ void test_refused_searches(void) {
                                        &count, &next_len) == ZEROTRIE_DONE);
             CHECK(count == (!chars && n != 3));
         }
+}
+
+/* In every kind the order of bytes, also in small parts: where large tables are hashed, and where capitals are among small letters. */
+void test_searches_in_order(void) {
+    static const uint32_t kinds[4] = { ZEROTRIE_SIMPLE_ASCII, ZEROTRIE_PERFECT_HASH, ZEROTRIE_EXTENDED_CAPACITY, ZEROTRIE_IGNORE_CASE };
+    const zerotrie_search all = zerotrie_range(ZEROTRIE_UNBOUNDED, NULL, 0, ZEROTRIE_UNBOUNDED, NULL, 0);
+    const zerotrie_search searches[] = { all, zerotrie_glob("*n", 2), zerotrie_glob_chars("?[m-o]", 6), zerotrie_subsequence("n", 1),
+                                         zerotrie_fuzzy("nn", 2, 1), zerotrie_fuzzy_chars("n", 1, 1), zerotrie_swaps("n", 1, 1) };
+    static const size_t many_places[] = { 1, 3, 26 };
+    for (size_t k = 0; k < 4; k++) {
+        uint8_t trie[512], keys[52], room[104], texts[26][2];
+        size_t len, ends[26], values[26], key_bytes, count, next_len, fallen = 0;
+        zerotrie_pair pairs[26];
+        for (size_t i = 0; i < 26; i++) {
+            texts[i][0] = (uint8_t)((kinds[k] == ZEROTRIE_IGNORE_CASE && i % 3 == 0 ? 'A' : 'a') + i), texts[i][1] = 'n';
+            pairs[i].key = zerotrie_bytes_of(texts[i], 2), pairs[i].value = i;
+        }
+        CHECK(zerotrie_build(kinds[k], pairs, 26, trie, sizeof trie, &len) == ZEROTRIE_DONE);
+        CHECK(zerotrie_list(kinds[k], trie, len, NULL, 0, keys, sizeof keys, ends, 26, values, 26, &key_bytes, &count) == ZEROTRIE_DONE);
+        for (size_t i = 1; i < count; i++)
+            fallen += keys[2 * i] < keys[2 * i - 2];
+        CHECK(count == 26 && (fallen > 0) == (kinds[k] != ZEROTRIE_SIMPLE_ASCII));
+        for (size_t n = 0; n < 3 * sizeof searches / sizeof *searches; n++) {
+            const size_t places = many_places[n % 3];
+            zerotrie_listing part = zerotrie_listing_by(zerotrie_trie_of((zerotrie_kind)kinds[k], trie, len), searches[n / 3], room, 4 * places,
+                                                        ends, values, places);
+            uint8_t before = 0;
+            size_t found = 0;
+            while (zerotrie_listing_next(&part) == ZEROTRIE_PART)
+                for (size_t i = 0; i < part.count; i++, found++) {
+                    const zerotrie_bytes key = zerotrie_listing_key(&part, i);
+                    CHECK(key.len == 2 && key.ptr[0] > before && (key.ptr[0] | 32) == 'a' + (int)part.values[i]);
+                    before = key.ptr[0];
+                }
+            CHECK(part.status == ZEROTRIE_DONE && found == 26);
+        }
+        /* from what is no key on, and below a prefix in another case */
+        CHECK(zerotrie_search_some(kinds[k], trie, len, NULL, 0, &searches[1], true, TEXT("xo"), keys, 4, ends, 2, values, 2, &count, &next_len)
+              == ZEROTRIE_DONE && count == (kinds[k] == ZEROTRIE_IGNORE_CASE ? 1 : 2) && keys[2 * count - 2] == 'z');
+        CHECK(zerotrie_search_some(kinds[k], trie, len, TEXT("Z"), &searches[1], false, NULL, 0, keys, 4, ends, 2, values, 2, &count, &next_len)
+              == ZEROTRIE_DONE && count == (kinds[k] == ZEROTRIE_IGNORE_CASE));
+    }
 }
 
 /* The nearest first. */

@@ -412,14 +412,14 @@ class _Trie(Reader[Word], _InBytes, Mapping[Word, int]):
         """Parts of the listing of a prefix, or of what a search finds, small ones first."""
         # the search is in use until the last part
         address = 0 if search is None else search.address()
-        # what is in order has no prefix
-        in_order = search is not None and search.in_order and not front
+        # a range of keys as they are stored has no prefix
+        is_range = search is not None and search.is_range and not front
         last, status, room, places = None, TOO_SMALL, 1 << 9, 1 << 5
         # a trie has no more pairs than bytes; if they are malformed, the parts may come round
         left = self._lent()[3] + 1
         while status == TOO_SMALL and left > 0:
             part, last, status, next_len = self._part(
-                what, front, last, room, places, address, in_order)
+                what, front, last, room, places, address, is_range)
             if status != TOO_SMALL:
                 check_status(status)
             yield part[:left] if len(part) > left else part
@@ -510,8 +510,8 @@ class _Trie(Reader[Word], _InBytes, Mapping[Word, int]):
         characters, `?` one of them, `[a-z]` or `[!a-z]` one that is of a class or is not, and
         `{a,bc}` what one of the patterns in it, which have no braces, matches. A backslash takes
         the meaning of the character after it. If the pattern is bytes, all of this is by bytes; a
-        pattern that is text finds only keys that are UTF-8. In IGNORE_CASE this and the three below
-        ignore case.
+        pattern that is text finds only keys that are UTF-8. This and the two below list in the order
+        of bytes in every kind. In IGNORE_CASE these and nearest() ignore case.
 
         >>> words = StrTrie.build({"cafe": 1, "café": 2, "cafés": 3})
         >>> list(words.glob("caf?")), list(words.glob(b"caf?"))

@@ -496,9 +496,9 @@ static uint32_t sorted_part(uint32_t kind, const uint8_t *bytes, size_t len,
 }
 
 /* Lists a part behind the key `last`, or from the front if it is null; of what a search finds if
- * that is not null, in the order of bytes or in that of the trie. It releases the lock. */
+ * that is not null, or of its range of keys as they are stored. It releases the lock. */
 static void list_part(Held *held, zerotrie_bytes front, const zerotrie_search *search,
-                      bool in_order, const zerotrie_bytes *last, Part *part) {
+                      bool is_range, const zerotrie_bytes *last, Part *part) {
     const zerotrie_bytes after = last ? *last : zerotrie_bytes_of(NULL, 0);
     PyObject *view = held->view;
     const uint8_t *bytes = held->bytes;
@@ -507,7 +507,7 @@ static void list_part(Held *held, zerotrie_bytes front, const zerotrie_search *s
     PyThreadState *state;
     Py_INCREF(view);
     state = PyEval_SaveThread();
-    if (search && in_order)
+    if (search && is_range)
         part->status = sorted_part(kind, bytes, len, search, last, part);
     else if (search)
         part->status = library.search_some(kind, bytes, len, front.ptr, front.len, search,
@@ -536,21 +536,21 @@ static PyObject *told_of(const Part *part, long what, bool text, PyObject *last)
                          (Py_ssize_t)part->next_len);
 }
 
-/* _part(what, front, last, room, places, search, in_order): the pairs of a listing behind the key
+/* _part(what, front, last, room, places, search, is_range): the pairs of a listing behind the key
  * `last`, or the first ones if it is None, as many as there is room for; those that are found by the
- * search at this address, if it is not 0; or, in the order of bytes, those between its bounds. */
+ * search at this address, if it is not 0; or those of its range, as they are stored. */
 static PyObject *reader_part(PyObject *object, PyObject *args) {
     PyObject *front, *last, *result = NULL;
     zerotrie_bytes begins, after;
     Py_ssize_t room, places;
     unsigned long long search = 0;
-    int in_order = 0;
+    int is_range = 0;
     long what;
     Part part = { 0 };
     Held *held = held_by(object);
     if (!held
         || !PyArg_ParseTuple(args, "lSOnn|Kp:_part", &what, &front, &last, &room, &places, &search,
-                             &in_order))
+                             &is_range))
         return NULL;
     begins = zerotrie_bytes_of(PyBytes_AsString(front), (size_t)PyBytes_Size(front));
     if (last != Py_None) {
@@ -566,7 +566,7 @@ static PyObject *reader_part(PyObject *object, PyObject *args) {
     part.ends = malloc(2 * sizeof *part.ends * part.places + 1);
     part.values = part.ends + part.places;
     if (part.keys && part.ends) {
-        list_part(held, begins, (const zerotrie_search *)(uintptr_t)search, in_order != 0,
+        list_part(held, begins, (const zerotrie_search *)(uintptr_t)search, is_range != 0,
                   last == Py_None ? NULL : &after, &part);
         result = told_of(&part, what, held->text, last);
     } else {

@@ -146,11 +146,11 @@ class Reader(Generic[Word]):
 
     def _part(
         self, what: int, front: bytes, last: Optional[bytes], room: int, places: int,
-        search: int = 0, in_order: bool = False, /,
+        search: int = 0, is_range: bool = False, /,
     ) -> tuple[Sequence[Any], Optional[bytes], int, int]:
         """The pairs of a listing behind the key `last`, or the first ones if it is None; those that
-        are found by the search at an address, if one is given; or, in the order of bytes, those
-        between its bounds.
+        are found by the search at an address, if one is given; or those of its range, as they are
+        stored.
 
         Returns what is asked for of as many as there is room for, the last key, the status, and how
         long the next key is.
@@ -163,7 +163,7 @@ class Reader(Generic[Word]):
         goes_on = last is not None, after, len(after)
         if search:
             found_by = RawSearch.from_address(search)
-            if in_order:
+            if is_range:
                 to = found_by.to_bound, *text_at(found_by.to)
                 low = (found_by.from_bound, *text_at(found_by.text)) if last is None else (
                     EXCLUDED, *goes_on[1:])

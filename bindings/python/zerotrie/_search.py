@@ -14,11 +14,11 @@ BY_SWAPS, BY_CHAR_SWAPS, BY_CHAR_GLOB = range(5, 8)
 
 
 class Search:
-    """Which keys a search finds, and whether they are listed in the order of bytes. It keeps the
+    """Which keys a search finds, and whether it is a range of keys as they are stored. It keeps the
     texts that its structure points to.
     """
 
-    __slots__ = ("_raw", "_texts", "in_order", "start", "stop")
+    __slots__ = ("_raw", "_texts", "is_range", "start", "stop")
     #: The bounds of a range.
     start: bytes
     stop: Optional[bytes]
@@ -28,7 +28,7 @@ class Search:
         self._texts: list[Any] = []
         self._raw.text = self._kept(text)
         self._raw.to = self._kept(b"")
-        self.in_order = False
+        self.is_range = False
 
     def _kept(self, text: bytes) -> Bytes:
         """Where a copy of the text is, which nobody moves."""
@@ -47,7 +47,7 @@ class Search:
 
     @classmethod
     def range(cls, start: Optional[Key], stop: Optional[Key]) -> Search:
-        """The keys from one on and below another one, which are listed in the order of bytes."""
+        """The keys from one on and below another one."""
         first = b"" if start is None else key_bytes(start)
         made = cls(
             BY_RANGE, first,
@@ -56,7 +56,7 @@ class Search:
         made.start, made.stop = first, None if stop is None else key_bytes(stop)
         if made.stop is not None:
             made._raw.to = made._kept(made.stop)
-        made.in_order = True
+        made.is_range = True
         return made
 
     @classmethod

@@ -85,8 +85,8 @@ class Items(Listed, ItemsView[Word, int]):
 
 
 class Found(Items[Word]):
-    """The pairs whose keys a search finds, in the order of the trie's bytes, but those of a range in
-    the order of their keys. `in` finds what the trie finds, if the search does."""
+    """The pairs whose keys a search finds, in the order of their bytes. `in` finds what the trie
+    finds, if the search does."""
 
     __slots__ = ()
 
@@ -100,7 +100,7 @@ class Found(Items[Word]):
 
 
 class Range(Found[Word]):
-    """The pairs between two bounds, in the order of their keys."""
+    """The pairs between two bounds."""
 
     __slots__ = ()
 
