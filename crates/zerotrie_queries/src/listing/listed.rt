@@ -289,11 +289,7 @@ fn condition_of<'q>(kind: TrieKind, choice: Choice<'q>) -> Option<Conditions<'q>
 /// Returns two bounds between which all keys are that are chosen. `above` is above all keys that begin
 /// with the prefix.
 #[tactic(auto, using(crate::proofs::SortedLemmas::range_within, crate::proofs::SortedLemmas::all_within, crate::proofs::SortedLemmas::prefix_within))]
-fn bounds<'q>(
-    kind: TrieKind,
-    choice: Choice<'q>,
-    above: Bound<&'q [u8]>,
-) -> KeyRange<'q>
+fn bounds<'q>(kind: TrieKind, choice: Choice<'q>, above: Bound<&'q [u8]>) -> KeyRange<'q>
     requires folded { IsFolded kind choice }
     requires above { AreBelow choice.prefix.now (bound_map (λ b. b.now) above) }
     ensures { AreWithin kind choice.entry (bound_map (λ b. b.now) result.from)
@@ -442,11 +438,7 @@ fn closest<'t, 'q>(
 }
 
 /// Lists the pairs that edits of a word find, the nearest first.
-fn near<'t, W: Fuzzy>(
-    alloc: Global,
-    trie: &'t TrieRef<'_>,
-    word: W,
-) -> NearPairs<'t, W>
+fn near<'t, W: Fuzzy>(alloc: Global, trie: &'t TrieRef<'_>, word: W) -> NearPairs<'t, W>
     ensures { Gives ⟦<NearPairs<'t, W> as TrieListing>⟧.IsValid
         ⟦<NearPairs<'t, W> as TrieListing>⟧.left
         (λ pairs. nearest (λ key. W.measure word (folded_key (kind_of trie.now.kind) key))

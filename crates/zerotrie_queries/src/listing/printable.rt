@@ -44,9 +44,7 @@ fn can_print(form: Form, key: &[u8]) -> bool
 {
     match form {
         Form::Lines(Style::TsvRaw) => are_raw(key),
-        Form::Lines(
-            Style::Tsv | Style::Csv | Style::JsonLines | Style::Keys | Style::Values,
-        )
+        Form::Lines(Style::Tsv | Style::Csv | Style::JsonLines | Style::Keys | Style::Values)
         | Form::Distances
         | Form::Count => true,
         Form::Json => is_text(key),

@@ -56,7 +56,7 @@ loop-pairs-preserved g c =
           (c.in-Ok-true.ensures.valid here.0, here.1 ∙ ap (λ ps. i.found ++ ps) is ∙ sym (append_assoc i.found (e ∷ []) after));
       takes = c.in-Ok-true.ensures.same ∙ i.takes;
       taken = taken_more (g.L.TrieListing.takes c.in-Ok.pairs) i.found key v i.taken
-      (ap (g.L.TrieListing.takes c.in-Ok.pairs) c.key-key.ensures ∙ ap (λ f. f (g.L.TrieListing.current now).0) (sym i.takes) ∙ c.in-Ok-true.ensures.takes c.in-Ok-true.field-0-test);
+          (ap (g.L.TrieListing.takes c.in-Ok.pairs) c.key-key.ensures ∙ ap (λ f. f (g.L.TrieListing.current now).0) (sym i.takes) ∙ c.in-Ok-true.ensures.takes c.in-Ok-true.field-0-test);
       most = omega (arith, length-append i.found (e ∷ []), fewer, i.most);
       going = going_more i.going key v fits ends values;
     })
