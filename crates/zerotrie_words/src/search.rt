@@ -179,9 +179,8 @@ impl<'a> SearchOptions<'a> {
         if self.fuzzy.is_none() || self.beginnings {
             return Some(Misuse::IdleDistance);
         }
-        (self.list.format.is_some() || self.list.raw || self.list.count).then_some(
-            Misuse::DistanceForm,
-        )
+        let other = self.list.format.is_some() || self.list.raw || self.list.count;
+        other.then_some(Misuse::DistanceForm)
     }
 
     /// Returns how pairs are to be printed.
