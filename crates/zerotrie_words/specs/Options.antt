@@ -27,6 +27,7 @@ pub record AreListOptions (matches : ArgMatches) (o : ListOptions) : Type 0 wher
   pub prefix : IsWord matches (codes "prefix") o.prefix
   pub from : IsWord matches (codes "from") o.from
   pub below : IsWord matches (codes "below") o.below
+  pub to : IsWord matches (codes "to") o.to
   pub format : IsWord matches (codes "format") o.format
   pub raw : IsGiven matches (codes "raw") o.raw
   pub limit : IsWord matches (codes "limit") o.limit

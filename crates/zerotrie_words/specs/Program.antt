@@ -63,6 +63,7 @@ abbrev pub listing : (more : List Rule) → List Rule
 listing more = option (codes "prefix") (letter (codes "p"))
     ∷ option (codes "from") None
     ∷ option (codes "below") None
+    ∷ option (codes "to") None
     ∷ one_of outputs (option (codes "format") (letter (codes "f")))
     ∷ flag (codes "raw") (letter (codes "r"))
     ∷ limit

@@ -18,7 +18,7 @@ use Rattle.zerotrie_search.specs.declared.any.WordError.{WordError}
 use Rattle.zerotrie_search.specs.declared.range.KeyRange.{KeyRange}
 use Rattle.zerotrie_words.specs.Options.{text_of}
 use Rattle.zerotrie_words.specs.Refusals.{HasNoNumber, IsUnknown}
-use Rattle.zerotrie_words.specs.Words.{IsBelow, IsEdits, IsFormOf, IsFrom, IsLimit, IsTsv, form_word, fuzzy_by, glob_by, most_of, order_by, search_order}
+use Rattle.zerotrie_words.specs.Words.{IsEdits, IsEnd, IsFormOf, IsFrom, IsLimit, IsTsv, form_word, fuzzy_by, glob_by, most_of, order_by, search_order}
 use Rattle.zerotrie_words.specs.declared.misuse.Misuse.{Misuse}
 use Rattle.zerotrie_words.specs.declared.misuse.Misuse.TheVariants as misuse
 use Rattle.zerotrie_words.specs.declared.options.ListOptions.{ListOptions}
@@ -47,11 +47,15 @@ abbrev pub IsFront : ListOptions → List ℕ → Type 0
 IsFront o prefix = prefix ≡ unwrap_or (text_of o.prefix) []
 
 abbrev pub IsRange : ListOptions → KeyRange → Type 0
-IsRange o r = IsFrom (text_of o.from) r.from × IsBelow (text_of o.below) r.to
+IsRange o r = IsFrom (text_of o.from) r.from × IsEnd (text_of o.below) (text_of o.to) r.to
+
+-- a range ends twice
+abbrev pub IsRangeMisuse : ListOptions → Misuse → Type 0
+IsRangeMisuse o why = (o.below ≢ None) × (o.to ≢ None) × (why ≡ misuse.TwoEnds)
 
 -- neither a prefix nor a range is there
 abbrev pub HasNoPart : ListOptions → Type 0
-HasNoPart o = (o.prefix ≡ None) × (o.from ≡ None) × (o.below ≡ None)
+HasNoPart o = (o.prefix ≡ None) × (o.from ≡ None) × (o.below ≡ None) × (o.to ≡ None)
 
 -- The keys that are listed.
 pub record IsListed (o : ListOptions) (c : Choice) : Type 0 where
@@ -72,7 +76,7 @@ abbrev pub IsList : (sorted : Bool) → ListOptions → Question → Type 0
 IsList sorted o q = (form : Form) × (s : ListQuery) × IsListing o (IsListForm o) (IsListed o) (order_by o.count sorted) form s × (q ≡ question.List form s)
 
 abbrev pub IsListMisuse : ListOptions → Misuse → Type 0
-IsListMisuse o why = IsFormMisuse o why ⊎ IsLimitMisuse o.limit why
+IsListMisuse o why = IsFormMisuse o why ⊎ (IsRangeMisuse o why ⊎ IsLimitMisuse o.limit why)
 
 -- ---- the word of a search
 
@@ -144,7 +148,7 @@ pub record IsSought (o : SearchOptions) (c : Choice) : Type 0 where
   pub some : SeeksNothing o → ⊥
 
 abbrev pub IsChoiceMisuse : SearchOptions → Misuse → Type 0
-IsChoiceMisuse o why = (SeeksNothing o × (why ≡ misuse.NothingSought)) ⊎ (IsSoughtMisuse o why ⊎ IsWithoutMisuse o why)
+IsChoiceMisuse o why = (SeeksNothing o × (why ≡ misuse.NothingSought)) ⊎ (IsSoughtMisuse o why ⊎ (IsWithoutMisuse o why ⊎ IsRangeMisuse o.list why))
 
 -- Keys are near a word, and nothing says otherwise how they are listed than with how many edits make each.
 pub record AreMeasured (o : SearchOptions) : Type 0 where

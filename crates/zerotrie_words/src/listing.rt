@@ -3,7 +3,7 @@
 ghost use Rattle.std.specs.Prelude.{◌≡◌, Some, IfErr, IfNone, IfOk, IfSome};
 ghost use Rattle.zerotrie_queries.specs.declared.print.Form.{Form};
 ghost use Rattle.zerotrie_words.specs.Options.{text_of};
-ghost use Rattle.zerotrie_words.specs.Searches.{IsFormMisuse, IsFront, IsLimitMisuse, IsList, IsListForm, IsListMisuse, IsListed, IsMost, IsRange};
+ghost use Rattle.zerotrie_words.specs.Searches.{IsFormMisuse, IsFront, IsLimitMisuse, IsList, IsListForm, IsListMisuse, IsListed, IsMost, IsRange, IsRangeMisuse};
 ghost use Rattle.zerotrie_words.specs.Words.{IsLimit, form_word, most_of, order_by};
 
 use crate::misuse::Misuse;
@@ -97,32 +97,35 @@ impl<'a> ListOptions<'a> {
         self.prefix.unwrap_or("").as_bytes()
     }
 
-    /// Returns the range that keys have to be in.
-    pub fn range(&self) -> KeyRange<'a>
-        ensures { IsRange self.now result }
+    /// Returns the range that keys have to be in. It is an error if it ends twice.
+    pub fn range(&self) -> Result<KeyRange<'a>, Misuse>
+        ensures range { IfOk result (IsRange self.now) }
+        ensures refused { IfErr result (IsRangeMisuse self.now) }
     {
-        KeyRange {
-            from: match self.from {
-                Some(word) => Bound::Included(word.as_bytes()),
-                None => Bound::Unbounded,
-            },
-            to: match self.below {
-                Some(word) => Bound::Excluded(word.as_bytes()),
-                None => Bound::Unbounded,
-            },
-        }
+        let from = match self.from {
+            Some(word) => Bound::Included(word.as_bytes()),
+            None => Bound::Unbounded,
+        };
+        let to = match (self.below, self.to) {
+            (None, None) => Bound::Unbounded,
+            (Some(word), None) => Bound::Excluded(word.as_bytes()),
+            (None, Some(word)) => Bound::Included(word.as_bytes()),
+            (Some(_), Some(_)) => return Err(Misuse::TwoEnds),
+        };
+        Ok(KeyRange { from, to })
     }
 
     /// Returns which keys are listed: those with a prefix, in a range.
-    fn choice(&self) -> Choice<'a>
-        ensures { IsListed self.now result }
+    fn choice(&self) -> Result<Choice<'a>, Misuse>
+        ensures choice { IfOk result (IsListed self.now) }
+        ensures refused { IfErr result (IsRangeMisuse self.now) }
     {
-        Choice {
+        Ok(Choice {
             prefix: self.front(),
-            range: self.range(),
+            range: self.range()?,
             without: None,
             sought: None,
-        }
+        })
     }
 
     /// Returns what `list` asks for, by whether it is to be in the order of bytes.
@@ -132,7 +135,7 @@ impl<'a> ListOptions<'a> {
     {
         let form = self.form()?;
         let query = ListQuery {
-            choice: self.choice(),
+            choice: self.choice()?,
             order: order_by(self.count, sorted),
             limit: self.most()?,
         };

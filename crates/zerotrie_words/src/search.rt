@@ -33,7 +33,7 @@ fn has_part(list: &ListOptions<'_>) -> bool
     ensures yes { result ≡ true → HasNoPart list.now → ⊥ }
     ensures no { result ≡ false → HasNoPart list.now }
 {
-    list.prefix.is_some() || list.from.is_some() || list.below.is_some()
+    list.prefix.is_some() || list.from.is_some() || list.below.is_some() || list.to.is_some()
 }
 
 impl<'a> SearchOptions<'a> {
@@ -165,7 +165,7 @@ impl<'a> SearchOptions<'a> {
         }
         Ok(Choice {
             prefix: self.list.front(),
-            range: self.list.range(),
+            range: self.list.range()?,
             without,
             sought,
         })
