@@ -22,6 +22,7 @@ PAGES = [ROOT / "README.md", ROOT / "docs" / "CALLING.md", *(ROOT / "crates" / i
 CRATES = (ROOT / "crates.txt").read_text()
 BELOW = dict(re.findall(r"^(\w+):(.*)", CRATES, re.M))  # what each crate stands on, static libraries aside
 OTHERS = "use serde_json::Value; use std::borrow::CowSlice; use std::collections::{BTreeMap, VecDeque}; use std::ops::Bound; use std::test::Fail; "
+OTHERS += "use zerotrie::{ZeroTriePerfectHash, ZeroTrieSimpleAscii}; "
 PRINTS = re.compile(r"(println!\(rt; (.*)\)\?;) +// (.*)")
 BYTES = re.compile(r'^(\s*assert_eq!\(rt; .*, b"(?:[^"\\]|\\.)*")\);$', re.M)
 

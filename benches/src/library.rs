@@ -198,7 +198,7 @@ impl Rooms {
         })
     }
 
-    /// The pairs that a search finds, in the order of the trie.
+    /// The pairs that a search finds, in the order of bytes. Those of a prefix a listing has, in the order of the trie.
     pub fn searched(&mut self, kind: Kind, bytes: &[u8], question: Question) -> Found {
         let (by, edits, text, to) = match question {
             Question::Prefix(prefix) => return self.listed(kind, bytes, prefix.as_bytes()),

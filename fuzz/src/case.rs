@@ -64,11 +64,19 @@ impl Case {
         Some(case)
     }
 
-    /// Returns what a listing has, of which each byte may give this many pairs.
-    pub fn listed<T>(&self, what: &str, most: usize, listing: impl Iterator<Item = T>) -> Vec<T> {
+    /// Builds the tries of the same pairs in the other kinds that take them.
+    pub fn twins(&self) -> Vec<Case> {
+        let others = KINDS.into_iter().filter(|kind| self.is_trie && *kind != self.kind);
+        let name = format!("{}, of {:?}", self.name, self.kind);
+        others.filter_map(|kind| Case::built(name.clone(), kind, &self.sorted)).collect()
+    }
+
+    /// Returns what a listing has, of which each byte may give this many pairs. Once it ended, it has none.
+    pub fn listed<T>(&self, what: &str, most: usize, mut listing: impl Iterator<Item = T>) -> Vec<T> {
         let most = most * self.bytes.len();
-        let found: Vec<T> = listing.take(most + 1).collect();
+        let found: Vec<T> = listing.by_ref().take(most + 1).collect();
         assert!(found.len() <= most, "{}, {:?}: {what} has more than {most} pairs on {:02x?}", self.name, self.kind, self.bytes);
+        assert!(listing.next().is_none(), "{}, {:?}: {what} goes on after its end on {:02x?}", self.name, self.kind, self.bytes);
         found
     }
 

@@ -1,5 +1,5 @@
-//! Holds what the library finds against brute force. Of bytes that are no trie, calls have to return, and what follows the trie's own
-//! order has to fit its listing.
+//! Holds what the library finds against brute force. Of bytes that are no trie, calls have to return, what follows the trie's own order has
+//! to fit its listing, and searches may list accepted keys alone.
 
 use crate::ask;
 use crate::brute::{self, Asked, Bounds, Pair, Question, Row};
@@ -8,7 +8,7 @@ use std::collections::HashMap;
 use std::iter::from_fn;
 use std::ops::Bound;
 use zerotrie::rstd::alloc::Global;
-use zerotrie::search::{AnyAutomaton, Automaton, BeginsWith, Both, ByKind, Either, Fuzzy, KeysOf, Not};
+use zerotrie::search::{AnyAutomaton, Automaton, BeginsWith, Both, ByKind, Either, Fuzzy, KeyRange, KeysOf, Not};
 use zerotrie::sets::{Keep, MergeAll, Operation, PairStream, Rule, Selection};
 use zerotrie::zerotrie_core::{TrieRef, ZeroTrieWithOptions};
 use zerotrie::zerotrie_sets::SortedTrie;
@@ -77,14 +77,14 @@ fn keys_of<K: ZeroTrieWithOptions>(bytes: &[u8]) -> bool {
 
 /// Listings and neighbours in the order of bytes.
 pub fn order(case: &Case, texts: &[Vec<u8>], bounds: Bounds) {
-    let found = case.listed("a range", 1, ask!(case, trie => trie.search_range(bounds)));
-    case.same(format_args!("a range within {bounds:?}"), &found, &brute::within(&case.pairs, bounds));
     let (wanted, most) = (brute::within(&case.sorted, bounds), case.bytes.len() + 1);
+    let range = case.listed("a range", 1, ask!(case, trie => trie.search(KeyRange::from(bounds))));
     let found = case.listed("a sorted listing", 1, ask!(case, trie => trie.stream_sorted(bounds)));
     let reversed: Vec<Pair> = ask!(case, trie => trie.reversed(bounds)).take(most).collect();
     let ends = from_both_ends(ask!(case, trie => trie.range(bounds)), most);
     let last = ask!(case, trie => trie.last_within(bounds));
     if case.is_trie {
+        case.same(format_args!("a range within {bounds:?}"), &range, &wanted);
         case.same(format_args!("a sorted listing within {bounds:?}"), &found, &wanted);
         case.same(format_args!("a reversed listing within {bounds:?}"), &reversed, &wanted.iter().rev().cloned().collect());
         case.same(format_args!("the last pair within {bounds:?}"), &last.as_ref(), &wanted.last());
@@ -128,6 +128,8 @@ fn from_both_ends(mut pairs: impl DoubleEndedIterator<Item = Pair>, most: usize)
 /// What is searched for in a trie, and where.
 struct Search<'a> {
     case: &'a Case,
+    /// The tries of the same pairs in other kinds.
+    twins: &'a [Case],
     asked: &'a Asked,
     accepts: Option<brute::Accepts<'a>>,
     bounds: Bounds<'a>,
@@ -135,10 +137,10 @@ struct Search<'a> {
 }
 
 /// A search by each call for it. The other trie has the keys that the search is told of.
-pub fn search(case: &Case, other: &Case, asked: &Asked, bounds: Bounds, prefix: &[u8]) {
+pub fn search(case: &Case, twins: &[Case], other: &Case, asked: &Asked, bounds: Bounds, prefix: &[u8]) {
     let has = |key: &[u8]| other.value(key).is_some();
     let keys = || ask!(other, trie => KeysOf::new(trie));
-    let search = Search { case, asked, accepts: asked.accepting(&has), bounds, prefix };
+    let search = Search { case, twins, asked, accepts: asked.accepting(&has), bounds, prefix };
     match asked {
         Asked::One(one) => {
             let word = one.folded();
@@ -174,7 +176,7 @@ pub fn search(case: &Case, other: &Case, asked: &Asked, bounds: Bounds, prefix: 
 
 impl Search<'_> {
     fn check<T: Automaton>(&self, automaton: impl Fn() -> Option<T>) {
-        let Search { case, bounds, prefix, .. } = *self;
+        let Search { case, twins, bounds, prefix, .. } = *self;
         case.same(
             format_args!("whether there is an automaton by {:?}", self.asked),
             &automaton().is_some(),
@@ -182,29 +184,33 @@ impl Search<'_> {
         );
         let (Some(_), Some(accepts)) = (automaton(), &self.accepts) else { return };
         let automaton = || automaton().expect("there was one");
-        let wanted: Vec<Pair> = case.pairs.iter().filter(|(key, _)| accepts(key)).cloned().collect();
+        let wanted: Vec<Pair> = case.sorted.iter().filter(|(key, _)| accepts(key)).cloned().collect();
         let found = case.listed("a search", 1, ask!(case, trie => trie.search(automaton())));
-        case.same(format_args!("a search by {:?}", self.asked), &found, &wanted);
-        for bounds in [(Bound::Unbounded, Bound::Unbounded), bounds] {
-            let found = case.listed("a sorted search", 1, ask!(case, trie => trie.search_sorted(bounds, automaton())));
-            if case.is_trie {
-                let mut in_order = brute::within(&wanted, bounds);
-                in_order.sort();
-                case.same(format_args!("a sorted search within {bounds:?} by {:?}", self.asked), &found, &in_order);
-            }
-        }
+        let within = case.listed("a search within bounds", 1, ask!(case, trie => trie.search_range(bounds, automaton())));
         let below = case.listed("a search below a prefix", 1, ask!(case, trie => trie.search_prefix(prefix, automaton())));
-        // the search in two parts
-        let (front, rest) = wanted.split_at(wanted.len().div_ceil(2));
-        let last = front.last().map_or(&b""[..], |(key, _)| key);
-        let found: Vec<Pair> = ask!(case, trie => trie.search(automaton())).take(front.len()).collect();
-        let after = case.listed("a search after a key", 1, ask!(case, trie => trie.search_after("", last, automaton())));
-        if case.is_trie {
-            case.same(format_args!("a search below {prefix:?} by {:?}", self.asked), &below, &case.below(&wanted, prefix));
-            case.same(format_args!("the first pairs of a search by {:?}", self.asked), &found[..], front);
-            if !front.is_empty() {
-                case.same(format_args!("a search after {last:?} by {:?}", self.asked), &after[..], rest);
-            }
+        for (key, _) in found.iter().chain(&within).chain(&below) {
+            assert!(accepts(key), "{}, {:?}: a search by {:?} lists {key:?}", case.name, case.kind, self.asked);
+        }
+        // behind a key that the search lists, behind one that the trie may not have, and below a prefix in upper case
+        let middle = wanted.get(wanted.len() / 2).map_or(&b""[..], |(key, _)| key);
+        let upper = prefix[..prefix.len().min(1)].to_ascii_uppercase();
+        let after = [(&b""[..], middle), (prefix, prefix), (&upper, b"")].map(|(prefix, key)| {
+            let found = ask!(case, trie => trie.search_after(prefix, key, automaton()));
+            (prefix, key, case.listed("a search after a key", 1, found))
+        });
+        if !case.is_trie {
+            return;
+        }
+        case.same(format_args!("a search by {:?}", self.asked), &found, &wanted);
+        case.same(format_args!("a search within {bounds:?} by {:?}", self.asked), &within, &brute::within(&wanted, bounds));
+        case.same(format_args!("a search below {prefix:?} by {:?}", self.asked), &below, &case.below(&wanted, prefix));
+        for (prefix, key, found) in after {
+            let left = brute::within(&case.below(&wanted, prefix), (Bound::Excluded(key), Bound::Unbounded));
+            case.same(format_args!("a search below {prefix:?} after {key:?} by {:?}", self.asked), &found, &left);
+        }
+        for twin in twins {
+            let found = twin.listed("a search", 1, ask!(twin, trie => trie.search(automaton())));
+            twin.same(format_args!("a search by {:?}", self.asked), &found, &wanted);
         }
     }
 

@@ -33,8 +33,9 @@ fn compare_chosen(name: &str, kind: TrieKind, keys: &[Vec<u8>], random: &mut Ran
     for bounds in seeds::bounds(&typed) {
         checks::order(&case, &texts, bounds);
     }
+    let twins = case.twins();
     for asked in seeds::asked(kind, &keys) {
-        checks::search(&case, &few, &asked, (Excluded(&typed[0]), Included(&typed[2])), &typed[1][..1]);
+        checks::search(&case, &twins, &few, &asked, (Excluded(&typed[0]), Included(&typed[2])), &typed[1][..1]);
     }
     for (kind, every) in KINDS.into_iter().zip([1, 2, 3, 5]) {
         checks::sets(&case, &of(kind, every, &|it| if it % 4 == 0 { it } else { it + 1 }));
@@ -81,8 +82,9 @@ fn compare_random(random: &mut Random, name: String, before: &Case) -> Case {
     );
     checks::look_ups(&case, &texts);
     checks::order(&case, &[from.clone(), to.clone()], bounds);
+    let twins = case.twins();
     for _ in 0..2 {
-        checks::search(&case, before, &random.asked(kind, &texts), bounds, &prefix);
+        checks::search(&case, &twins, before, &random.asked(kind, &texts), bounds, &prefix);
     }
     checks::sets(&case, before);
     let value = random.value();

@@ -10,7 +10,7 @@ SAYS = {
     EXHAUSTIVE_INSIDE: """AnyAutomaton AsciiProbeResult ByteProbeResult Change FaultCause Fault GlobError JsonError LoadError RecordError
         Refusal Rule RuleError SealError SearchBy Selection TagError TrieKind WordError ZeroIndexBuildError ZeroTrieBuildError""",
     "#[derive(Clone)]": """Combined Diff Input Merge OpenBranches SortedSlice ZeroTrieNearest ZeroTrieSearch ZeroTrieSorted
-        ZeroTrieSortedSearch ZeroTrieStream""",
+        ZeroTrieStream""",
 }
 
 

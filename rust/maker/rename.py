@@ -30,7 +30,7 @@ METHODS = {*FALLIBLE_METHODS, *METHODS_WITH_ALLOCATOR, *INFALLIBLE_METHODS, *INF
 # macros that stay, those that lose the runtime or the allocator with the error that they return for it, and those of the shim; what prints
 # is one of the shim if its error is not handed on, as Rust's own ends the program
 KEPT_MACROS = {"matches", "unreachable", "write", "writeln", "macro_rules"}
-KEPT_MACROS |= {"by_kind", "by_flavor", "by_automaton", "by_listing", "by_pairs"}
+KEPT_MACROS |= {"by_kind", "by_flavor", "by_automaton", "by_pairs"}
 MACROS_WITH_RUNTIME = {"assert", "assert_eq", "assert_ne", "panic", "format"}
 SHIM_MACROS = {"vec": "vec_in"}
 PRINTS = {"print", "println", "eprint", "eprintln"}

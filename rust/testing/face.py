@@ -19,11 +19,9 @@ OF = {
     "Reverse": TRIES,
     "AsciiCursor": "ZeroTrieSimpleAsciiCursor ZeroAsciiIgnoreCaseTrieCursor",
     "HashedCursor": "ZeroTriePerfectHashCursor ZeroTrieExtendedCapacityCursor",
-    "SearchBelow": "ZeroTrieCursor",
     "ZeroTrieStream": "ZeroTrieIterator",
     "ZeroTrieSearch": "Matches",
     "ZeroTrieSorted": "Sorted",
-    "ZeroTrieSortedSearch": "SortedMatches",
     "ZeroTrieNearest": "Nearest",
     "Diff": "Changes",
 }
@@ -48,9 +46,9 @@ RENAMED = {
 INSTEAD = {
     "one type takes any store, and any key": "ConvertStore TrieStore TrieKey TextKey HasFlavor Trie::get_str "
     "AsciiTrie::encoded_len_str HashedTrie::encoded_len_str",
-    "`Iterator`, `collect`": "ZeroTrieKeys ZeroTrieValues ZeroTrieIterator ZeroTrieSortedIterator ZeroIndexBuilder TrieListing AnyOf",
+    "`Iterator`, `collect`": "ZeroTrieKeys ZeroTrieValues ZeroTrieIterator ZeroTrieSortedIterator ZeroIndexBuilder TrieListing",
     "calls of tries, and of `Pairs`": "ZeroTrieStream::new ZeroTrieStream::with_prefix ZeroTrieStream::after ZeroTrieStream::from_cursor "
-    "ZeroTrieSearch::new ZeroTrieSorted::new ZeroTrieSortedSearch::new ZeroTrieNearest::new SortedTrie CommonPrefixes "
+    "ZeroTrieSearch::new ZeroTrieSorted::new ZeroTrieNearest::new SortedTrie CommonPrefixes "
     "Combined::new Diff::new Merge::new SortedSlice::new KeysByValue::new",
     "`Option`, and `take`": "ZeroTrieStream::end ZeroTrieSorted::end",
     "a failed allocation ends the program": "ListError Error",

@@ -289,7 +289,7 @@ fn listings(tally: &mut Tally, set: &Set, kind: u8, bytes: &[u8]) {
     let name = |what: &str| format!("{}, {} by {what}", set.name, NAMES[kind as usize]);
     listing(tally, &name("zerotrie_list"), kind, &behind, |_, _| false, by(Rooms::list, prefix));
     listing(tally, &name("zerotrie_list_some"), kind, &behind, is_begun, by(Rooms::list_some, prefix));
-    listing(tally, &name("zerotrie_search_some"), kind, &behind, is_begun, by(Rooms::search_some, prefix));
+    listing(tally, &name("zerotrie_search_some"), 0, &behind, is_begun, by(Rooms::search_some, prefix));
     listing(tally, &name("zerotrie_sorted_some"), 0, &pairs, is_begun, by(Rooms::sorted_some, b""));
     listing(tally, &name("zerotrie_nearest"), kind, nearest, |_, _| false, by(Rooms::nearest, last));
     listing(tally, &name("zerotrie_diff_some"), 0, &pairs, is_begun, |out| {

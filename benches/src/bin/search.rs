@@ -1,5 +1,5 @@
 //! Times searches in the words of benches/data, or the lines of a file, beside a scan of the sorted keys and fst with the same automata; sorted
-//! listings beside plain ones; and intersections beside look-ups.
+//! listings beside fst and a plain one; and intersections beside look-ups.
 
 use benches::asked::Asked;
 use benches::library::{self, Found, Question, Rooms};
@@ -290,17 +290,15 @@ fn sorted_listings(set: &Set, rounds: usize) -> Table {
     for (from, to) in RANGES {
         for (kind, bytes) in &tries_of(set) {
             let (mut rooms, mut others) = (Rooms::default(), Rooms::default());
-            let mut plain = || match to {
-                "" => others.listed(*kind, bytes, b""),
-                _ => others.searched(*kind, bytes, Question::Range(from, to)),
-            };
             let by_plain_rust = || by_type!(*kind, zerotrie, Trie => streamed(Trie::from_bytes(bytes).stream_sorted(range(from, to))));
             let mut contestants: Contestants<'_> = vec![
                 ("here", Box::new(|| sum_of(rooms.sorted(*kind, bytes, from.as_bytes(), to.as_bytes())))),
-                ("a plain one", Box::new(|| sum_of(plain()))),
                 ("plain Rust", Box::new(by_plain_rust)),
                 ("`fst`", Box::new(|| fst_range(&map, (from, to)))),
             ];
+            if to.is_empty() {
+                contestants.push(("a plain one", Box::new(|| sum_of(others.listed(*kind, bytes, b"")))));
+            }
             let row = if to.is_empty() { String::from("all") } else { format!("from {from} to below {to}") };
             let found = agreed(&mut contestants, &row) >> 44;
             table.measure(format!("{row}, {}: {found}", kind.name()), rounds, 1000, contestants);

@@ -3,7 +3,6 @@
 use crate::functions::*;
 use crate::library::{Entry, Found, Library, Move, Moved, Pair, Search, Status};
 use std::ops::Bound;
-use std::ptr::null;
 use zerotrie::sets::{Rule, Selection};
 
 pub struct Proved;
@@ -26,25 +25,23 @@ fn parts(pairs: &[Pair]) -> (Vec<u8>, Vec<usize>, Vec<usize>) {
     (keys, ends, pairs.iter().map(|pair| pair.1).collect())
 }
 
-/// The listing in parts of at most three pairs, or none of malformed bytes.
-fn listed_in_parts(kind: u8, bytes: &[u8], prefix: &[u8]) -> Option<Found> {
+/// What a listing has in parts of at most three pairs, or none of malformed bytes. `some` takes rooms, whether it goes on, the last key
+/// and a count.
+fn in_parts(kind: u8, bytes: &[u8], some: impl Fn(&mut Rooms, bool, &[u8], &mut usize) -> Status) -> Option<Found> {
     if !Proved.is_well_formed(kind, bytes) {
         return None;
     }
-    let (mut found, mut last): (Found, Vec<u8>) = (Vec::new(), Vec::new());
+    let mut found: Found = Vec::new();
     loop {
-        let (mut rooms, mut count, mut next_len) = (Rooms::of(bytes.len()), 0, 0);
-        let Rooms { keys, ends, values } = &mut rooms;
-        let status = call!(zerotrie_list_some(
-            kind.into(), [bytes], [prefix], !found.is_empty(), [last], [mut keys], [mut ends], values.as_mut_ptr(),
-            values.len().min(3), &mut count, &mut next_len
-        ));
+        let (mut rooms, mut count) = (Rooms::of(bytes.len()), 0);
+        rooms.values.truncate(3);
+        let last = found.last().map_or(&b""[..], |(key, _)| key);
+        let status = some(&mut rooms, !found.is_empty(), last, &mut count);
         found.extend(rooms.found(count));
         if status == 0 {
             return Some(found);
         }
         assert_eq!((status, count), (8, 3));
-        last.clone_from(&found[found.len() - 1].0);
     }
 }
 
@@ -197,9 +194,12 @@ impl Library for Proved {
         ));
         assert_eq!(status, 0);
         let found = rooms.found(count);
-        if let Some(in_parts) = listed_in_parts(kind, bytes, prefix) {
-            assert_eq!(found, in_parts);
-        }
+        let some = |Rooms { keys, ends, values }: &mut Rooms, goes_on: bool, last: &[u8], count: &mut usize| {
+            call!(zerotrie_list_some(
+                kind.into(), [bytes], [prefix], goes_on, [last], [mut keys], [mut ends], [mut values], count, &mut 0
+            ))
+        };
+        assert!(in_parts(kind, bytes, some).is_none_or(|parts| parts == found));
         found
     }
 
@@ -292,17 +292,19 @@ impl Library for Proved {
                 }
             }
         }
-        let (mut rooms, mut count, mut next_len) = (Rooms::of(bytes.len()), 0, 0);
-        let Rooms { keys, ends, values } = &mut rooms;
-        let status = call!(zerotrie_search_some(
-            kind.into(), [bytes], [prefix], &by, false, null(), 0, [mut keys], [mut ends], [mut values], &mut count,
-            &mut next_len
-        ));
-        if status == 0 {
-            Ok(rooms.found(count))
-        } else {
-            Err(status)
+        let some = |Rooms { keys, ends, values }: &mut Rooms, goes_on: bool, last: &[u8], count: &mut usize| {
+            call!(zerotrie_search_some(
+                kind.into(), [bytes], [prefix], &by, goes_on, [last], [mut keys], [mut ends], [mut values], count, &mut 0
+            ))
+        };
+        let (mut rooms, mut count) = (Rooms::of(bytes.len()), 0);
+        let status = some(&mut rooms, false, b"", &mut count);
+        if status != 0 {
+            return Err(status);
         }
+        let found = rooms.found(count);
+        assert!(in_parts(kind, bytes, some).is_none_or(|parts| parts == found));
+        Ok(found)
     }
 
     fn walk(&self, kind: u8, bytes: &[u8], prefix: &[u8], moves: &[Move]) -> Vec<Moved> {

@@ -2,8 +2,7 @@
 
 use crate::calls::calls;
 use crate::listing::{
-    Combination, Difference, Matches, Nearest, Reversed, Sorted, SortedMatches, ZeroTrieIterator, ZeroTrieKeys, ZeroTrieValues,
-    allocated,
+    Combination, Difference, Matches, Nearest, Reversed, Sorted, ZeroTrieIterator, ZeroTrieKeys, ZeroTrieValues, allocated,
 };
 use crate::look_ups::LookUps;
 use crate::reverse::KeysByValue;
@@ -17,7 +16,7 @@ use crate::zerotrie_core::{
 };
 use crate::zerotrie_hashed;
 use crate::zerotrie_sealed::{self, SealError};
-use crate::zerotrie_search::{Automaton, Fuzzy, KeyRange, Search};
+use crate::zerotrie_search::{Automaton, Both, Fuzzy, KeyRange, KindPrefix, Search};
 use crate::zerotrie_sets::{Keep, Operation};
 use crate::{ZeroTrieExtendedCapacity, ZeroTriePerfectHash, ZeroTrieSimpleAscii, by_kind};
 use alloc::boxed::Box;

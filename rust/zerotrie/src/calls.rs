@@ -150,7 +150,8 @@ macro_rules! calls {
                 by_kind!(self.kind(), CommonPrefixes::new::<_>(self.as_bytes(), text.as_ref()))
             }
 
-            /// Lists the pairs whose keys an automaton accepts: see [`search`](crate::search).
+            /// Lists the pairs whose keys an automaton accepts, in ascending order of bytes, whatever the kind: see
+            /// [`search`](crate::search). Keys that begin as none that is accepted are passed over.
             ///
             /// ```
             #[doc = concat!("use zerotrie::", stringify!($name), ";")]
@@ -161,11 +162,12 @@ macro_rules! calls {
             /// assert_eq!(found, [(b"into".to_vec(), 2)]);
             /// # Ok::<(), zerotrie::ZeroTrieBuildError>(())
             /// ```
-            pub fn search<T: Automaton>(&self, automaton: T) -> Matches<'_, T> {
-                Matches::of(self.stream(), automaton)
+            pub fn search<T: Automaton>(&self, automaton: T) -> Matches<'_, 'static, T> {
+                self.search_range(.., automaton)
             }
 
-            /// Lists the pairs whose keys begin with a prefix and which, as a whole, an automaton accepts.
+            /// Lists the pairs whose keys begin with a prefix, as the kind compares bytes, and which, as a whole, an automaton
+            /// accepts.
             ///
             /// ```
             #[doc = concat!("use zerotrie::", stringify!($name), ";")]
@@ -176,64 +178,56 @@ macro_rules! calls {
             /// assert_eq!(found, [(b"bat".to_vec(), 2)]);
             /// # Ok::<(), zerotrie::ZeroTrieBuildError>(())
             /// ```
-            pub fn search_prefix<K: AsRef<[u8]>, T: Automaton>(&self, prefix: K, automaton: T) -> Matches<'_, T> {
-                Matches::of(self.stream_prefix(prefix), automaton)
-            }
-
-            /// Continues a search after a key: lists the pairs that come after it, of those whose keys begin with a
-            /// prefix and which, as a whole, an automaton accepts. Lists none if no such pair has the key.
-            ///
-            /// ```
-            #[doc = concat!("use zerotrie::", stringify!($name), ";")]
-            /// use zerotrie::search::Glob;
-            ///
-            #[doc = concat!("let trie = ", stringify!($name), "::try_from_iter([(\"bat\", 2)])?;")]
-            /// let mut found = trie.search_after("b", "bat", Glob::new(b"?at").unwrap());
-            /// assert!(!found.advance());
-            /// # Ok::<(), zerotrie::ZeroTrieBuildError>(())
-            /// ```
-            pub fn search_after<P: AsRef<[u8]>, K: AsRef<[u8]>, T: Automaton>(
+            pub fn search_prefix<'p, K: AsRef<[u8]> + ?Sized, T: Automaton>(
                 &self,
-                prefix: P,
-                key: K,
+                prefix: &'p K,
                 automaton: T,
-            ) -> Matches<'_, T> {
-                Matches::of(self.stream_after(prefix, key), automaton)
+            ) -> Matches<'_, 'static, Both<KindPrefix<'p>, T>> {
+                self.search(Both(KindPrefix { kind: self.kind(), prefix: prefix.as_ref() }, automaton))
             }
 
-            /// Lists the pairs between two bounds, in the order of the trie's bytes.
-            ///
-            /// ```
-            #[doc = concat!("use zerotrie::", stringify!($name), ";")]
-            ///
-            #[doc = concat!("let trie = ", stringify!($name), "::try_from_iter([(\"in\", 1), (\"on\", 2), (\"to\", 3)])?;")]
-            /// assert_eq!(trie.search_range("j"..="to").values().sum::<usize>(), 5);
-            /// # Ok::<(), zerotrie::ZeroTrieBuildError>(())
-            /// ```
-            ///
-            /// Bounds are ranges of strings or bytes, `..`, or a pair of `Bound`.
-            pub fn search_range<'p>(&self, bounds: impl Into<KeyRange<'p>>) -> Matches<'_, KeyRange<'p>> {
-                self.search(bounds.into())
-            }
-
-            /// Lists the pairs between two bounds whose keys an automaton accepts, in ascending order of bytes, whatever the
-            /// kind. Keys that begin as none that is accepted are passed over.
+            /// Lists the pairs between two bounds whose keys an automaton accepts.
             ///
             /// ```
             #[doc = concat!("use zerotrie::", stringify!($name), ";")]
             /// use zerotrie::search::Glob;
             ///
             #[doc = concat!("let trie = ", stringify!($name), "::try_from_iter([(\"to\", 3), (\"on\", 2), (\"in\", 1)])?;")]
-            /// let found = trie.search_sorted(.., Glob::new(b"?n").unwrap());
-            /// assert_eq!(found.values().collect::<Vec<_>>(), [1, 2]);
+            /// let found = trie.search_range("j"..="to", Glob::new(b"?[no]").unwrap());
+            /// assert_eq!(found.values().collect::<Vec<_>>(), [2, 3]);
             /// # Ok::<(), zerotrie::ZeroTrieBuildError>(())
             /// ```
-            pub fn search_sorted<'p, T: Automaton>(
+            ///
+            /// Bounds are ranges of strings or bytes, `..`, or a pair of `Bound`.
+            pub fn search_range<'p, T: Automaton>(
                 &self,
                 bounds: impl Into<KeyRange<'p>>,
                 automaton: T,
-            ) -> SortedMatches<'_, 'p, T> {
-                SortedMatches::of(self.kind(), self.as_bytes(), bounds.into(), automaton)
+            ) -> Matches<'_, 'p, T> {
+                let KeyRange { from, to } = bounds.into();
+                Matches::of(self.kind(), self.as_bytes(), from, to, automaton)
+            }
+
+            /// Lists the pairs whose keys come after one, begin with a prefix as the kind compares bytes, and are accepted as a
+            /// whole by an automaton. So a program continues a search behind the last key that it read.
+            ///
+            /// ```
+            #[doc = concat!("use zerotrie::", stringify!($name), ";")]
+            /// use zerotrie::search::Glob;
+            ///
+            #[doc = concat!("let trie = ", stringify!($name), "::try_from_iter([(\"bat\", 1), (\"bet\", 2), (\"cat\", 3)])?;")]
+            /// let found = trie.search_after("b", "bat", Glob::new(b"?[ae]t").unwrap());
+            /// assert_eq!(found.values().collect::<Vec<_>>(), [2]);
+            /// # Ok::<(), zerotrie::ZeroTrieBuildError>(())
+            /// ```
+            pub fn search_after<'p, P: AsRef<[u8]> + ?Sized, K: AsRef<[u8]>, T: Automaton>(
+                &self,
+                prefix: &'p P,
+                key: K,
+                automaton: T,
+            ) -> Matches<'_, 'static, Both<KindPrefix<'p>, T>> {
+                let both = Both(KindPrefix { kind: self.kind(), prefix: prefix.as_ref() }, automaton);
+                Matches::of(self.kind(), self.as_bytes(), Bound::Excluded(key.as_ref()), Bound::Unbounded, both)
             }
 
             /// Lists the pairs whose keys few edits make of a word, the nearest first, and those that are as near in the order

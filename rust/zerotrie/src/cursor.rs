@@ -2,10 +2,9 @@
 
 pub use crate::zerotrie_core::{AsciiProbeResult, ByteProbeResult};
 
-use crate::listing::{Matches, ZeroTrieIterator, allocated};
+use crate::listing::{ZeroTrieIterator, allocated};
 use crate::rstd::alloc::{AllocError, Global};
 use crate::zerotrie_core::{Ignore, Simple, SpanCursor, TrieKind, ZeroTrieStream, ZeroTrieWithOptions, probe, step, take_value};
-use crate::zerotrie_search::Automaton;
 use crate::{
     Pairs, ZeroAsciiIgnoreCaseTrie, ZeroTrie, ZeroTrieExtendedCapacity, ZeroTriePerfectHash, ZeroTrieSimpleAscii, by_kind,
 };
@@ -184,21 +183,6 @@ macro_rules! ascii_cursor {
             pub fn stream(&self) -> ZeroTrieIterator<'a> {
                 pairs_from(TrieKind::$kind, &SpanCursor::new(self.trie.store))
             }
-
-            /// Lists the same if an automaton accepts what is left of the key.
-            ///
-            /// ```
-            #[doc = concat!("use zerotrie::", stringify!($trie), ";")]
-            /// use zerotrie::search::StartsWith;
-            ///
-            #[doc = concat!("let trie = ", stringify!($trie), "::from_bytes(b\"ab\\x85\");")]
-            /// let mut cursor = trie.cursor();
-            /// cursor.step(b'a');
-            /// assert_eq!(cursor.search(StartsWith(b"b")).count(), 1);
-            /// ```
-            pub fn search<T: Automaton>(&self, automaton: T) -> Matches<'a, T> {
-                Matches::of(self.stream(), automaton)
-            }
         }
 
         /// Follows what is written. A character that is not ASCII is an error, and is not followed.
@@ -343,22 +327,6 @@ macro_rules! byte_cursor {
             /// ```
             pub fn stream(&self) -> ZeroTrieIterator<'a> {
                 pairs_from(self.kind, &self.place)
-            }
-
-            /// Lists the same if an automaton accepts what is left of the key.
-            ///
-            /// ```
-            #[doc = concat!("use zerotrie::", stringify!($trie), ";")]
-            /// use zerotrie::search::StartsWith;
-            ///
-            #[doc = concat!("let trie = ", stringify!($trie), "::try_from_iter([(\"in\", 1)])?;")]
-            /// let mut cursor = trie.cursor();
-            /// cursor.step(b'i');
-            /// assert_eq!(cursor.search(StartsWith(b"n")).count(), 1);
-            /// # Ok::<(), zerotrie::ZeroTrieBuildError>(())
-            /// ```
-            pub fn search<T: Automaton>(&self, automaton: T) -> Matches<'a, T> {
-                Matches::of(self.stream(), automaton)
             }
 
             /// Returns the trie of what is left of the keys, or `None` inside a span.

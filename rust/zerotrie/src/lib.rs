@@ -53,8 +53,8 @@ pub use made::*;
 
 pub use any::{Trie, ZeroTrie};
 pub use listing::{
-    Matches, Nearest, NearestPairs, Pairs, Reversed, Sorted, SortedMatches, SortedPairs, SortedSearch, Values, ZeroTrieIterator,
-    ZeroTrieKeys, ZeroTrieStringIterator, ZeroTrieStringKeys, ZeroTrieValues,
+    Matches, Nearest, Pairs, Reversed, Sorted, SortedPairs, Values, ZeroTrieIterator, ZeroTrieKeys, ZeroTrieStringIterator,
+    ZeroTrieStringKeys, ZeroTrieValues,
 };
 pub use look_ups::LookUps;
 pub use made::rstd::alloc::AllocError;

@@ -4,7 +4,7 @@ use crate::any::last;
 use crate::by_kind;
 use crate::rstd::alloc::{AllocError, Global};
 use crate::zerotrie_core::{self, PairStream, TrieKind, ZeroTrieWithOptions};
-use crate::zerotrie_search::{Automaton, Fuzzy, KeyRange, ZeroTrieNearest, ZeroTrieSearch, ZeroTrieSorted, ZeroTrieSortedSearch};
+use crate::zerotrie_search::{Automaton, Fuzzy, KeyRange, ZeroTrieNearest, ZeroTrieSearch, ZeroTrieSorted};
 use crate::zerotrie_sets::{Change, Combined, Diff, Keep, Operation};
 use alloc::alloc::{Layout, handle_alloc_error};
 use alloc::string::String;
@@ -115,7 +115,7 @@ impl<S: PairStream> Pairs<S> {
         Values(self)
     }
 
-    /// Combines two listings whose keys ascend, as sorted listings do.
+    /// Combines two listings whose keys ascend, as those of sorted listings and searches do.
     ///
     /// ```
     /// use zerotrie::ZeroTriePerfectHash;
@@ -179,9 +179,8 @@ impl<S: PairStream> Iterator for Pairs<S> {
 
 // after the last pair there is none, as in each listing of the library
 impl FusedIterator for ZeroTrieIterator<'_> {}
-impl<T: Automaton> FusedIterator for Matches<'_, T> {}
 impl FusedIterator for Sorted<'_, '_> {}
-impl<T: Automaton> FusedIterator for SortedMatches<'_, '_, T> {}
+impl<T: Automaton> FusedIterator for Matches<'_, '_, T> {}
 impl<T: Fuzzy> FusedIterator for Nearest<'_, T> {}
 
 impl<S> fmt::Debug for Pairs<S> {
@@ -249,46 +248,6 @@ fn stream_after<'a, K: ZeroTrieWithOptions>(
     zerotrie_core::ZeroTrieStream::after::<K>(Global, bytes, prefix, key)
 }
 
-/// The pairs that a search finds, in the order of the trie's bytes.
-pub type Matches<'a, T> = Pairs<ZeroTrieSearch<'a, T>>;
-
-impl<'a, T: Automaton> Matches<'a, T> {
-    /// Lists the pairs of a listing that an automaton accepts.
-    pub(crate) fn of(pairs: ZeroTrieIterator<'a>, automaton: T) -> Self {
-        Pairs::new(ZeroTrieSearch::new(Global, pairs.pairs, automaton))
-    }
-
-    /// Returns the automaton.
-    ///
-    /// ```
-    /// use zerotrie::ZeroTrieSimpleAscii;
-    /// use zerotrie::search::StartsWith;
-    ///
-    /// let trie = ZeroTrieSimpleAscii::try_from_iter([("in", 1)])?;
-    /// assert_eq!(trie.search(StartsWith(b"i")).automaton().0, b"i");
-    /// # Ok::<(), zerotrie::ZeroTrieBuildError>(())
-    /// ```
-    pub fn automaton(&self) -> &T {
-        self.pairs.automaton()
-    }
-
-    /// Returns the state of the automaton after the current key.
-    ///
-    /// ```
-    /// use zerotrie::ZeroTrieSimpleAscii;
-    /// use zerotrie::search::StartsWith;
-    ///
-    /// let trie = ZeroTrieSimpleAscii::try_from_iter([("in", 1)])?;
-    /// let mut matches = trie.search(StartsWith(b"i"));
-    /// matches.advance();
-    /// assert!(matches.state().is_some());
-    /// # Ok::<(), zerotrie::ZeroTrieBuildError>(())
-    /// ```
-    pub fn state(&self) -> T::State {
-        self.pairs.state()
-    }
-}
-
 /// A listing in the order of bytes, as that of `Sorted`.
 #[derive(Clone)]
 pub struct SortedPairs<'a, 'p> {
@@ -341,7 +300,7 @@ pub type Sorted<'a, 'p> = Pairs<SortedPairs<'a, 'p>>;
 impl<'a, 'p> Sorted<'a, 'p> {
     /// Lists the pairs of a trie between two bounds.
     pub(crate) fn of(kind: TrieKind, bytes: &'a [u8], bounds: KeyRange<'p>) -> Self {
-        let pairs = allocated(by_kind!(kind, sorted_of::<_>(bytes, bounds)));
+        let pairs = allocated(by_kind!(kind, sorted_of::<_>(bytes, bounds.from, bounds.to)));
         Pairs::new(SortedPairs { pairs, kind, bytes, bounds, is_begun: false, is_ended: false, behind: None })
     }
 
@@ -366,9 +325,10 @@ impl<'a, 'p> Sorted<'a, 'p> {
 
 fn sorted_of<'a, 'p, K: ZeroTrieWithOptions>(
     bytes: &'a [u8],
-    bounds: KeyRange<'p>,
+    from: Bound<&[u8]>,
+    to: Bound<&'p [u8]>,
 ) -> Result<ZeroTrieSorted<'a, 'p>, AllocError> {
-    ZeroTrieSorted::new::<K>(Global, bytes, bounds.from, bounds.to)
+    ZeroTrieSorted::new::<K>(Global, bytes, from, to)
 }
 
 /// The pairs of a trie between two bounds, in descending order of bytes.
@@ -414,46 +374,43 @@ impl Iterator for Reversed<'_, '_> {
 
 impl FusedIterator for Reversed<'_, '_> {}
 
-/// A search in the order of bytes, as the listing of `SortedMatches`.
-#[derive(Clone)]
-pub struct SortedSearch<'a, 'p, T: Automaton>(ZeroTrieSortedSearch<'a, 'p, T>);
-
-impl<T: Automaton> PairStream for SortedSearch<'_, '_, T> {
+impl<T: Automaton> PairStream for ZeroTrieSearch<'_, '_, T> {
     fn advance(&mut self) -> Result<bool, AllocError> {
-        self.0.advance()
+        ZeroTrieSearch::advance(self)
     }
 
     fn key(&self) -> &[u8] {
-        self.0.key()
+        ZeroTrieSearch::key(self)
     }
 
     fn value(&self) -> usize {
-        self.0.value()
+        ZeroTrieSearch::value(self)
     }
 }
 
-/// The pairs that a search finds between two bounds, in ascending order of bytes.
-pub type SortedMatches<'a, 'p, T> = Pairs<SortedSearch<'a, 'p, T>>;
+/// The pairs that a search finds, in ascending order of bytes. `'p` is the lifetime of an upper bound:
+/// `'static` if there is none.
+pub type Matches<'a, 'p, T> = Pairs<ZeroTrieSearch<'a, 'p, T>>;
 
-impl<'a, 'p, T: Automaton> SortedMatches<'a, 'p, T> {
+impl<'a, 'p, T: Automaton> Matches<'a, 'p, T> {
     /// Lists the pairs of a trie between two bounds that an automaton accepts.
-    pub(crate) fn of(kind: TrieKind, bytes: &'a [u8], bounds: KeyRange<'p>, automaton: T) -> Self {
-        let pairs = allocated(by_kind!(kind, sorted_of::<_>(bytes, bounds)));
-        Pairs::new(SortedSearch(ZeroTrieSortedSearch::new(Global, pairs, automaton)))
+    pub(crate) fn of(kind: TrieKind, bytes: &'a [u8], from: Bound<&[u8]>, to: Bound<&'p [u8]>, automaton: T) -> Self {
+        let pairs = allocated(by_kind!(kind, sorted_of::<_>(bytes, from, to)));
+        Pairs::new(ZeroTrieSearch::new(Global, pairs, automaton))
     }
 
     /// Returns the automaton.
     ///
     /// ```
-    /// use zerotrie::ZeroTriePerfectHash;
+    /// use zerotrie::ZeroTrieSimpleAscii;
     /// use zerotrie::search::StartsWith;
     ///
-    /// let trie = ZeroTriePerfectHash::try_from_iter([("in", 1)])?;
-    /// assert_eq!(trie.search_sorted(.., StartsWith(b"i")).automaton().0, b"i");
+    /// let trie = ZeroTrieSimpleAscii::try_from_iter([("in", 1)])?;
+    /// assert_eq!(trie.search(StartsWith(b"i")).automaton().0, b"i");
     /// # Ok::<(), zerotrie::ZeroTrieBuildError>(())
     /// ```
     pub fn automaton(&self) -> &T {
-        self.pairs.0.automaton()
+        self.pairs.automaton()
     }
 
     /// Returns the state of the automaton after the current key.
@@ -463,41 +420,37 @@ impl<'a, 'p, T: Automaton> SortedMatches<'a, 'p, T> {
     /// use zerotrie::search::Levenshtein;
     ///
     /// let trie = ZeroTriePerfectHash::try_from_iter([("on", 2), ("in", 1)])?;
-    /// let mut found = trie.search_sorted("j".., Levenshtein::new(b"in", 1).unwrap());
+    /// let mut found = trie.search_range("j".., Levenshtein::new(b"in", 1).unwrap());
     /// found.advance();
     /// assert_eq!(found.automaton().distance(found.state()), Some(1));
     /// # Ok::<(), zerotrie::ZeroTrieBuildError>(())
     /// ```
     pub fn state(&self) -> T::State {
-        self.pairs.0.state()
+        self.pairs.state()
     }
 }
 
-/// The pairs whose keys are near a word, as the listing of `Nearest`.
-#[derive(Clone)]
-pub struct NearestPairs<'a, T: Fuzzy>(ZeroTrieNearest<'a, T>);
-
-impl<T: Fuzzy> PairStream for NearestPairs<'_, T> {
+impl<T: Fuzzy> PairStream for ZeroTrieNearest<'_, T> {
     fn advance(&mut self) -> Result<bool, AllocError> {
-        self.0.advance()
+        ZeroTrieNearest::advance(self)
     }
 
     fn key(&self) -> &[u8] {
-        self.0.key()
+        ZeroTrieNearest::key(self)
     }
 
     fn value(&self) -> usize {
-        self.0.value()
+        ZeroTrieNearest::value(self)
     }
 }
 
 /// The pairs whose keys few edits make of a word, the nearest first.
-pub type Nearest<'a, T> = Pairs<NearestPairs<'a, T>>;
+pub type Nearest<'a, T> = Pairs<ZeroTrieNearest<'a, T>>;
 
 impl<'a, T: Fuzzy> Nearest<'a, T> {
     /// Lists the pairs of a trie.
     pub(crate) fn of(kind: TrieKind, bytes: &'a [u8], word: T) -> Self {
-        Pairs::new(NearestPairs(allocated(by_kind!(kind, nearest_of::<_, T>(bytes, word)))))
+        Pairs::new(by_kind!(kind, nearest_of::<_, T>(bytes, word)))
     }
 
     /// Returns how many edits make the current key of the word.
@@ -513,11 +466,11 @@ impl<'a, T: Fuzzy> Nearest<'a, T> {
     /// # Ok::<(), zerotrie::ZeroTrieBuildError>(())
     /// ```
     pub fn distance(&self) -> usize {
-        self.pairs.0.distance()
+        self.pairs.distance()
     }
 }
 
-fn nearest_of<K: ZeroTrieWithOptions, T: Fuzzy>(bytes: &[u8], word: T) -> Result<ZeroTrieNearest<'_, T>, AllocError> {
+fn nearest_of<K: ZeroTrieWithOptions, T: Fuzzy>(bytes: &[u8], word: T) -> ZeroTrieNearest<'_, T> {
     ZeroTrieNearest::new::<K>(Global, bytes, word)
 }
 

@@ -1,4 +1,4 @@
-//! Searches: automata, which decide byte by byte which keys a search lists.
+//! Searches: automata, which decide byte by byte which keys a search lists, in ascending order of bytes.
 //!
 //! ```
 //! use zerotrie::ZeroTrieSimpleAscii;
@@ -88,8 +88,8 @@ pub use crate::by_automaton;
 pub use crate::zerotrie_core::ByteSet;
 pub use crate::zerotrie_search::{
     AnyAutomaton, Automaton, BeginsWith, Both, ByKind, CharsState, Either, Fuzzy, Glob, GlobChars, GlobError, GlobState,
-    KeyRange, Levenshtein, LevenshteinChars, LevenshteinState, Not, Osa, OsaChars, OsaCharsState, OsaState, SearchBy, StartsWith,
-    Subsequence, WORD_LIMIT, WordError, accepts, fold_by, fold_word,
+    KeyRange, KindPrefix, Levenshtein, LevenshteinChars, LevenshteinState, Not, Osa, OsaChars, OsaCharsState, OsaState, SearchBy,
+    StartsWith, Subsequence, WORD_LIMIT, WordError, accepts, fold_by, fold_word,
 };
 
 use crate::Trie;

@@ -4,8 +4,8 @@ use crate::any::{Trie, fault, first, last, lent, sorted, tagged};
 use crate::by_kind;
 use crate::calls::calls;
 use crate::listing::{
-    Combination, Difference, Matches, Nearest, Reversed, Sorted, SortedMatches, ZeroTrieIterator, ZeroTrieKeys,
-    ZeroTrieStringIterator, ZeroTrieStringKeys, ZeroTrieValues, allocated,
+    Combination, Difference, Matches, Nearest, Reversed, Sorted, ZeroTrieIterator, ZeroTrieKeys, ZeroTrieStringIterator,
+    ZeroTrieStringKeys, ZeroTrieValues, allocated,
 };
 use crate::look_ups::LookUps;
 use crate::reverse::KeysByValue;
@@ -15,7 +15,7 @@ use crate::zerotrie_any::{self, LoadError, NotWellFormed, TagError};
 use crate::zerotrie_build::{Refusal, why_slice_refused};
 use crate::zerotrie_core::{self, CommonPrefixes, Ext, Fault, Hash, Ignore, Simple, TrieKind, ZeroTrieBuildError};
 use crate::zerotrie_sealed::{self, SealError};
-use crate::zerotrie_search::{Automaton, Fuzzy, KeyRange};
+use crate::zerotrie_search::{Automaton, Both, Fuzzy, KeyRange, KindPrefix};
 use crate::zerotrie_sets::{Keep, Operation};
 use crate::{ZeroTrie, any};
 use alloc::borrow::ToOwned;

@@ -112,6 +112,7 @@ pub mod examples {
     pub use super::borrow::CowSlice;
     pub use super::collections::{BTreeMap, VecDeque};
     pub use super::prelude::*;
+    pub use crate::zerotrie_all::{ZeroTriePerfectHash, ZeroTrieSimpleAscii};
     pub type Fail = alloc::boxed::Box<dyn core::error::Error>;
 }
 

@@ -6,7 +6,7 @@ use crate::zerotrie_core::ByteSet;
 /// A set of keys that is decided byte by byte.
 ///
 /// ```
-/// # use zerotrie::{rstd::examples::*, zerotrie_search::*, zerotrie_base::*, zerotrie_core::*, zerotrie_any::*, zerotrie_ascii::*, zerotrie_hashed::*};
+/// # use zerotrie::{rstd::examples::*, zerotrie_search::*, zerotrie_base::*, zerotrie_core::*};
 /// let automaton = StartsWith(b"in");
 /// let mut state = automaton.start();
 /// assert!(!automaton.is_match(state));
@@ -51,7 +51,7 @@ pub trait Automaton {
 /// Returns whether an automaton accepts a key.
 ///
 /// ```
-/// # use zerotrie::{rstd::examples::*, zerotrie_search::*, zerotrie_base::*, zerotrie_core::*, zerotrie_any::*, zerotrie_ascii::*, zerotrie_hashed::*};
+/// # use zerotrie::{rstd::examples::*, zerotrie_search::*, zerotrie_base::*, zerotrie_core::*};
 /// assert!(accepts(&StartsWith(b"in"), b"into"));
 /// # Ok::<(), Fail>(())
 /// ```

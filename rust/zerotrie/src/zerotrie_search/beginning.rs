@@ -7,7 +7,7 @@ use crate::zerotrie_core::ByteSet;
 /// Accepts the keys that begin with a key that the automaton accepts.
 ///
 /// ```
-/// # use zerotrie::{rstd::examples::*, zerotrie_search::*, zerotrie_base::*, zerotrie_core::*, zerotrie_any::*, zerotrie_ascii::*, zerotrie_hashed::*};
+/// # use zerotrie::{rstd::examples::*, zerotrie_search::*, zerotrie_base::*, zerotrie_core::*};
 /// let near = Levenshtein::new(b"exmple", 1).ok_or("a long word")?;
 /// let automaton = BeginsWith(near);
 /// let mut state = automaton.start();

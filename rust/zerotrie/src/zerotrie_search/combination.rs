@@ -7,7 +7,7 @@ use crate::zerotrie_core::ByteSet;
 /// Accepts the keys that both automata accept.
 ///
 /// ```
-/// # use zerotrie::{rstd::examples::*, zerotrie_search::*, zerotrie_base::*, zerotrie_core::*, zerotrie_any::*, zerotrie_ascii::*, zerotrie_hashed::*};
+/// # use zerotrie::{rstd::examples::*, zerotrie_search::*, zerotrie_base::*, zerotrie_core::*};
 /// let automaton = Both(StartsWith(b"t"), Subsequence(b"e"));
 /// let mut state = automaton.start();
 /// for byte in b"trade" {
@@ -50,7 +50,7 @@ impl<S: Automaton, T: Automaton> Automaton for Both<S, T> {
 /// Accepts the keys that one of the automata accepts, or both do.
 ///
 /// ```
-/// # use zerotrie::{rstd::examples::*, zerotrie_search::*, zerotrie_base::*, zerotrie_core::*, zerotrie_any::*, zerotrie_ascii::*, zerotrie_hashed::*};
+/// # use zerotrie::{rstd::examples::*, zerotrie_search::*, zerotrie_base::*, zerotrie_core::*};
 /// let automaton = Either(StartsWith(b"a"), StartsWith(b"b"));
 /// assert!(automaton.is_match(automaton.step(automaton.start(), b'b')));
 /// # Ok::<(), Fail>(())
@@ -87,7 +87,7 @@ impl<S: Automaton, T: Automaton> Automaton for Either<S, T> {
 /// Accepts the keys that the automaton does not accept.
 ///
 /// ```
-/// # use zerotrie::{rstd::examples::*, zerotrie_search::*, zerotrie_base::*, zerotrie_core::*, zerotrie_any::*, zerotrie_ascii::*, zerotrie_hashed::*};
+/// # use zerotrie::{rstd::examples::*, zerotrie_search::*, zerotrie_base::*, zerotrie_core::*};
 /// let automaton = Not(StartsWith(b"a"));
 /// assert!(automaton.is_match(automaton.step(automaton.start(), b'b')));
 /// # Ok::<(), Fail>(())

@@ -16,7 +16,7 @@ fn folded_by(kind: TrieKind, byte: u8) -> u8 {
 /// ignores case.
 ///
 /// ```
-/// # use zerotrie::{rstd::examples::*, zerotrie_search::*, zerotrie_base::*, zerotrie_core::*, zerotrie_any::*, zerotrie_ascii::*, zerotrie_hashed::*};
+/// # use zerotrie::{rstd::examples::*, zerotrie_search::*, zerotrie_base::*, zerotrie_core::*};
 /// let mut word = *b"Trie";
 /// fold_by(TrieKind::Ignore, &mut word);
 /// assert_eq!(word, *b"trie");
@@ -55,7 +55,7 @@ pub(in crate::made::zerotrie_search) fn ignores_case(kind: TrieKind) -> bool {
 /// letters in lower case in the kind that ignores case, and the key itself in another.
 ///
 /// ```
-/// # use zerotrie::{rstd::examples::*, zerotrie_search::*, zerotrie_base::*, zerotrie_core::*, zerotrie_any::*, zerotrie_ascii::*, zerotrie_hashed::*};
+/// # use zerotrie::{rstd::examples::*, zerotrie_search::*, zerotrie_base::*, zerotrie_core::*};
 /// let mut word = *b"Tr";
 /// fold_by(TrieKind::Ignore, &mut word);
 /// let automaton = ByKind(TrieKind::Ignore, StartsWith(&word));

@@ -40,7 +40,7 @@ impl core::error::Error for GlobError {}
 /// Accepts the keys that a pattern matches, byte by byte.
 ///
 /// ```
-/// # use zerotrie::{rstd::examples::*, zerotrie_search::*, zerotrie_base::*, zerotrie_core::*, zerotrie_any::*, zerotrie_ascii::*, zerotrie_hashed::*};
+/// # use zerotrie::{rstd::examples::*, zerotrie_search::*, zerotrie_base::*, zerotrie_core::*};
 /// let automaton = Glob::new(b"[a-c]*.{rt,antt}")?;
 /// let mut state = automaton.start();
 /// for byte in b"core.rt" {
@@ -76,7 +76,7 @@ impl<'p> Glob<'p> {
     /// Accepts the keys that the pattern matches.
     ///
     /// ```
-    /// # use zerotrie::{rstd::examples::*, zerotrie_search::*, zerotrie_base::*, zerotrie_core::*, zerotrie_any::*, zerotrie_ascii::*, zerotrie_hashed::*};
+    /// # use zerotrie::{rstd::examples::*, zerotrie_search::*, zerotrie_base::*, zerotrie_core::*};
     /// assert!(Glob::new(b"[^aeiou]*").is_ok());
     /// assert!(Glob::new(b"{un,}like{ly,}").is_ok());
     /// assert!(matches!(Glob::new(b"[z-a]"), Err(GlobError::Malformed)));
@@ -91,7 +91,7 @@ impl<'p> Glob<'p> {
     /// taken in both of its cases.
     ///
     /// ```
-    /// # use zerotrie::{rstd::examples::*, zerotrie_search::*, zerotrie_base::*, zerotrie_core::*, zerotrie_any::*, zerotrie_ascii::*, zerotrie_hashed::*};
+    /// # use zerotrie::{rstd::examples::*, zerotrie_search::*, zerotrie_base::*, zerotrie_core::*};
     /// let automaton = Glob::in_any_case(b"[A-_]*")?;
     /// let state = automaton.step(automaton.start(), b'k');
     /// assert!(automaton.is_match(state));

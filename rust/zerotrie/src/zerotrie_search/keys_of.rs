@@ -10,7 +10,7 @@ use crate::zerotrie_core::{
 /// Accepts the keys of another trie of any kind, as that kind compares bytes.
 ///
 /// ```
-/// # use zerotrie::{rstd::examples::*, zerotrie_search::*, zerotrie_base::*, zerotrie_core::*, zerotrie_any::*, zerotrie_ascii::*, zerotrie_hashed::*};
+/// # use zerotrie::{rstd::examples::*, zerotrie_search::*, zerotrie_base::*, zerotrie_core::*};
 /// let words = [("trial", 1), ("trie", 2), ("trio", 3)];
 /// let trie = ZeroTrieSimpleAscii::try_from_iter(Global, words)?;
 /// // the keys "trie" and "try" with values 5 and 6

@@ -20,3 +20,6 @@ pub fn sorted_listing_ascends() {}
 pub fn sorted_listing_is_the_plain() {
     listing_is_the_map();
 }
+
+/// A word of a search has at most 63 letters, and a pattern at most 63 items.
+pub fn words_have_63_letters() {}

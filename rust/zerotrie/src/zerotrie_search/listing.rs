@@ -1,11 +1,11 @@
 // Made from crates/zerotrie_search/src/listing.rt by rust/make: edit that.
-//! Listings of the pairs of a trie, in any order, and one type for any of several.
+//! Listings of the pairs of a trie, in any order.
 
 use crate::zerotrie_search::automaton::Automaton;
 use crate::zerotrie_search::fuzzy::Fuzzy;
 use crate::zerotrie_search::nearest::ZeroTrieNearest;
 use crate::zerotrie_search::search::ZeroTrieSearch;
-use crate::zerotrie_search::sorted::{ZeroTrieSorted, ZeroTrieSortedSearch};
+use crate::zerotrie_search::sorted::ZeroTrieSorted;
 use crate::rstd::alloc::{AllocError, Allocator};
 use crate::zerotrie_core::ZeroTrieStream;
 
@@ -13,7 +13,7 @@ use crate::zerotrie_core::ZeroTrieStream;
 /// order, in the order of bytes, or the nearest first.
 ///
 /// ```
-/// # use zerotrie::{rstd::examples::*, zerotrie_search::*, zerotrie_base::*, zerotrie_core::*, zerotrie_any::*, zerotrie_ascii::*, zerotrie_hashed::*};
+/// # use zerotrie::{rstd::examples::*, zerotrie_search::*, zerotrie_base::*, zerotrie_core::*};
 /// use zerotrie::rstd::alloc::AllocError;
 /// use zerotrie::rstd::ops::Bound;
 ///
@@ -47,6 +47,8 @@ pub trait TrieListing {
 
     // At most how many pairs are to come on any bytes.
 
+    // Which keys may come on any bytes.
+
     /// Moves to the next pair, and returns whether there is one. An error ends the listing. The only
     /// error is a failed allocation.
     fn advance(&mut self) -> Result<bool, AllocError>;
@@ -72,20 +74,6 @@ impl<'a, A: Allocator> TrieListing for ZeroTrieStream<'a, A> {
     }
 }
 
-impl<'a, T: Automaton, A: Allocator> TrieListing for ZeroTrieSearch<'a, T, A> {
-    fn advance(&mut self) -> Result<bool, AllocError> {
-        ZeroTrieSearch::advance(self)
-    }
-
-    fn key(&self) -> &[u8] {
-        ZeroTrieSearch::key(self)
-    }
-
-    fn value(&self) -> usize {
-        ZeroTrieSearch::value(self)
-    }
-}
-
 impl<'a, 'p, A: Allocator> TrieListing for ZeroTrieSorted<'a, 'p, A> {
     fn advance(&mut self) -> Result<bool, AllocError> {
         ZeroTrieSorted::advance(self)
@@ -100,17 +88,17 @@ impl<'a, 'p, A: Allocator> TrieListing for ZeroTrieSorted<'a, 'p, A> {
     }
 }
 
-impl<'a, 'p, T: Automaton, A: Allocator> TrieListing for ZeroTrieSortedSearch<'a, 'p, T, A> {
+impl<'a, 'p, T: Automaton, A: Allocator> TrieListing for ZeroTrieSearch<'a, 'p, T, A> {
     fn advance(&mut self) -> Result<bool, AllocError> {
-        ZeroTrieSortedSearch::advance(self)
+        ZeroTrieSearch::advance(self)
     }
 
     fn key(&self) -> &[u8] {
-        ZeroTrieSortedSearch::key(self)
+        ZeroTrieSearch::key(self)
     }
 
     fn value(&self) -> usize {
-        ZeroTrieSortedSearch::value(self)
+        ZeroTrieSearch::value(self)
     }
 }
 
@@ -125,41 +113,5 @@ impl<'a, T: Fuzzy, A: Allocator + Copy> TrieListing for ZeroTrieNearest<'a, T, A
 
     fn value(&self) -> usize {
         ZeroTrieNearest::value(self)
-    }
-}
-
-/// One of three listings. Which one it is is decided once, and what reads it has one type to name. A
-/// choice of more is one of these whose third is one again.
-pub enum AnyOf<A: TrieListing, B: TrieListing, C: TrieListing> {
-    /// One of the first type.
-    First(A),
-    /// One of the second type.
-    Second(B),
-    /// One of the third type.
-    Third(C),
-}
-
-/// Evaluates an expression with the listing that there is, under a name.
-macro_rules! by_listing {
-    ($any:expr, $pairs:ident => $result:expr) => {
-        match $any {
-            AnyOf::First($pairs) => $result,
-            AnyOf::Second($pairs) => $result,
-            AnyOf::Third($pairs) => $result,
-        }
-    };
-}
-
-impl<A: TrieListing, B: TrieListing, C: TrieListing> TrieListing for AnyOf<A, B, C> {
-    fn advance(&mut self) -> Result<bool, AllocError> {
-        by_listing!(self, pairs => pairs.advance())
-    }
-
-    fn key(&self) -> &[u8] {
-        by_listing!(self, pairs => pairs.key())
-    }
-
-    fn value(&self) -> usize {
-        by_listing!(self, pairs => pairs.value())
     }
 }

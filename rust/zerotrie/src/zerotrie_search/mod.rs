@@ -11,7 +11,6 @@ mod any;
 mod automaton;
 mod beginning;
 mod combination;
-mod cursors;
 mod folding;
 mod fuzzy;
 mod glob;
@@ -33,7 +32,6 @@ pub use any::{AnyAutomaton, SearchBy, WordError};
 pub use automaton::{Automaton, accepts};
 pub use beginning::BeginsWith;
 pub use combination::{Both, Either, Not};
-pub use cursors::SearchBelow;
 pub use folding::{ByKind, fold_by, fold_word};
 pub use fuzzy::Fuzzy;
 pub use glob::{Glob, GlobChars, GlobError, GlobState};
@@ -42,12 +40,12 @@ pub use levenshtein::{
     CharsState, Levenshtein, LevenshteinChars, LevenshteinState, Osa, OsaChars, OsaCharsState,
     OsaState,
 };
-pub use listing::{AnyOf, TrieListing};
+pub use listing::TrieListing;
 pub use nearest::ZeroTrieNearest;
-pub use prefix::StartsWith;
+pub use prefix::{KindPrefix, StartsWith};
 pub use range::KeyRange;
 pub use search::ZeroTrieSearch;
-pub use sorted::{ZeroTrieSorted, ZeroTrieSortedIterator, ZeroTrieSortedSearch};
+pub use sorted::{ZeroTrieSorted, ZeroTrieSortedIterator};
 pub use subsequence::Subsequence;
 pub use tries::Search;
 

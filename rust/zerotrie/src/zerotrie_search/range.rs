@@ -8,7 +8,7 @@ use crate::rstd::ops::Bound;
 /// Accepts the keys between two bounds, in the order of bytes.
 ///
 /// ```
-/// # use zerotrie::{rstd::examples::*, zerotrie_search::*, zerotrie_base::*, zerotrie_core::*, zerotrie_any::*, zerotrie_ascii::*, zerotrie_hashed::*};
+/// # use zerotrie::{rstd::examples::*, zerotrie_search::*, zerotrie_base::*, zerotrie_core::*};
 /// use zerotrie::rstd::ops::Bound;
 ///
 /// let automaton = KeyRange { from: Bound::Included(b"b"), to: Bound::Excluded(b"d") };

@@ -3,46 +3,50 @@
 
 use crate::rstd::prelude::*;
 use crate::zerotrie_search::automaton::Automaton;
+use crate::zerotrie_search::sorted::ZeroTrieSorted;
 use crate::zerotrie_search::trail::{Verdict, last_state, read};
 use crate::rstd::alloc::{AllocError, Allocator, Global};
-use crate::zerotrie_core::{PairStream, Reached, ZeroTrieStream};
+use crate::zerotrie_core::Reached;
 
-/// Lists the pairs of a stream whose keys an automaton accepts, in the stream's order, each key
+/// Lists the pairs of a sorted listing whose keys an automaton accepts, in the order of bytes, each key
 /// borrowed from one buffer.
 ///
 /// ```
-/// # use zerotrie::{rstd::examples::*, zerotrie_search::*, zerotrie_base::*, zerotrie_core::*, zerotrie_any::*, zerotrie_ascii::*, zerotrie_hashed::*};
+/// # use zerotrie::{rstd::examples::*, zerotrie_search::*, zerotrie_base::*, zerotrie_core::*};
+/// use zerotrie::rstd::ops::Bound;
+///
 /// // the keys "ab", "ac" and "b" with values 1, 2 and 3
 /// let bytes = b"\xC2ab\x06\xC2bc\x01\x81\x82\x83";
-/// let pairs = ZeroTrieStream::new::<Simple>(Global, bytes);
-/// let near = Levenshtein::new(b"a", 1).ok_or("a long word")?;
-/// let mut search = ZeroTrieSearch::new(Global, pairs, Both(near, Not(StartsWith(b"ab"))));
+/// let (from, to) = (Bound::Unbounded, Bound::Excluded(b"b".as_slice()));
+/// let sorted = ZeroTrieSorted::new::<Simple>(Global, bytes, from, to)?;
+/// let near = Levenshtein::new(b"c", 1).ok_or("a long word")?;
+/// let mut search = ZeroTrieSearch::new(Global, sorted, near);
 /// assert!(search.advance()?);
 /// assert_eq!((search.key(), search.value()), (b"ac".as_slice(), 2));
-/// assert!(search.advance()?);
-/// assert_eq!((search.key(), search.value()), (b"b".as_slice(), 3));
+/// assert_eq!(search.automaton().distance(search.state()), Some(1));
 /// assert!(!search.advance()?);
 /// # Ok::<(), Fail>(())
 /// ```
 ///
-/// It goes from node to node. Once no accepted key begins with the bytes so far, it skips the pairs
+/// It goes from node to node. Once no accepted key begins with the bytes so far, it leaves out the pairs
 /// that begin with them and reads no node of them. Of a branch it enters no target whose edge the
-/// automaton does not want. It allocates for the longest key alone, and
-/// nothing for each pair: the stream's buffer, and one state a byte, which keys that begin alike
-/// share. If an allocation for a state fails, it reads the next key from an earlier byte.
+/// automaton does not want. It allocates for the longest key alone: the listing, and one state a byte,
+/// which keys that begin alike share. If an allocation for a state fails, it reads the next key from an
+/// earlier byte.
 #[derive(Clone)]
-pub struct ZeroTrieSearch<'a, T: Automaton, A: Allocator = Global> {
-    pairs: ZeroTrieStream<'a, A>,
+pub struct ZeroTrieSearch<'a, 'p, T: Automaton, A: Allocator = Global> {
+    pairs: ZeroTrieSorted<'a, 'p, A>,
     automaton: T,
     trail: Vec<(u8, T::State), A>,
     state: T::State,
 }
 
-impl<'a, T: Automaton, A: Allocator> ZeroTrieSearch<'a, T, A> {
+impl<'a, 'p, T: Automaton, A: Allocator> ZeroTrieSearch<'a, 'p, T, A> {
     /// Moves to the next pair whose key is accepted, and returns whether there is one. An error
     /// ends the search.
     ///
-    /// The only error is a failed allocation for a longer key or a deeper branch.
+    /// The only error is a failed allocation for a longer key. On malformed bytes the result is
+    /// unspecified; it never panics or reads outside them, and lists at most as many pairs as bytes.
     pub fn advance(&mut self) -> Result<bool, AllocError> {
         next_accepted(
             &self.automaton,
@@ -78,10 +82,10 @@ impl<'a, T: Automaton, A: Allocator> ZeroTrieSearch<'a, T, A> {
     }
 }
 
-impl<'a, T: Automaton, A: Allocator + Copy> ZeroTrieSearch<'a, T, A> {
-    /// Lists the pairs of a stream whose keys are accepted. It does not allocate before the first
-    /// call of `advance`.
-    pub fn new(alloc: A, pairs: ZeroTrieStream<'a, A>, automaton: T) -> Self {
+impl<'a, 'p, T: Automaton, A: Allocator + Copy> ZeroTrieSearch<'a, 'p, T, A> {
+    /// Lists the pairs of a sorted listing whose keys are accepted. It does not allocate before the
+    /// first call of `advance`.
+    pub fn new(alloc: A, pairs: ZeroTrieSorted<'a, 'p, A>, automaton: T) -> Self {
         let state = automaton.start();
         ZeroTrieSearch {
             pairs,
@@ -92,61 +96,41 @@ impl<'a, T: Automaton, A: Allocator + Copy> ZeroTrieSearch<'a, T, A> {
     }
 }
 
-impl<'a, T: Automaton, A: Allocator> PairStream for ZeroTrieSearch<'a, T, A> {
-    fn advance(&mut self) -> Result<bool, AllocError> {
-        ZeroTrieSearch::advance(self)
-    }
-
-    fn key(&self) -> &[u8] {
-        ZeroTrieSearch::key(self)
-    }
-
-    fn value(&self) -> usize {
-        ZeroTrieSearch::value(self)
-    }
-}
-
-/// Skips the pairs that come next in the open branches, as far as the automaton does not want their
-/// edges.
-fn pass_unwanted<'a, T: Automaton, A: Allocator>(
+/// Leaves out the targets of the branch that was opened last whose edges the automaton does not want, as
+/// far as memory was there for the states.
+#[inline]
+fn only_wanted<'a, 'p, T: Automaton, A: Allocator>(
     automaton: &T,
-    pairs: &mut ZeroTrieStream<'a, A>,
+    pairs: &mut ZeroTrieSorted<'a, 'p, A>,
     trail: &[(u8, T::State)],
 ) {
-    let mut above = usize::MAX;
-    while let Some(depth) = pairs.next_branch() {
-        if above <= depth || trail.len() < depth {
-            return;
-        }
-        above = depth;
-        let state = last_state(automaton, &trail[..depth]);
-        let Some(wanted) = automaton.wanted(state) else {
-            return;
-        };
-        pairs.pass(depth, &wanted);
+    if trail.len() < pairs.key().len() {
+        return;
+    }
+    if let Some(wanted) = automaton.wanted(last_state(automaton, trail)) {
+        pairs.only(&wanted);
     }
 }
 
-/// Moves a stream to the next pair whose key is accepted.
-fn next_accepted<'a, T: Automaton, A: Allocator>(
+/// Moves a sorted listing to the next pair whose key is accepted.
+fn next_accepted<'a, 'p, T: Automaton, A: Allocator>(
     automaton: &T,
-    pairs: &mut ZeroTrieStream<'a, A>,
+    pairs: &mut ZeroTrieSorted<'a, 'p, A>,
     trail: &mut Vec<(u8, T::State), A>,
     state: &mut T::State,
 ) -> Result<bool, AllocError> {
     loop {
-        pass_unwanted(automaton, pairs, trail.as_slice());
         match pairs.advance_node()? {
             Reached::End => return Ok(false),
-            Reached::Branch => {}
+            Reached::Branch => only_wanted(automaton, pairs, trail.as_slice()),
             Reached::Bytes(kept) => match read(automaton, pairs.key(), kept, trail) {
                 Verdict::Alive(_after) => {}
-                Verdict::Dead(depth) => pairs.skip(depth),
+                Verdict::Dead(depth) => pairs.leave(depth),
             },
             Reached::Pair => {
                 let key = pairs.key();
                 match read(automaton, key, key.len(), trail) {
-                    Verdict::Dead(depth) => pairs.skip(depth),
+                    Verdict::Dead(depth) => pairs.leave(depth),
                     Verdict::Alive(after) => {
                         if automaton.is_match(after) {
                             *state = after;

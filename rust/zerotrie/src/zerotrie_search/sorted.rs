@@ -8,14 +8,12 @@ mod edges;
 mod fork;
 mod iterator;
 mod path;
-mod search;
 mod seek;
 mod walk;
 
 pub(in crate::made::zerotrie_search) use back::last_between;
 use fork::{Fork, drop_inner, narrow_inner};
 pub use iterator::ZeroTrieSortedIterator;
-pub use search::ZeroTrieSortedSearch;
 use seek::seek_of;
 use crate::rstd::alloc::{AllocError, Allocator, Global};
 use crate::rstd::cmp::Ordering;
@@ -29,7 +27,7 @@ use crate::zerotrie_core::{
 /// Lists the pairs of a trie of any kind in the order of bytes, each key borrowed from one buffer.
 ///
 /// ```
-/// # use zerotrie::{rstd::examples::*, zerotrie_search::*, zerotrie_base::*, zerotrie_core::*, zerotrie_any::*, zerotrie_ascii::*, zerotrie_hashed::*};
+/// # use zerotrie::{rstd::examples::*, zerotrie_search::*, zerotrie_base::*, zerotrie_core::*};
 /// use zerotrie::rstd::ops::Bound;
 ///
 /// // the keys "ab", "ac" and "b" with values 1, 2 and 3
@@ -108,6 +106,22 @@ fn start_at<'a, A: Allocator>(found: Option<&'a [u8]>, forks: &mut Vec<Fork<'a>,
 }
 
 impl<'a, 'p, A: Allocator + Copy> ZeroTrieSorted<'a, 'p, A> {
+    /// Lists all pairs, for the kind that the options name.
+    pub(in crate::made::zerotrie_search) fn all(alloc: A, options: ZeroTrieBuilderOptions, bytes: &'a [u8]) -> Self {
+        ZeroTrieSorted {
+            options,
+            bytes,
+            to: Bound::Unbounded,
+            key: Vec::new(alloc),
+            rest: bytes,
+            forks: Vec::new(alloc),
+            value: 0,
+            most: bytes.len(),
+            found: false,
+            ended: false,
+        }
+    }
+
     /// Lists the pairs whose keys are between two bounds. Allocates for the key of the lower one.
     pub fn new<K: ZeroTrieWithOptions>(
         alloc: A,
@@ -240,7 +254,7 @@ impl<'a, 'p, A: Allocator> ZeroTrieSorted<'a, 'p, A> {
     /// key. They are the next ones. If the last call of `advance` found no pair, it does nothing.
     ///
     /// ```
-    /// # use zerotrie::{rstd::examples::*, zerotrie_search::*, zerotrie_base::*, zerotrie_core::*, zerotrie_any::*, zerotrie_ascii::*, zerotrie_hashed::*};
+    /// # use zerotrie::{rstd::examples::*, zerotrie_search::*, zerotrie_base::*, zerotrie_core::*};
     /// use zerotrie::rstd::ops::Bound;
     ///
     /// // the keys "ab", "ac" and "b" with values 1, 2 and 3
@@ -279,7 +293,7 @@ impl<'a, 'p, A: Allocator> ZeroTrieSorted<'a, 'p, A> {
     /// unspecified.
     ///
     /// ```
-    /// # use zerotrie::{rstd::examples::*, zerotrie_search::*, zerotrie_base::*, zerotrie_core::*, zerotrie_any::*, zerotrie_ascii::*, zerotrie_hashed::*};
+    /// # use zerotrie::{rstd::examples::*, zerotrie_search::*, zerotrie_base::*, zerotrie_core::*};
     /// use zerotrie::rstd::ops::Bound;
     ///
     /// let bytes = b"a\x85";        // the key "a" with value 5

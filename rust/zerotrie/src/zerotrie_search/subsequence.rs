@@ -7,7 +7,7 @@ use crate::zerotrie_search::automaton::Automaton;
 /// them.
 ///
 /// ```
-/// # use zerotrie::{rstd::examples::*, zerotrie_search::*, zerotrie_base::*, zerotrie_core::*, zerotrie_any::*, zerotrie_ascii::*, zerotrie_hashed::*};
+/// # use zerotrie::{rstd::examples::*, zerotrie_search::*, zerotrie_base::*, zerotrie_core::*};
 /// let automaton = Subsequence(b"ae");
 /// let mut state = automaton.start();
 /// for byte in b"trade" {

@@ -3,14 +3,15 @@
 
 use crate::rstd::prelude::*;
 use crate::zerotrie_search::automaton::Automaton;
+use crate::zerotrie_search::combination::Both;
 use crate::zerotrie_search::fuzzy::Fuzzy;
 use crate::zerotrie_search::nearest::ZeroTrieNearest;
-use crate::zerotrie_search::range::KeyRange;
+use crate::zerotrie_search::prefix::KindPrefix;
 use crate::zerotrie_search::search::ZeroTrieSearch;
-use crate::zerotrie_search::sorted::{ZeroTrieSorted, ZeroTrieSortedIterator, ZeroTrieSortedSearch, last_between};
+use crate::zerotrie_search::sorted::{ZeroTrieSorted, ZeroTrieSortedIterator, last_between};
 use crate::rstd::alloc::{AllocError, Global};
 use crate::rstd::ops::Bound;
-use crate::zerotrie_core::{Trie, TrieKind, ZeroTrieBuilderOptions, ZeroTrieStream, by_kind};
+use crate::zerotrie_core::{Trie, TrieKind, ZeroTrieBuilderOptions, by_kind};
 
 /// Returns the options of a kind.
 fn options_of(kind: TrieKind) -> ZeroTrieBuilderOptions {
@@ -20,7 +21,7 @@ fn options_of(kind: TrieKind) -> ZeroTrieBuilderOptions {
 /// A trie whose pairs can be searched: each type of trie, over each store.
 ///
 /// ```
-/// # use zerotrie::{rstd::examples::*, zerotrie_search::*, zerotrie_base::*, zerotrie_core::*, zerotrie_any::*, zerotrie_ascii::*, zerotrie_hashed::*};
+/// # use zerotrie::{rstd::examples::*, zerotrie_search::*, zerotrie_base::*, zerotrie_core::*};
 /// let words = [("trial", 1), ("trie", 2), ("trio", 3)];
 /// let trie = ZeroTrieSimpleAscii::try_from_iter(Global, words)?;
 /// let mut search = trie.search(Global, Subsequence(b"ta"));
@@ -30,45 +31,76 @@ fn options_of(kind: TrieKind) -> ZeroTrieBuilderOptions {
 /// # Ok::<(), Fail>(())
 /// ```
 ///
-/// A search lists the accepted pairs in the order of the trie's `stream`. It does not allocate for
-/// each pair. On malformed bytes it ends too: it lists at most as many pairs as bytes.
+/// A search lists the accepted pairs in ascending order of the bytes of their keys, in every kind. It does
+/// not allocate for each pair. On malformed bytes it ends too: it lists at most as many pairs as bytes.
 pub trait Search: Trie {
     /// Lists the pairs whose keys an automaton accepts.
-    fn search<T: Automaton>(&self, alloc: Global, automaton: T) -> ZeroTrieSearch<'_, T> {
-        ZeroTrieSearch::new(alloc, self.stream(alloc), automaton)
+    fn search<T: Automaton>(&self, alloc: Global, automaton: T) -> ZeroTrieSearch<'_, '_, T> {
+        let (options, bytes) = (options_of(self.trie_kind()), self.as_bytes());
+        let pairs = ZeroTrieSorted::all(alloc, options, bytes);
+        ZeroTrieSearch::new(alloc, pairs, automaton)
     }
 
     /// Lists the pairs whose keys begin with a prefix, as the kind compares bytes, and whose whole
     /// keys an automaton accepts.
     ///
     /// ```
-    /// # use zerotrie::{rstd::examples::*, zerotrie_search::*, zerotrie_base::*, zerotrie_core::*, zerotrie_any::*, zerotrie_ascii::*, zerotrie_hashed::*};
+    /// # use zerotrie::{rstd::examples::*, zerotrie_search::*, zerotrie_base::*, zerotrie_core::*};
     /// let words = [("strip", 1), ("trial", 2), ("trip", 3)];
     /// let trie = ZeroTrieSimpleAscii::try_from_iter(Global, words)?;
-    /// let mut search = trie.search_prefix(Global, b"t", Subsequence(b"ip"))?;
+    /// let mut search = trie.search_prefix(Global, b"t", Subsequence(b"ip"));
     /// assert!(search.advance()?);
     /// assert_eq!(search.value(), 3);
     /// assert!(!search.advance()?);
     /// # Ok::<(), Fail>(())
     /// ```
-    ///
-    /// An error means that an allocation failed.
-    fn search_prefix<T: Automaton>(
+    fn search_prefix<'p, T: Automaton>(
         &self,
         alloc: Global,
-        prefix: &[u8],
+        prefix: &'p [u8],
         automaton: T,
-    ) -> Result<ZeroTrieSearch<'_, T>, AllocError> {
-        let pairs = self.stream_prefix(alloc, prefix)?;
+    ) -> ZeroTrieSearch<'_, '_, Both<KindPrefix<'p>, T>> {
+        let kind = self.trie_kind();
+        self.search(alloc, Both(KindPrefix { kind, prefix }, automaton))
+    }
+
+    /// Lists the pairs whose keys are between two bounds and that an automaton accepts.
+    ///
+    /// ```
+    /// # use zerotrie::{rstd::examples::*, zerotrie_search::*, zerotrie_base::*, zerotrie_core::*};
+    /// use zerotrie::rstd::ops::Bound;
+    ///
+    /// let words = [("trial", 1), ("trie", 2), ("trio", 3), ("true", 4)];
+    /// let trie = ZeroTriePerfectHash::try_from_iter(Global, words)?;
+    /// let from = Bound::Excluded(b"trial".as_slice());
+    /// let with_i = Subsequence(b"i");
+    /// let mut search = trie.search_range(Global, from, Bound::Unbounded, with_i)?;
+    /// assert!(search.advance()?);
+    /// assert_eq!((search.key(), search.value()), (b"trie".as_slice(), 2));
+    /// assert!(search.advance()?);
+    /// assert_eq!((search.key(), search.value()), (b"trio".as_slice(), 3));
+    /// assert!(!search.advance()?);
+    /// # Ok::<(), Fail>(())
+    /// ```
+    ///
+    /// So a program continues a search behind the last key that it read. It reads no node of keys that
+    /// begin as no accepted key does. An error means that an allocation failed.
+    fn search_range<'p, T: Automaton>(
+        &self,
+        alloc: Global,
+        from: Bound<&[u8]>,
+        to: Bound<&'p [u8]>,
+        automaton: T,
+    ) -> Result<ZeroTrieSearch<'_, 'p, T>, AllocError> {
+        let pairs = self.stream_sorted(alloc, from, to)?;
         Ok(ZeroTrieSearch::new(alloc, pairs, automaton))
     }
 
-    /// Lists the pairs that come after a key, of those whose keys begin with a prefix, or of all
-    /// pairs if the prefix is empty, and whose whole keys an automaton accepts. Lists none if no
-    /// such pair has the key.
+    /// Lists the pairs whose keys come after one, begin with a prefix as the kind compares bytes, and
+    /// are accepted as a whole by an automaton.
     ///
     /// ```
-    /// # use zerotrie::{rstd::examples::*, zerotrie_search::*, zerotrie_base::*, zerotrie_core::*, zerotrie_any::*, zerotrie_ascii::*, zerotrie_hashed::*};
+    /// # use zerotrie::{rstd::examples::*, zerotrie_search::*, zerotrie_base::*, zerotrie_core::*};
     /// let words = [("trial", 1), ("trie", 2), ("trio", 3)];
     /// let trie = ZeroTrieSimpleAscii::try_from_iter(Global, words)?;
     /// let mut search = trie.search_after(Global, b"", b"trial", Subsequence(b"tr"))?;
@@ -77,54 +109,24 @@ pub trait Search: Trie {
     /// # Ok::<(), Fail>(())
     /// ```
     ///
-    /// So a program can continue a search from the last key that it read, at the cost of a look-up
-    /// of that key. An error means that an allocation failed.
-    fn search_after<T: Automaton>(
+    /// So a program continues a search behind the last key that it read. An error means that an
+    /// allocation failed.
+    fn search_after<'p, T: Automaton>(
         &self,
         alloc: Global,
-        prefix: &[u8],
+        prefix: &'p [u8],
         key: &[u8],
         automaton: T,
-    ) -> Result<ZeroTrieSearch<'_, T>, AllocError> {
-        let bytes = self.as_bytes();
-        let pairs = by_kind!(
-            self.trie_kind(),
-            ZeroTrieStream::after::<_>(alloc, bytes, prefix, key)
-        )?;
-        Ok(ZeroTrieSearch::new(alloc, pairs, automaton))
-    }
-
-    /// Lists the pairs whose keys are between two bounds, by the order of bytes, in the order of
-    /// `stream`.
-    ///
-    /// ```
-    /// # use zerotrie::{rstd::examples::*, zerotrie_search::*, zerotrie_base::*, zerotrie_core::*, zerotrie_any::*, zerotrie_ascii::*, zerotrie_hashed::*};
-    /// use zerotrie::rstd::ops::Bound;
-    ///
-    /// let words = [("trial", 1), ("trie", 2), ("trio", 3)];
-    /// let trie = ZeroTrieSimpleAscii::try_from_iter(Global, words)?;
-    /// let (from, to) = (Bound::Excluded(b"trial".as_slice()), Bound::Included(b"trie".as_slice()));
-    /// let mut range = trie.search_range(Global, from, to);
-    /// assert!(range.advance()?);
-    /// assert_eq!(range.value(), 2);
-    /// assert!(!range.advance()?);
-    /// # Ok::<(), Fail>(())
-    /// ```
-    ///
-    /// `stream_sorted` lists the same pairs in the order of bytes in every kind.
-    fn search_range<'p>(
-        &self,
-        alloc: Global,
-        from: Bound<&'p [u8]>,
-        to: Bound<&'p [u8]>,
-    ) -> ZeroTrieSearch<'_, KeyRange<'p>> {
-        self.search(alloc, KeyRange { from, to })
+    ) -> Result<ZeroTrieSearch<'_, 'p, Both<KindPrefix<'p>, T>>, AllocError> {
+        let kind = self.trie_kind();
+        let both = Both(KindPrefix { kind, prefix }, automaton);
+        self.search_range(alloc, Bound::Excluded(key), Bound::Unbounded, both)
     }
 
     /// Lists the pairs whose keys are between two bounds in ascending order of bytes, in every kind.
     ///
     /// ```
-    /// # use zerotrie::{rstd::examples::*, zerotrie_search::*, zerotrie_base::*, zerotrie_core::*, zerotrie_any::*, zerotrie_ascii::*, zerotrie_hashed::*};
+    /// # use zerotrie::{rstd::examples::*, zerotrie_search::*, zerotrie_base::*, zerotrie_core::*};
     /// use zerotrie::rstd::ops::Bound;
     ///
     /// let words = [("trial", 1), ("trie", 2), ("trio", 3)];
@@ -149,48 +151,15 @@ pub trait Search: Trie {
         Ok(sorted)
     }
 
-    /// Lists the pairs whose keys are between two bounds and that an automaton accepts, in ascending
-    /// order of bytes, in every kind.
-    ///
-    /// ```
-    /// # use zerotrie::{rstd::examples::*, zerotrie_search::*, zerotrie_base::*, zerotrie_core::*, zerotrie_any::*, zerotrie_ascii::*, zerotrie_hashed::*};
-    /// use zerotrie::rstd::ops::Bound;
-    ///
-    /// let words = [("trial", 1), ("trie", 2), ("trio", 3), ("true", 4)];
-    /// let trie = ZeroTriePerfectHash::try_from_iter(Global, words)?;
-    /// let from = Bound::Excluded(b"trial".as_slice());
-    /// let with_i = Subsequence(b"i");
-    /// let mut search = trie.search_sorted(Global, from, Bound::Unbounded, with_i)?;
-    /// assert!(search.advance()?);
-    /// assert_eq!((search.key(), search.value()), (b"trie".as_slice(), 2));
-    /// assert!(search.advance()?);
-    /// assert_eq!((search.key(), search.value()), (b"trio".as_slice(), 3));
-    /// assert!(!search.advance()?);
-    /// # Ok::<(), Fail>(())
-    /// ```
-    ///
-    /// It reads no node of keys that begin as no accepted key does. An error means that an allocation
-    /// failed.
-    fn search_sorted<'p, T: Automaton>(
-        &self,
-        alloc: Global,
-        from: Bound<&[u8]>,
-        to: Bound<&'p [u8]>,
-        automaton: T,
-    ) -> Result<ZeroTrieSortedSearch<'_, 'p, T>, AllocError> {
-        let pairs = self.stream_sorted(alloc, from, to)?;
-        Ok(ZeroTrieSortedSearch::new(alloc, pairs, automaton))
-    }
-
     /// Lists the pairs whose keys few edits make of a word, the nearest first, and those that are as near
     /// in the order of bytes.
     ///
     /// ```
-    /// # use zerotrie::{rstd::examples::*, zerotrie_search::*, zerotrie_base::*, zerotrie_core::*, zerotrie_any::*, zerotrie_ascii::*, zerotrie_hashed::*};
+    /// # use zerotrie::{rstd::examples::*, zerotrie_search::*, zerotrie_base::*, zerotrie_core::*};
     /// let words = [("trial", 1), ("trie", 2), ("tries", 3), ("trio", 4)];
     /// let trie = ZeroTriePerfectHash::try_from_iter(Global, words)?;
     /// let word = LevenshteinChars::new("trie", 1).ok_or("a long word")?;
-    /// let mut nearest = trie.nearest(Global, word)?;
+    /// let mut nearest = trie.nearest(Global, word);
     /// assert!(nearest.advance()?);
     /// assert_eq!((nearest.key(), nearest.value()), (b"trie".as_slice(), 2));
     /// assert_eq!(nearest.distance(), 0);
@@ -204,12 +173,8 @@ pub trait Search: Trie {
     /// ```
     ///
     /// It searches as it is asked. On malformed bytes it lists at most as many pairs as bytes for each
-    /// number of edits. An error means that an allocation failed.
-    fn nearest<T: Fuzzy>(
-        &self,
-        alloc: Global,
-        automaton: T,
-    ) -> Result<ZeroTrieNearest<'_, T>, AllocError> {
+    /// number of edits.
+    fn nearest<T: Fuzzy>(&self, alloc: Global, automaton: T) -> ZeroTrieNearest<'_, T> {
         let (options, bytes) = (options_of(self.trie_kind()), self.as_bytes());
         ZeroTrieNearest::with_options(alloc, options, bytes, automaton)
     }
@@ -218,7 +183,7 @@ pub trait Search: Trie {
     /// bytes. Each key is in memory of its own.
     ///
     /// ```
-    /// # use zerotrie::{rstd::examples::*, zerotrie_search::*, zerotrie_base::*, zerotrie_core::*, zerotrie_any::*, zerotrie_ascii::*, zerotrie_hashed::*};
+    /// # use zerotrie::{rstd::examples::*, zerotrie_search::*, zerotrie_base::*, zerotrie_core::*};
     /// use zerotrie::rstd::ops::Bound;
     ///
     /// let words = [("trial", 1), ("trie", 2), ("trio", 3)];
@@ -247,7 +212,7 @@ pub trait Search: Trie {
     /// there is none.
     ///
     /// ```
-    /// # use zerotrie::{rstd::examples::*, zerotrie_search::*, zerotrie_base::*, zerotrie_core::*, zerotrie_any::*, zerotrie_ascii::*, zerotrie_hashed::*};
+    /// # use zerotrie::{rstd::examples::*, zerotrie_search::*, zerotrie_base::*, zerotrie_core::*};
     /// let words = [("trial", 1), ("trie", 2), ("trio", 3)];
     /// let trie = ZeroTriePerfectHash::try_from_iter(Global, words)?;
     /// let (key, value) = trie.first_from(Global, b"tribe")?.ok_or("none")?;
@@ -268,7 +233,7 @@ pub trait Search: Trie {
     /// there is none.
     ///
     /// ```
-    /// # use zerotrie::{rstd::examples::*, zerotrie_search::*, zerotrie_base::*, zerotrie_core::*, zerotrie_any::*, zerotrie_ascii::*, zerotrie_hashed::*};
+    /// # use zerotrie::{rstd::examples::*, zerotrie_search::*, zerotrie_base::*, zerotrie_core::*};
     /// let words = [("trial", 1), ("trie", 2), ("trio", 3)];
     /// let trie = ZeroTriePerfectHash::try_from_iter(Global, words)?;
     /// let (key, value) = trie.first_after(Global, b"trie")?.ok_or("none")?;
@@ -287,7 +252,7 @@ pub trait Search: Trie {
     /// there is none.
     ///
     /// ```
-    /// # use zerotrie::{rstd::examples::*, zerotrie_search::*, zerotrie_base::*, zerotrie_core::*, zerotrie_any::*, zerotrie_ascii::*, zerotrie_hashed::*};
+    /// # use zerotrie::{rstd::examples::*, zerotrie_search::*, zerotrie_base::*, zerotrie_core::*};
     /// let words = [("trial", 1), ("trie", 2), ("trio", 3)];
     /// let trie = ZeroTriePerfectHash::try_from_iter(Global, words)?;
     /// let (key, value) = trie.last_before(Global, b"trie")?.ok_or("none")?;
@@ -306,7 +271,7 @@ pub trait Search: Trie {
     /// if there is none.
     ///
     /// ```
-    /// # use zerotrie::{rstd::examples::*, zerotrie_search::*, zerotrie_base::*, zerotrie_core::*, zerotrie_any::*, zerotrie_ascii::*, zerotrie_hashed::*};
+    /// # use zerotrie::{rstd::examples::*, zerotrie_search::*, zerotrie_base::*, zerotrie_core::*};
     /// use zerotrie::rstd::ops::Bound;
     ///
     /// let words = [("trial", 1), ("trie", 2), ("trio", 3)];

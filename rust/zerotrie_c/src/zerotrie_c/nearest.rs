@@ -7,7 +7,7 @@ use crate::zerotrie_c::numbers::{
 };
 use crate::zerotrie_c::parts::{Page, put_at};
 use crate::zerotrie_c::searches::{search_by, word_of};
-use crate::rstd::alloc::{AllocError, Global};
+use crate::rstd::alloc::Global;
 use crate::zerotrie_search::{AnyAutomaton, ByKind, Fuzzy, Search, SearchBy, ZeroTrieNearest};
 
 /// Returns how edits are counted, by the number of the search, or `None` if no search with edits has it.
@@ -18,19 +18,15 @@ fn edits_by(number: u32, edits: u32) -> Option<SearchBy> {
     }
 }
 
-/// Writes the next pairs of a listing of the nearest, as many as the rooms have places for. Without a
-/// listing, an allocation failed.
+/// Writes the next pairs of a listing of the nearest, as many as the rooms have places for.
 fn fill_nearest<T: Fuzzy>(
-    listing: Result<ZeroTrieNearest<'_, T>, AllocError>,
+    mut pairs: ZeroTrieNearest<'_, T>,
     next_len: usize,
     keys: &mut [u8],
     ends: &mut [usize],
     values: &mut [usize],
     distances: &mut [usize],
 ) -> Page {
-    let Ok(mut pairs) = listing else {
-        return Page::new(OUT_OF_MEMORY, 0, next_len);
-    };
     let mut count = 0;
     let mut used = 0;
     let room = ends.len().min(values.len()).min(distances.len());

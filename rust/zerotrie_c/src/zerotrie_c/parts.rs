@@ -73,7 +73,7 @@ pub fn fill<L: TrieListing>(
     }
 }
 
-/// Returns the pairs of a prefix that are left of a listing.
+/// Returns the pairs of a prefix that are left of a listing, in the order of the trie.
 pub fn left_of<'a>(
     alloc: Global,
     trie: &'a TrieRef<'_>,

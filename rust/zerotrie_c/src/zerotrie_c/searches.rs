@@ -7,13 +7,13 @@ use crate::zerotrie_c::numbers::{
     DONE, MALFORMED_SEARCH, OUT_OF_MEMORY, SEARCH_TOO_LONG, TOO_MANY_EDITS, UNKNOWN_KIND,
     UNKNOWN_SEARCH, trie_of,
 };
-use crate::zerotrie_c::parts::{Page, fill, left_of};
+use crate::zerotrie_c::parts::{Page, fill};
 use crate::rstd::alloc::Global;
 use crate::rstd::ops::Bound;
-use crate::zerotrie_core::{TrieKind, ZeroTrieStream};
+use crate::zerotrie_core::TrieKind;
 use crate::zerotrie_search::{
-    AnyAutomaton, Automaton, BeginsWith, ByKind, KeyRange, SearchBy, WordError, ZeroTrieSearch,
-    by_automaton,
+    AnyAutomaton, Automaton, BeginsWith, Both, ByKind, KeyRange, KindPrefix, Search as _, SearchBy,
+    WordError, ZeroTrieSearch, ZeroTrieSorted, by_automaton,
 };
 
 /// What is searched, with C's layout. `by` is the number of how keys are found, and the bounds are
@@ -101,54 +101,73 @@ pub fn zerotrie_search_check(search: &Search<'_>) -> u32 {
     }
 }
 
-/// Writes the next pairs of a stream whose keys an automaton accepts as a kind compares them, or begin
-/// with such a key.
+/// Returns the lower bound of what a listing has left: above the last key that it gave, if it goes on.
+fn bound_after(goes_on: bool, last: &[u8]) -> Bound<&[u8]> {
+    if goes_on {
+        Bound::Excluded(last)
+    } else {
+        Bound::Unbounded
+    }
+}
+
+/// What is searched: the pairs that are left, of these the keys with a prefix, and whether keys need only
+/// begin with one that is found.
+struct Asked<'t, 'p> {
+    pairs: ZeroTrieSorted<'t, 'p>,
+    prefix: KindPrefix<'p>,
+    beginnings: bool,
+}
+
+/// Writes the next pairs whose keys an automaton accepts as their kind compares them.
 fn fill_accepted<T: Automaton>(
     alloc: Global,
-    pairs: ZeroTrieStream<'_>,
-    kind: TrieKind,
+    asked: Asked<'_, '_>,
     automaton: T,
-    beginnings: bool,
     next_len: usize,
     keys: &mut [u8],
     ends: &mut [usize],
     values: &mut [usize],
 ) -> Page {
-    if beginnings {
-        let begun = ZeroTrieSearch::new(alloc, pairs, BeginsWith(ByKind(kind, automaton)));
+    let (pairs, prefix) = (asked.pairs, asked.prefix);
+    if asked.beginnings {
+        let begins = Both(BeginsWith(ByKind(prefix.kind, automaton)), prefix);
+        let begun = ZeroTrieSearch::new(alloc, pairs, begins);
         return fill(Ok(begun), next_len, keys, ends, values);
     }
-    if folding::ignores_case(kind) {
-        let folded = ZeroTrieSearch::new(alloc, pairs, ByKind(kind, automaton));
+    if folding::ignores_case(prefix.kind) {
+        let folds = Both(ByKind(prefix.kind, automaton), prefix);
+        let folded = ZeroTrieSearch::new(alloc, pairs, folds);
         return fill(Ok(folded), next_len, keys, ends, values);
     }
-    let search = ZeroTrieSearch::new(alloc, pairs, automaton);
+    let search = ZeroTrieSearch::new(alloc, pairs, Both(automaton, prefix));
     fill(Ok(search), next_len, keys, ends, values)
 }
 
-/// Writes the next pairs of a stream that are sought, with keys as a kind compares them.
+/// Writes the next pairs that are sought, with keys as their kind compares them.
 fn fill_sought(
     alloc: Global,
-    pairs: ZeroTrieStream<'_>,
-    kind: TrieKind,
+    asked: Asked<'_, '_>,
     sought: AnyAutomaton<'_>,
-    beginnings: bool,
     next_len: usize,
     keys: &mut [u8],
     ends: &mut [usize],
     values: &mut [usize],
 ) -> Page {
     by_automaton!(sought, automaton => fill_accepted(
-        alloc, pairs, kind, automaton, beginnings, next_len, keys, ends, values,
+        alloc, asked, automaton, next_len, keys, ends, values,
     ))
 }
 
-/// Like `zerotrie_list_some`, of those pairs whose keys a search finds: a range, a pattern, bytes in
-/// their order, or a word with few edits, and with `beginnings` also the keys that begin with one
-/// that it finds.
+/// Writes the pairs that a search finds, of those whose keys begin with a prefix, in the order of bytes
+/// in every kind, as many as the rooms have places for: a range, a pattern, bytes in their order, or a word
+/// with few edits, and with `beginnings` also the keys that begin with one that it finds.
 ///
-/// In the kind that ignores case, keys, bounds and words are compared in lower case, and the letters of a
+/// The rooms, `count`, `next_len`, the status, and how a call continues are as in `zerotrie_list_some`. In
+/// the kind that ignores case, keys, bounds and words are compared in lower case, and the letters of a
 /// pattern are taken in both cases. A search that has no meaning is refused, and then nothing is written.
+///
+/// On malformed bytes it does the same for some pairs that the search finds, at most as many as there are
+/// bytes.
 pub fn zerotrie_search_some(
     alloc: Global,
     kind: u32,
@@ -178,21 +197,18 @@ pub fn zerotrie_search_some(
         Ok(sought) => sought,
         Err(status) => return status,
     };
-    match left_of(alloc, &trie, prefix, goes_on, last) {
-        Ok(pairs) => fill_sought(
-            alloc,
-            pairs,
-            trie.kind,
-            sought,
-            search.beginnings,
-            *next_len,
-            keys,
-            ends,
-            values,
-        )
-        .unpack(count, next_len),
-        Err(_) => Page::new(OUT_OF_MEMORY, 0, *next_len).unpack(count, next_len),
-    }
+    let Ok(pairs) = trie.stream_sorted(alloc, bound_after(goes_on, last), Bound::Unbounded) else {
+        return Page::new(OUT_OF_MEMORY, 0, *next_len).unpack(count, next_len);
+    };
+    let asked = Asked {
+        pairs,
+        prefix: KindPrefix {
+            kind: trie.kind,
+            prefix,
+        },
+        beginnings: search.beginnings,
+    };
+    fill_sought(alloc, asked, sought, *next_len, keys, ends, values).unpack(count, next_len)
 }
 
 /// The functions as C calls them: a slice is a pointer and a number of items.

@@ -1,11 +1,11 @@
 // Made from crates/zerotrie_queries/src/kept.rt by rust/make: edit that.
 //! The conditions of a choice but that of its word, as an automaton.
 
-use crate::zerotrie_queries::prefix::KindPrefix;
 use crate::zerotrie_queries::question::{Choice, Pattern};
 use crate::zerotrie_core::TrieKind;
 use crate::zerotrie_search::{
-    AnyAutomaton, Automaton, Both, ByKind, Either, Glob, GlobChars, KeyRange, Not, SearchBy,
+    AnyAutomaton, Automaton, Both, ByKind, Either, Glob, GlobChars, KeyRange, KindPrefix, Not,
+    SearchBy,
 };
 
 /// Accepts what the automaton does, and without one no key.

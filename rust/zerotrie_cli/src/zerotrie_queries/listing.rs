@@ -7,14 +7,15 @@ mod distances;
 mod forms;
 mod json_object;
 mod listed;
+mod printable;
 
 use crate::zerotrie_queries::folding::FoldedWords;
 use crate::zerotrie_queries::listing::distances::Distances;
-use crate::zerotrie_queries::listing::forms::{write_lines, write_pairs};
-use crate::zerotrie_queries::listing::json_object::first_no_text;
+use crate::zerotrie_queries::listing::forms::write_pairs;
 use crate::zerotrie_queries::listing::listed::listed;
+use crate::zerotrie_queries::listing::printable::{first_unprintable_of, takes_all_keys};
 use crate::zerotrie_queries::print::Form;
-use crate::zerotrie_queries::question::{Choice, ListQuery, Order};
+use crate::zerotrie_queries::question::ListQuery;
 use crate::rstd::alloc::{AllocError, Global};
 use crate::rstd::io;
 use crate::rstd::io::Write;
@@ -24,8 +25,9 @@ use crate::zerotrie_files::Noted;
 /// Why pairs are not listed, or not all of them.
 #[derive(Debug)]
 pub enum ListError {
-    /// The pairs can't be one JSON object, since this key is not UTF-8. It is the first such key.
-    NotText(Vec<u8>),
+    /// This key, the first such one, can't be printed in the form: as JSON one that is not UTF-8, and as
+    /// it is before a tab one that has a tab or a line feed.
+    Unprintable(Vec<u8>),
     /// The output failed, or memory was refused.
     Failed(io::Error),
 }
@@ -36,8 +38,7 @@ impl From<io::Error> for ListError {
     }
 }
 
-/// Returns the first key of a selection that can't be printed in a form: as one JSON object the first
-/// that is not UTF-8.
+/// Returns the first key of a selection that can't be printed in a form, if there is one.
 fn first_unprintable(
     alloc: Global,
     trie: &TrieRef<'_>,
@@ -45,13 +46,11 @@ fn first_unprintable(
     words: &FoldedWords,
     selection: ListQuery<'_>,
 ) -> Result<Option<Vec<u8>>, AllocError> {
-    match form {
-        Form::Lines(_) | Form::Count => Ok(None),
-        Form::Json => {
-            let pairs = listed(alloc, trie, words, selection)?;
-            first_no_text(alloc, pairs)
-        }
+    if takes_all_keys(form) {
+        return Ok(None);
     }
+    let pairs = listed(alloc, trie, words, selection)?;
+    first_unprintable_of(alloc, form, pairs)
 }
 
 /// Writes the pairs of a selection, or returns the first key that can't be printed in the form, and writes
@@ -68,37 +67,13 @@ fn write_selection<W: Write>(
         return Ok(Some(key));
     }
     let pairs = listed(alloc, trie, &words, selection)?;
-    write_pairs(alloc, form, pairs, output)?;
+    let edits = Distances::of(trie.kind, words.in_place_of(selection.choice));
+    write_pairs(alloc, form, &edits, pairs, output)?;
     Ok(None)
 }
 
 /// Writes the pairs of a selection: the first whose keys are chosen, in its order. It allocates nothing
 /// for a pair alone.
-///
-/// It validates no bytes. If they are malformed, it writes pairs that it finds there, and which is
-/// unspecified. In the order of the trie it reads no part of it in which no such key can be. In the order of
-/// bytes it reads the part between the bounds of the range or, if there are none and the kind does not
-/// ignore case, the part with the prefix, and skips the keys that begin as none of these keys does.
-///
-/// The error is `NotText` exactly if the form is one JSON object and one of these keys is not
-/// UTF-8, and then nothing was written. After another error a beginning of the answer was.
-pub fn write_list<W: Write>(
-    alloc: Global,
-    trie: &TrieRef<'_>,
-    form: Form,
-    selection: ListQuery<'_>,
-    output: &mut Noted<W>,
-) -> Result<(), ListError> {
-    match write_selection(alloc, trie, form, selection, output)? {
-        None => Ok(()),
-        Some(key) => Err(ListError::NotText(key)),
-    }
-}
-
-/// Writes the first pairs whose keys are chosen, the nearest first, a line each: the key with escapes, a
-/// tab, the value, a tab, and how many edits make the key of the word. They are at most as many as the limit
-/// says, or all. The edits are 0 if there is no word, if keys are not sought by edits, or if they need only
-/// begin with one that the word finds.
 ///
 /// ```
 /// // the keys "ab", "ac" and "b" with values 1, 2 and 3
@@ -119,27 +94,32 @@ pub fn write_list<W: Write>(
 ///         begins: false,
 ///     }),
 /// };
+/// let nearest = ListQuery {
+///     choice,
+///     order: Order::Nearest,
+///     limit: None,
+/// };
 /// let mut lines = Noted::new(Vec::new(rt.alloc()));
-/// write_distances(rt.alloc(), &trie, choice, None, &mut lines)?;
+/// write_list(rt.alloc(), &trie, Form::Distances, nearest, &mut lines)?;
 /// assert_eq!(rt; lines.get_ref().as_slice(), b"ab\t1\t0\nac\t2\t1\nb\t3\t1\n");
 /// ```
 ///
-/// It validates no bytes. If they are malformed, it writes lines of pairs that it finds there, and which is
-/// unspecified. After an error a beginning of the lines was written.
-pub fn write_distances<W: Write>(
+/// It validates no bytes. If they are malformed, it writes pairs that it finds there, and which is
+/// unspecified. In the order of the trie it reads the part with the prefix. In the order of bytes it reads
+/// the part between the bounds of the range or, if there are none and the kind does not ignore case, the
+/// part with the prefix, and skips the keys that begin as none of these keys does.
+///
+/// The error is `Unprintable` exactly if one of these keys can't be printed in the form, and then nothing
+/// was written. After another error a beginning of the answer was.
+pub fn write_list<W: Write>(
     alloc: Global,
     trie: &TrieRef<'_>,
-    choice: Choice<'_>,
-    limit: Option<usize>,
+    form: Form,
+    selection: ListQuery<'_>,
     output: &mut Noted<W>,
-) -> io::Result<()> {
-    let words = FoldedWords::new(alloc, trie.kind, choice)?;
-    let nearest = ListQuery {
-        choice,
-        order: Order::Nearest,
-        limit,
-    };
-    let pairs = listed(alloc, trie, &words, nearest)?;
-    let line = Distances::of(trie.kind, words.in_place_of(choice));
-    write_lines(alloc, pairs, &line, output)
+) -> Result<(), ListError> {
+    match write_selection(alloc, trie, form, selection, output)? {
+        None => Ok(()),
+        Some(key) => Err(ListError::Unprintable(key)),
+    }
 }

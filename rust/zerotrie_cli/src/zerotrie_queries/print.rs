@@ -11,7 +11,7 @@ use crate::zerotrie_lines::{write_escaped, write_number, write_pair};
 pub enum Style {
     /// A key with escapes, a tab and its value.
     Tsv,
-    /// A key as it is, a tab and its value. A key with a tab or a line feed is not read back.
+    /// A key as it is, a tab and its value. No key may have a tab or a line feed.
     TsvRaw,
     /// A key, a comma and its value. The key is in quotes unless all of its bytes are printable
     /// ASCII and none is a quotation mark or a comma.
@@ -30,6 +30,10 @@ pub enum Style {
 pub enum Form {
     /// A line a pair.
     Lines(Style),
+    /// A line a pair: the key with escapes, a tab, the value, a tab, and how many edits make the key of
+    /// the word by which keys are sought. They are 0 if there is no word, if keys are not sought by
+    /// edits, or if they need only begin with one that the word finds.
+    Distances,
     /// One JSON object from key to value. Each key must be UTF-8.
     Json,
     /// A line that says how many there are.

@@ -159,7 +159,7 @@ impl<'a> Choice<'a> {
 /// The order of a listing.
 #[derive(Clone, Copy, PartialEq, Eq, Debug)]
 pub enum Order {
-    /// That of the trie.
+    /// That of the trie, if keys need only begin with a prefix, and else that of bytes.
     Stored,
     /// That of the bytes of the keys.
     ByBytes,

@@ -4,7 +4,7 @@
 use crate::rstd::prelude::*;
 use crate::zerotrie_run::at_places::answer_at_places;
 use crate::zerotrie_run::command::{Keys, Question, TrieFile};
-use crate::zerotrie_run::found::{write_found, write_measured};
+use crate::zerotrie_run::found::write_found;
 use crate::zerotrie_run::front::{Hint, hint_of, refused_by_front};
 use crate::zerotrie_run::messages::ask::tell_number;
 use crate::zerotrie_run::open::{asks_index, open_index, open_trie};
@@ -17,7 +17,7 @@ use crate::rstd::io::{BufWriter, Read, Write};
 use crate::zerotrie_core::TrieRef;
 use crate::zerotrie_files::{Disk, Noted, Store};
 use crate::zerotrie_queries::{
-    Asked, Finder, ListError, ListQuery, OpenError, Query, write_answers, write_trie_code,
+    Asked, Finder, Form, ListError, OpenError, Query, write_answers, write_trie_code,
     write_trie_report, write_trie_view,
 };
 use crate::zerotrie_reverse::Reverse;
@@ -29,8 +29,8 @@ pub enum AskError {
     Unread(io::Error),
     /// The file has no trie, nor an index that answers the question, and looks so.
     NoTrie(OpenError, Hint),
-    /// The pairs can't be one JSON value, as this key is not UTF-8.
-    NotText(Vec<u8>),
+    /// The pairs can't be printed in this form, as it can't have this key.
+    Unprintable(Form, Vec<u8>),
     /// It can't be answered, or not to the end.
     Unanswered(AnswerError),
 }
@@ -45,7 +45,7 @@ impl AskError {
                 }
                 OpenError::OutOfMemory => None,
             },
-            AskError::NotText(_) => Some(Status::Refused),
+            AskError::Unprintable(_, _) => Some(Status::Refused),
             AskError::Unanswered(AnswerError::NoLines(_)) => Some(Status::BadKeys),
             AskError::Unread(_)
             | AskError::Unanswered(AnswerError::Input(_) | AnswerError::Output(_)) => None,
@@ -136,12 +136,9 @@ fn answer<R: Read, W: Write>(
         Question::List(form, selection) => {
             match write_found(alloc, trie, form, selection, output) {
                 Ok(found) => Ok(found),
-                Err(ListError::NotText(key)) => Err(AskError::NotText(key)),
+                Err(ListError::Unprintable(key)) => Err(AskError::Unprintable(form, key)),
                 Err(ListError::Failed(error)) => Err(AskError::from(error)),
             }
-        }
-        Question::Distances(choice, limit) => {
-            Ok(write_measured(alloc, trie, choice, limit, output)?)
         }
         Question::Code(language, name) => {
             write_trie_code(alloc, trie, language, name, output)?;
@@ -174,7 +171,6 @@ fn answer_of_index<R: Read, W: Write>(
             answer_keys(alloc, &finder, query, keys, input, output)
         }
         Question::List(_, _)
-        | Question::Distances(_, _)
         | Question::Code(_, _)
         | Question::Verify
         | Question::Report(_)

@@ -70,8 +70,6 @@ pub enum Question<'a> {
     LookUp(Query, Keys<'a>),
     /// These pairs.
     List(Form, ListQuery<'a>),
-    /// The same with the nearest first, each with how many edits make it of the word of the choice.
-    Distances(Choice<'a>, Option<usize>),
     /// The trie as source code, by a name.
     Code(Language, &'a str),
     /// Nothing: whether the file has a trie.
@@ -171,7 +169,6 @@ fn reads_lines(question: Question<'_>) -> bool {
         Question::LookUp(_, Keys::Lines) => true,
         Question::LookUp(_, Keys::Words(_))
         | Question::List(_, _)
-        | Question::Distances(_, _)
         | Question::Code(_, _)
         | Question::Verify
         | Question::Report(_)

@@ -7,9 +7,7 @@ use crate::rstd::io;
 use crate::rstd::io::{ErrorKind, Write};
 use crate::zerotrie_core::TrieRef;
 use crate::zerotrie_files::Noted;
-use crate::zerotrie_queries::{
-    Choice, Form, ListError, ListQuery, Order, Style, write_distances, write_list,
-};
+use crate::zerotrie_queries::{Form, ListError, ListQuery, Style, write_list};
 
 /// Returns whether a listing has a pair: it reads up to the first one.
 fn finds_pair(alloc: Global, trie: &TrieRef<'_>, selection: ListQuery<'_>) -> io::Result<bool> {
@@ -24,7 +22,7 @@ fn finds_pair(alloc: Global, trie: &TrieRef<'_>, selection: ListQuery<'_>) -> io
     match write_list(alloc, trie, Form::Lines(Style::Keys), first, &mut lines) {
         Ok(()) => Ok(!lines.get_ref().as_slice().is_empty()),
         // a line can have any key, and only memory can fail
-        Err(ListError::NotText(_) | ListError::Failed(_)) => {
+        Err(ListError::Unprintable(_) | ListError::Failed(_)) => {
             Err(io::Error::from(ErrorKind::OutOfMemory))
         }
     }
@@ -55,22 +53,4 @@ pub fn write_found<W: Write>(
         Ok(()) => Ok(has_one),
         Err(error) => Err(error),
     }
-}
-
-/// Writes pairs with their distances, as `write_distances` does, and returns whether there is one.
-pub fn write_measured<W: Write>(
-    alloc: Global,
-    trie: &TrieRef<'_>,
-    choice: Choice<'_>,
-    limit: Option<usize>,
-    output: &mut Noted<W>,
-) -> io::Result<bool> {
-    let nearest = ListQuery {
-        choice,
-        order: Order::Nearest,
-        limit,
-    };
-    let has_one = finds_pair(alloc, trie, nearest)?;
-    write_distances(alloc, trie, choice, limit, output)?;
-    Ok(has_one)
 }

@@ -41,7 +41,6 @@ pub fn asks_index(question: Question<'_>) -> bool {
         Question::LookUp(query, _) => query.asked.asks_keys(),
         Question::Verify => true,
         Question::List(_, _)
-        | Question::Distances(_, _)
         | Question::Code(_, _)
         | Question::Report(_)
         | Question::View(_) => false,

@@ -29,15 +29,6 @@ fn order_by(count: bool, sorted: bool) -> Order {
     }
 }
 
-/// Returns the order of keys that a number of edits make of a word, by flags.
-fn near_by(count: bool, sorted: bool) -> Order {
-    match (count, sorted) {
-        (false, false) => Order::Nearest,
-        (false, true) => Order::ByBytes,
-        (true, _) => Order::Stored,
-    }
-}
-
 /// Returns the number that the word of a limit is, or `None` if there is none. It is an error if the
 /// word is no number, which clap refuses.
 pub fn limit_of(word: Option<&str>) -> Result<Option<usize>, Misuse> {
@@ -69,17 +60,6 @@ impl<'a> ListOptions<'a> {
             (false, true, Some(_)) => Err(Misuse::RawIsTsv),
             (false, false, None) => Ok(Form::Lines(Style::Tsv)),
             (false, false, Some(name)) => form_named(name).ok_or(Misuse::UnknownWord),
-        }
-    }
-
-    /// Returns the order in which the pairs of a search are to be printed, by whether it has a word
-    /// that keys are near, and a number of edits. Without this number only keys of the fewest edits
-    /// are, and else the nearest come first.
-    pub fn search_order(&self, fuzzy: Option<&str>, edits: Option<&str>) -> Order {
-        match (fuzzy, edits) {
-            (Some(_), None) => Order::Closest,
-            (Some(_), Some(_)) => near_by(self.count, self.sorted),
-            (None, _) => order_by(self.count, self.sorted),
         }
     }
 
@@ -118,12 +98,12 @@ impl<'a> ListOptions<'a> {
         }
     }
 
-    /// Returns what `list` asks for.
-    pub fn question(&self) -> Result<Question<'a>, Misuse> {
+    /// Returns what `list` asks for, by whether it is to be in the order of bytes.
+    pub fn question(&self, sorted: bool) -> Result<Question<'a>, Misuse> {
         let form = self.form()?;
         let query = ListQuery {
             choice: self.choice(),
-            order: order_by(self.count, self.sorted),
+            order: order_by(self.count, sorted),
             limit: self.most()?,
         };
         Ok(Question::List(form, query))

@@ -30,10 +30,8 @@ pub enum Misuse {
     IdleBytes,
     /// `--distance` is given without `--fuzzy`, or with `--beginnings`.
     IdleDistance,
-    /// `--distance` is given with another format.
+    /// `--distance` is given with another format, or with `--count`.
     DistanceForm,
-    /// `--distance` is given with another order.
-    DistanceOrder,
     /// `--eol` is given for JSON.
     EndOfJson,
     /// `--header` is given for a format without columns.
@@ -111,9 +109,9 @@ impl Misuse {
             Misuse::IdleBeginnings => "--beginnings is for --fuzzy",
             Misuse::IdleBytes => "--bytes is for --glob, --not and --fuzzy",
             Misuse::IdleDistance => "--distance is for --fuzzy without --beginnings",
-            Misuse::DistanceForm => "--distance prints tsv: leave out --format and --raw",
-            Misuse::DistanceOrder =>
-                "--distance prints the nearest first: leave out --count and --sorted",
+            Misuse::DistanceForm => {
+                "--distance prints tsv: leave out --count, --format and --raw"
+            }
             Misuse::EndOfJson => "--eol is for lines and records: leave it out for json and jsonl",
             Misuse::HeaderIsOfColumns => "--header is for tsv and csv",
             Misuse::TaggedAndBare => "--tagged and --bare exclude each other",

@@ -13,7 +13,6 @@ pub struct ListOptions<'a> {
     pub raw: bool,
     pub limit: Option<&'a str>,
     pub count: bool,
-    pub sorted: bool,
     pub quiet: bool,
 }
 
@@ -78,7 +77,6 @@ impl<'a> ListOptions<'a> {
             raw: matches.get_flag("raw"),
             limit: matches.get_str("limit"),
             count: matches.get_flag("count"),
-            sorted: matches.get_flag("sorted"),
             quiet: matches.get_flag("quiet"),
         }
     }

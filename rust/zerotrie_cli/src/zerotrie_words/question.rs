@@ -177,7 +177,7 @@ fn question_in<'w, 'a: 'w>(
             };
             Ok(Question::LookUp(query, keys_of(words)?))
         }
-        Topic::List => ListOptions::of(matches).question(),
+        Topic::List => ListOptions::of(matches).question(matches.get_flag("sorted")),
         Topic::Search => SearchOptions::of(matches).question(),
         Topic::Verify => Ok(Question::Verify),
         Topic::Stats => Ok(Question::Report(report_in(matches))),

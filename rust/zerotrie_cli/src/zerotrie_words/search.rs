@@ -3,7 +3,7 @@
 
 use crate::zerotrie_words::misuse::Misuse;
 use crate::zerotrie_words::options::{ListOptions, SearchOptions};
-use crate::zerotrie_queries::{Choice, ListQuery, Pattern, Sought};
+use crate::zerotrie_queries::{Choice, Form, ListQuery, Order, Pattern, Sought};
 use crate::zerotrie_run::Question;
 use crate::zerotrie_search::{AnyAutomaton, SearchBy};
 
@@ -138,37 +138,39 @@ impl<'a> SearchOptions<'a> {
         if self.fuzzy.is_none() || self.beginnings {
             return Some(Misuse::IdleDistance);
         }
-        if self.list.format.is_some() || self.list.raw {
-            return Some(Misuse::DistanceForm);
-        }
-        (self.list.count || self.list.sorted).then_some(Misuse::DistanceOrder)
+        (self.list.format.is_some() || self.list.raw || self.list.count)
+            .then_some(Misuse::DistanceForm)
     }
 
-    /// Returns what is asked for, if pairs are printed with their distances.
-    fn distances(&self) -> Result<Question<'a>, Misuse> {
+    /// Returns how pairs are to be printed.
+    fn form(&self) -> Result<Form, Misuse> {
+        if !self.distance {
+            return self.list.form();
+        }
         match self.unmeasured() {
             Some(misuse) => Err(misuse),
-            None => Ok(Question::Distances(self.choice()?, self.list.most()?)),
+            None => Ok(Form::Distances),
         }
     }
 
-    /// Returns what is asked for, if pairs are printed in a format.
-    fn pairs(&self) -> Result<Question<'a>, Misuse> {
-        let form = self.list.form()?;
-        let query = ListQuery {
-            choice: self.choice()?,
-            order: self.list.search_order(self.fuzzy, self.edits),
-            limit: self.list.most()?,
-        };
-        Ok(Question::List(form, query))
+    /// Returns the order of the pairs. Of keys that are near a word the nearest come first, and without
+    /// a number of edits there are only those of the fewest edits.
+    fn order(&self) -> Order {
+        match (self.fuzzy, self.edits) {
+            (Some(_), None) => Order::Closest,
+            (Some(_), Some(_)) if !self.list.count => Order::Nearest,
+            (None, _) | (Some(_), Some(_)) => Order::ByBytes,
+        }
     }
 
     /// Returns what `search` asks for.
     pub fn question(&self) -> Result<Question<'a>, Misuse> {
-        if self.distance {
-            self.distances()
-        } else {
-            self.pairs()
-        }
+        let form = self.form()?;
+        let query = ListQuery {
+            choice: self.choice()?,
+            order: self.order(),
+            limit: self.list.most()?,
+        };
+        Ok(Question::List(form, query))
     }
 }

@@ -371,6 +371,7 @@ const LISTINGS: &[Subcommand] = &[
         name: "list",
         about: "Print the pairs",
         help: "Example: zerotrie list names.trie --prefix am\n\
+            The order is that of the trie, but with --from and --below that of bytes.\n\
             Status: 1 if no key is listed, 2 if FILE is no trie.",
         arguments: &[
             FILE, PREFIX, FROM, BELOW, FORMAT, RAW, LIMIT, COUNT, SORTED, ONLY_ASK, BARE_KIND,
@@ -383,11 +384,12 @@ const LISTINGS: &[Subcommand] = &[
         help: "Example: zerotrie search names.trie --fuzzy ampersend\n\
             Example: zerotrie search names.trie --fuzzy amp --edits 2 --limit 5 --distance\n\
             Example: zerotrie search names.trie --glob '{l,g}t*' --not '*;'\n\
-            Example: zerotrie search names.trie --prefix su --subsequence sq --sorted\n\
+            Example: zerotrie search names.trie --prefix su --subsequence sq\n\
             All conditions hold: one of --glob, --fuzzy and --subsequence beside --not,\n\
-            --prefix, --from and --below, or these alone. With --edits the nearest\n\
-            keys come first; without it those of the fewest edits that find any,\n\
-            up to 2, are printed. In kind ignore a letter is found in either case.\n\
+            --prefix, --from and --below, or these alone. Keys are in the order of their\n\
+            bytes, but with --edits the nearest come first; without it those of the\n\
+            fewest edits that find any, up to 2, are printed. In kind ignore a letter is\n\
+            found in either case.\n\
             Status: 1 if no key is found, 2 if FILE is no trie.",
         arguments: &[
             FILE,
@@ -424,7 +426,7 @@ const LISTINGS: &[Subcommand] = &[
             Argument {
                 name: "distance",
                 form: Form::Flag(None),
-                help: "Print how many edits each key is from WORD, the nearest first",
+                help: "Print how many edits each key is from WORD, too",
             },
             Argument {
                 name: "subsequence",
@@ -443,7 +445,6 @@ const LISTINGS: &[Subcommand] = &[
             RAW,
             LIMIT,
             COUNT,
-            SORTED,
             ONLY_ASK,
             BARE_KIND,
             NO_CHECK,

@@ -12,7 +12,7 @@ use crate::zerotrie_core::ByteSet;
 /// Accepts the keys that are text, and that a pattern matches, character by character.
 ///
 /// ```
-/// # use zerotrie::{rstd::examples::*, zerotrie_search::*, zerotrie_base::*, zerotrie_core::*, zerotrie_any::*, zerotrie_ascii::*, zerotrie_hashed::*};
+/// # use zerotrie::{rstd::examples::*, zerotrie_search::*, zerotrie_base::*, zerotrie_core::*};
 /// let automaton = GlobChars::new("{caf[éè],thé}?")?;
 /// let mut state = automaton.start();
 /// for byte in "cafés".as_bytes() {
@@ -52,7 +52,7 @@ impl<'p> GlobChars<'p> {
     /// Accepts the text that the pattern matches.
     ///
     /// ```
-    /// # use zerotrie::{rstd::examples::*, zerotrie_search::*, zerotrie_base::*, zerotrie_core::*, zerotrie_any::*, zerotrie_ascii::*, zerotrie_hashed::*};
+    /// # use zerotrie::{rstd::examples::*, zerotrie_search::*, zerotrie_base::*, zerotrie_core::*};
     /// assert!(GlobChars::new("[α-ω]*").is_ok());
     /// assert!(matches!(GlobChars::new("[ω-α]*"), Err(GlobError::Malformed)));
     /// # Ok::<(), Fail>(())
@@ -65,7 +65,7 @@ impl<'p> GlobChars<'p> {
     /// taken in both of its cases.
     ///
     /// ```
-    /// # use zerotrie::{rstd::examples::*, zerotrie_search::*, zerotrie_base::*, zerotrie_core::*, zerotrie_any::*, zerotrie_ascii::*, zerotrie_hashed::*};
+    /// # use zerotrie::{rstd::examples::*, zerotrie_search::*, zerotrie_base::*, zerotrie_core::*};
     /// assert!(GlobChars::in_any_case("[A-_]é*").is_ok());
     /// # Ok::<(), Fail>(())
     /// ```

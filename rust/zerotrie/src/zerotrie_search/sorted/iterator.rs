@@ -9,7 +9,7 @@ use crate::zerotrie_core::ListError;
 /// An iterator over the pairs of a sorted listing, each key in memory of its own.
 ///
 /// ```
-/// # use zerotrie::{rstd::examples::*, zerotrie_search::*, zerotrie_base::*, zerotrie_core::*, zerotrie_any::*, zerotrie_ascii::*, zerotrie_hashed::*};
+/// # use zerotrie::{rstd::examples::*, zerotrie_search::*, zerotrie_base::*, zerotrie_core::*};
 /// use zerotrie::rstd::ops::Bound;
 ///
 /// // the keys "ab", "ac" and "b" with values 1, 2 and 3

@@ -7,7 +7,7 @@ use super::*;
 use crate::rstd::cell::Cell;
 use crate::rstd::ops::Bound;
 use crate::zerotrie_core::ByteSet;
-use crate::zerotrie_search::{Automaton, Levenshtein, ZeroTrieNearest, ZeroTrieSorted, ZeroTrieSortedSearch};
+use crate::zerotrie_search::{Automaton, Levenshtein, ZeroTrieNearest, ZeroTrieSearch, ZeroTrieSorted};
 
 /// Accepts all keys, counts its steps, and wants some bytes alone.
 struct Counts<'a> {
@@ -71,7 +71,7 @@ fn counted<K: ZeroTrieWithOptions>(
     let steps = Cell::new(0);
     let pairs = ZeroTrieSorted::new::<K>(alloc, bytes, bounds.0, bounds.1)?;
     let counts = Counts { steps: &steps, wanted };
-    let mut search = ZeroTrieSortedSearch::new(alloc, pairs, counts);
+    let mut search = ZeroTrieSearch::new(alloc, pairs, counts);
     let mut found = 0;
     while search.advance()? {
         found += 1;
@@ -99,7 +99,7 @@ fn are_few<K: ZeroTrieWithOptions>(alloc: Global, bytes: &[u8]) -> Result<bool, 
     let Some(word) = Levenshtein::new(b"abab", 3) else {
         return Ok(false);
     };
-    let mut nearest = ZeroTrieNearest::new::<K>(alloc, bytes, word)?;
+    let mut nearest = ZeroTrieNearest::new::<K>(alloc, bytes, word);
     let mut near = 0;
     while nearest.advance()? {
         near += 1;

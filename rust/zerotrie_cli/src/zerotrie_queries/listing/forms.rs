@@ -2,6 +2,7 @@
 //! The pairs of a listing, written in each form.
 
 use crate::rstd::prelude::*;
+use crate::zerotrie_queries::listing::distances::Distances;
 use crate::zerotrie_queries::listing::json_object::write_object;
 use crate::zerotrie_queries::print::{Form, Style, add_number_line, add_pair};
 use crate::rstd::alloc::{AllocError, Global};
@@ -44,7 +45,7 @@ fn add_block<P: TrieListing, L: PairLine>(
 }
 
 /// Writes the lines of pairs, many at once. If it fails, a beginning of them was written.
-pub(in crate::zerotrie_queries) fn write_lines<P: TrieListing, L: PairLine, W: Write>(
+fn write_lines<P: TrieListing, L: PairLine, W: Write>(
     alloc: Global,
     mut pairs: P,
     line: &L,
@@ -86,11 +87,13 @@ fn write_count<P: TrieListing, W: Write>(
 pub(in crate::zerotrie_queries) fn write_pairs<P: TrieListing, W: Write>(
     alloc: Global,
     form: Form,
+    edits: &Distances<'_>,
     pairs: P,
     output: &mut Noted<W>,
 ) -> io::Result<()> {
     match form {
         Form::Lines(style) => write_lines(alloc, pairs, &style, output),
+        Form::Distances => write_lines(alloc, pairs, edits, output),
         Form::Count => write_count(alloc, pairs, output),
         Form::Json => write_object(alloc, pairs, output),
     }

@@ -3,33 +3,11 @@
 
 use crate::rstd::prelude::*;
 use crate::zerotrie_queries::json_text::{add_comma, add_member};
-use crate::zerotrie_queries::text::is_text;
-use crate::rstd::alloc::{AllocError, Global};
+use crate::rstd::alloc::Global;
 use crate::rstd::io;
 use crate::rstd::io::Write;
 use crate::zerotrie_files::Noted;
 use crate::zerotrie_search::TrieListing;
-
-fn copied(alloc: Global, bytes: &[u8]) -> Result<Vec<u8>, AllocError> {
-    let mut copy = Vec::new(alloc);
-    copy.extend_from_slice(bytes)?;
-    Ok(copy)
-}
-
-/// Returns the first of the keys to come that is not UTF-8, if there is one.
-pub(in crate::zerotrie_queries) fn first_no_text<P: TrieListing>(
-    alloc: Global,
-    mut pairs: P,
-) -> Result<Option<Vec<u8>>, AllocError> {
-    loop {
-        if !pairs.advance()? {
-            return Ok(None);
-        }
-        if !is_text(pairs.key()) {
-            return Ok(Some(copied(alloc, pairs.key())?));
-        }
-    }
-}
 
 /// Writes the pairs to come as members, with commas between.
 fn write_members<P: TrieListing, W: Write>(

@@ -11,46 +11,33 @@ use crate::rstd::alloc::{AllocError, Global};
 use crate::rstd::ops::Bound;
 use crate::zerotrie_core::{Trie, TrieKind, TrieRef, ZeroTrieStream};
 use crate::zerotrie_search::{
-    AnyAutomaton, AnyOf, Automaton, BeginsWith, ByKind, Fuzzy, Glob, GlobChars, KeyRange,
-    Levenshtein, LevenshteinChars, Osa, OsaChars, Search, StartsWith, Subsequence, TrieListing,
-    ZeroTrieNearest, ZeroTrieSearch, ZeroTrieSortedSearch,
+    AnyAutomaton, Automaton, BeginsWith, ByKind, Fuzzy, Glob, GlobChars, KeyRange, Levenshtein,
+    LevenshteinChars, Osa, OsaChars, Search, StartsWith, Subsequence, TrieListing, ZeroTrieNearest,
+    ZeroTrieSearch,
 };
 
-/// How a trie is read.
-#[derive(Clone, Copy, Debug)]
-pub(in crate::zerotrie_queries) enum Reading<'q> {
-    /// In its own order.
-    Stored,
-    /// In the order of bytes, between two bounds.
-    Between(Bound<&'q [u8]>, Bound<&'q [u8]>),
-}
+/// The pairs that a word finds, in the order of bytes.
+type WordPairs<'t, 'q, W> = ZeroTrieSearch<'t, 'q, ByKind<Found<W>>>;
 
-/// The pairs that a word finds: in the order of the trie, in that of bytes, or otherwise.
-type Searches<'t, 'q, W, C> = AnyOf<
-    ZeroTrieSearch<'t, ByKind<Found<W>>>,
-    ZeroTrieSortedSearch<'t, 'q, ByKind<Found<W>>>,
-    C,
->;
+/// The pairs that edits of a word find, the nearest first.
+type NearPairs<'t, W> = ZeroTrieNearest<'t, ByKind<W>>;
 
-/// The pairs that a word finds in either order. There is no third.
-type WordPairs<'t, 'q, W> = Searches<'t, 'q, W, ZeroTrieStream<'t>>;
-
-/// The pairs that edits of a word find in either order, or the nearest first.
-type EditsPairs<'t, 'q, W> = Searches<'t, 'q, W, ZeroTrieNearest<'t, ByKind<W>>>;
-
-/// The pairs with a prefix, those of which the conditions of a choice hold, or those that a word finds.
+/// The pairs with a prefix in the order of the trie, or those that a word finds.
 pub(in crate::zerotrie_queries) enum ListedPairs<'t, 'q> {
     Plain(ZeroTrieStream<'t>),
-    Kept(ZeroTrieSearch<'t, Conditions<'q>>),
     Prefix(WordPairs<'t, 'q, StartsWith<'q>>),
     Range(WordPairs<'t, 'q, KeyRange<'q>>),
     Glob(WordPairs<'t, 'q, Glob<'q>>),
     GlobChars(WordPairs<'t, 'q, GlobChars<'q>>),
     Subsequence(WordPairs<'t, 'q, Subsequence<'q>>),
-    Fuzzy(EditsPairs<'t, 'q, Levenshtein>),
-    FuzzyChars(EditsPairs<'t, 'q, LevenshteinChars>),
-    Swaps(EditsPairs<'t, 'q, Osa>),
-    SwapsChars(EditsPairs<'t, 'q, OsaChars>),
+    Fuzzy(WordPairs<'t, 'q, Levenshtein>),
+    FuzzyChars(WordPairs<'t, 'q, LevenshteinChars>),
+    Swaps(WordPairs<'t, 'q, Osa>),
+    SwapsChars(WordPairs<'t, 'q, OsaChars>),
+    NearFuzzy(NearPairs<'t, Levenshtein>),
+    NearFuzzyChars(NearPairs<'t, LevenshteinChars>),
+    NearSwaps(NearPairs<'t, Osa>),
+    NearSwapsChars(NearPairs<'t, OsaChars>),
 }
 
 /// Evaluates an expression with the listing that there is, under a name.
@@ -58,7 +45,6 @@ macro_rules! by_pairs {
     ($any:expr, $pairs:ident => $result:expr) => {
         match $any {
             ListedPairs::Plain($pairs) => $result,
-            ListedPairs::Kept($pairs) => $result,
             ListedPairs::Prefix($pairs) => $result,
             ListedPairs::Range($pairs) => $result,
             ListedPairs::Glob($pairs) => $result,
@@ -68,6 +54,10 @@ macro_rules! by_pairs {
             ListedPairs::FuzzyChars($pairs) => $result,
             ListedPairs::Swaps($pairs) => $result,
             ListedPairs::SwapsChars($pairs) => $result,
+            ListedPairs::NearFuzzy($pairs) => $result,
+            ListedPairs::NearFuzzyChars($pairs) => $result,
+            ListedPairs::NearSwaps($pairs) => $result,
+            ListedPairs::NearSwapsChars($pairs) => $result,
         }
     };
 }
@@ -115,27 +105,19 @@ fn begins_of(sought: Option<Sought<'_>>) -> bool {
     }
 }
 
-/// Lists the pairs that the word of a choice finds, as the trie is read. `word` finds what it does.
-fn by_word<'t, 'q, W: Automaton, C: TrieListing>(
+/// Lists the pairs between two bounds that the word of a choice finds. `word` finds what it does.
+fn by_word<'t, 'q, W: Automaton>(
     alloc: Global,
     trie: &'t TrieRef<'_>,
     choice: Choice<'q>,
-    reading: Reading<'q>,
+    part: KeyRange<'q>,
     word: W,
-) -> Result<Searches<'t, 'q, W, C>, AllocError> {
-    let begins = begins_of(choice.sought);
+) -> Result<WordPairs<'t, 'q, W>, AllocError> {
     let found = Found {
         word: BeginsWith(word),
-        begins,
+        begins: begins_of(choice.sought),
     };
-    let automaton = ByKind(trie.kind, found);
-    match reading {
-        Reading::Stored => Ok(AnyOf::First(trie.search(alloc, automaton))),
-        Reading::Between(from, to) => {
-            let pairs = trie.search_sorted(alloc, from, to, automaton)?;
-            Ok(AnyOf::Second(pairs))
-        }
-    }
+    trie.search_range(alloc, part.from, part.to, ByKind(trie.kind, found))
 }
 
 /// Returns the automaton of the word of a choice, as a kind compares keys. Without a word it accepts all
@@ -153,40 +135,40 @@ fn automaton_of<'q>(kind: TrieKind, choice: Choice<'q>) -> AnyAutomaton<'q> {
     }
 }
 
-/// Lists the pairs that the word of a choice finds, as the trie is read.
+/// Lists the pairs between two bounds that the word of a choice finds.
 fn found<'t, 'q>(
     alloc: Global,
     trie: &'t TrieRef<'_>,
     choice: Choice<'q>,
-    reading: Reading<'q>,
+    part: KeyRange<'q>,
 ) -> Result<ListedPairs<'t, 'q>, AllocError> {
     match automaton_of(trie.kind, choice) {
         AnyAutomaton::Prefix(word) => {
-            Ok(ListedPairs::Prefix(by_word(alloc, trie, choice, reading, word)?))
+            Ok(ListedPairs::Prefix(by_word(alloc, trie, choice, part, word)?))
         }
         AnyAutomaton::Range(word) => {
-            Ok(ListedPairs::Range(by_word(alloc, trie, choice, reading, word)?))
+            Ok(ListedPairs::Range(by_word(alloc, trie, choice, part, word)?))
         }
         AnyAutomaton::Glob(word) => {
-            Ok(ListedPairs::Glob(by_word(alloc, trie, choice, reading, word)?))
+            Ok(ListedPairs::Glob(by_word(alloc, trie, choice, part, word)?))
         }
         AnyAutomaton::GlobChars(word) => {
-            Ok(ListedPairs::GlobChars(by_word(alloc, trie, choice, reading, word)?))
+            Ok(ListedPairs::GlobChars(by_word(alloc, trie, choice, part, word)?))
         }
         AnyAutomaton::Subsequence(word) => {
-            Ok(ListedPairs::Subsequence(by_word(alloc, trie, choice, reading, word)?))
+            Ok(ListedPairs::Subsequence(by_word(alloc, trie, choice, part, word)?))
         }
         AnyAutomaton::Fuzzy(word) => {
-            Ok(ListedPairs::Fuzzy(by_word(alloc, trie, choice, reading, word)?))
+            Ok(ListedPairs::Fuzzy(by_word(alloc, trie, choice, part, word)?))
         }
         AnyAutomaton::FuzzyChars(word) => {
-            Ok(ListedPairs::FuzzyChars(by_word(alloc, trie, choice, reading, word)?))
+            Ok(ListedPairs::FuzzyChars(by_word(alloc, trie, choice, part, word)?))
         }
         AnyAutomaton::Swaps(word) => {
-            Ok(ListedPairs::Swaps(by_word(alloc, trie, choice, reading, word)?))
+            Ok(ListedPairs::Swaps(by_word(alloc, trie, choice, part, word)?))
         }
         AnyAutomaton::SwapsChars(word) => {
-            Ok(ListedPairs::SwapsChars(by_word(alloc, trie, choice, reading, word)?))
+            Ok(ListedPairs::SwapsChars(by_word(alloc, trie, choice, part, word)?))
         }
     }
 }
@@ -205,6 +187,11 @@ fn is_by_prefix(choice: Choice<'_>) -> bool {
     choice.without.is_none() && is_unbounded(choice.range)
 }
 
+/// Returns whether a choice has no condition but a prefix.
+fn is_prefix_alone(choice: Choice<'_>) -> bool {
+    choice.sought.is_none() && is_by_prefix(choice)
+}
+
 /// Returns whether a choice has no condition but that of its word.
 fn has_no_conditions(choice: Choice<'_>) -> bool {
     choice.prefix.is_empty() && is_by_prefix(choice)
@@ -219,63 +206,23 @@ fn condition_of<'q>(kind: TrieKind, choice: Choice<'q>) -> Option<Conditions<'q>
     Some(conditions(kind, choice))
 }
 
-/// Lists the pairs whose keys are chosen, as the trie is read.
-fn chosen<'t, 'q>(
-    alloc: Global,
-    trie: &'t TrieRef<'_>,
-    choice: Choice<'q>,
-    reading: Reading<'q>,
-) -> Result<ChosenPairs<'t, 'q>, AllocError> {
-    let pairs = found(alloc, trie, choice, reading)?;
-    let condition = condition_of(trie.kind, choice);
-    Ok(ChosenPairs { pairs, condition })
-}
-
-/// Lists the pairs whose keys are chosen, in the order of the trie. The choice has no word.
-fn unsought<'t, 'q>(
-    alloc: Global,
-    trie: &'t TrieRef<'_>,
-    choice: Choice<'q>,
-) -> Result<ListedPairs<'t, 'q>, AllocError> {
-    if is_by_prefix(choice) {
-        let pairs = trie.stream_prefix(alloc, choice.prefix)?;
-        return Ok(ListedPairs::Plain(pairs));
-    }
-    let kept = conditions(trie.kind, choice);
-    Ok(ListedPairs::Kept(trie.search(alloc, kept)))
-}
-
-/// Lists the pairs whose keys are chosen, in the order of the trie.
-fn stored<'t, 'q>(
-    alloc: Global,
-    trie: &'t TrieRef<'_>,
-    choice: Choice<'q>,
-) -> Result<ChosenPairs<'t, 'q>, AllocError> {
-    if choice.sought.is_some() {
-        return chosen(alloc, trie, choice, Reading::Stored);
-    }
-    let pairs = unsought(alloc, trie, choice)?;
-    Ok(ChosenPairs {
-        pairs,
-        condition: None,
-    })
-}
-
 /// Returns two bounds between which all keys are that are chosen. `above` is above all keys that begin
 /// with the prefix.
 fn bounds<'q>(
     kind: TrieKind,
     choice: Choice<'q>,
     above: Bound<&'q [u8]>,
-) -> (Bound<&'q [u8]>, Bound<&'q [u8]>) {
+) -> KeyRange<'q> {
     match (kind, is_unbounded(choice.range)) {
-        (TrieKind::Ignore, _) => (Bound::Unbounded, Bound::Unbounded),
-        (TrieKind::Simple | TrieKind::Hash | TrieKind::Ext, true) => {
-            (Bound::Included(choice.prefix), above)
-        }
-        (TrieKind::Simple | TrieKind::Hash | TrieKind::Ext, false) => {
-            (choice.range.from, choice.range.to)
-        }
+        (TrieKind::Ignore, _) => KeyRange {
+            from: Bound::Unbounded,
+            to: Bound::Unbounded,
+        },
+        (TrieKind::Simple | TrieKind::Hash | TrieKind::Ext, true) => KeyRange {
+            from: Bound::Included(choice.prefix),
+            to: above,
+        },
+        (TrieKind::Simple | TrieKind::Hash | TrieKind::Ext, false) => choice.range,
     }
 }
 
@@ -286,8 +233,28 @@ fn sorted<'t, 'q>(
     choice: Choice<'q>,
     above: Bound<&'q [u8]>,
 ) -> Result<ChosenPairs<'t, 'q>, AllocError> {
-    let (from, to) = bounds(trie.kind, choice, above);
-    chosen(alloc, trie, choice, Reading::Between(from, to))
+    let part = bounds(trie.kind, choice, above);
+    let pairs = found(alloc, trie, choice, part)?;
+    let condition = condition_of(trie.kind, choice);
+    Ok(ChosenPairs { pairs, condition })
+}
+
+/// Lists the pairs whose keys are chosen: in the order of the trie those with a prefix, and others in the
+/// order of their bytes.
+fn stored<'t, 'q>(
+    alloc: Global,
+    trie: &'t TrieRef<'_>,
+    choice: Choice<'q>,
+    above: Bound<&'q [u8]>,
+) -> Result<ChosenPairs<'t, 'q>, AllocError> {
+    if !is_prefix_alone(choice) {
+        return sorted(alloc, trie, choice, above);
+    }
+    let pairs = trie.stream_prefix(alloc, choice.prefix)?;
+    Ok(ChosenPairs {
+        pairs: ListedPairs::Plain(pairs),
+        condition: None,
+    })
 }
 
 /// Returns whether a listing has a pair.
@@ -334,12 +301,12 @@ fn closest<'t, 'q>(
 }
 
 /// Lists the pairs that edits of a word find, the nearest first.
-fn near<'t, 'q, W: Fuzzy>(
+fn near<'t, W: Fuzzy>(
     alloc: Global,
     trie: &'t TrieRef<'_>,
     word: W,
-) -> Result<EditsPairs<'t, 'q, W>, AllocError> {
-    Ok(AnyOf::Third(trie.nearest(alloc, ByKind(trie.kind, word))?))
+) -> NearPairs<'t, W> {
+    trie.nearest(alloc, ByKind(trie.kind, word))
 }
 
 /// Lists the pairs whose keys are chosen, all of them by no edit, in the order of their bytes.
@@ -363,19 +330,19 @@ fn by_edits<'t, 'q>(
     let condition = condition_of(trie.kind, choice);
     match any {
         AnyAutomaton::Fuzzy(word) => {
-            let pairs = ListedPairs::Fuzzy(near(alloc, trie, word)?);
+            let pairs = ListedPairs::NearFuzzy(near(alloc, trie, word));
             Ok(ChosenPairs { pairs, condition })
         }
         AnyAutomaton::FuzzyChars(word) => {
-            let pairs = ListedPairs::FuzzyChars(near(alloc, trie, word)?);
+            let pairs = ListedPairs::NearFuzzyChars(near(alloc, trie, word));
             Ok(ChosenPairs { pairs, condition })
         }
         AnyAutomaton::Swaps(word) => {
-            let pairs = ListedPairs::Swaps(near(alloc, trie, word)?);
+            let pairs = ListedPairs::NearSwaps(near(alloc, trie, word));
             Ok(ChosenPairs { pairs, condition })
         }
         AnyAutomaton::SwapsChars(word) => {
-            let pairs = ListedPairs::SwapsChars(near(alloc, trie, word)?);
+            let pairs = ListedPairs::NearSwapsChars(near(alloc, trie, word));
             Ok(ChosenPairs { pairs, condition })
         }
         AnyAutomaton::Prefix(_)
@@ -415,7 +382,7 @@ fn ordered<'t, 'q>(
     order: Order,
 ) -> Result<ChosenPairs<'t, 'q>, AllocError> {
     match order {
-        Order::Stored => stored(alloc, trie, choice),
+        Order::Stored => stored(alloc, trie, choice, above),
         Order::ByBytes => sorted(alloc, trie, choice, above),
         Order::Closest => closest(alloc, trie, choice, above),
         Order::Nearest => nearest(alloc, trie, choice, above),
@@ -425,10 +392,9 @@ fn ordered<'t, 'q>(
 /// Lists the pairs of a selection: the first whose keys are chosen, in its order. `words` are those of its
 /// choice.
 ///
-/// It validates no bytes. In the order of the trie it reads no part of it in which no such key can be. In
-/// the order of bytes it reads the part between the bounds of the range or, if there are none and the kind
-/// does not ignore case, the part with the prefix, and skips the keys that begin as none of these keys
-/// does.
+/// It validates no bytes. In the order of the trie it reads the part with the prefix. In the order of bytes
+/// it reads the part between the bounds of the range or, if there are none and the kind does not ignore case,
+/// the part with the prefix, and skips the keys that begin as none of these keys does.
 pub(in crate::zerotrie_queries) fn listed<'t, 'q>(
     alloc: Global,
     trie: &'t TrieRef<'_>,

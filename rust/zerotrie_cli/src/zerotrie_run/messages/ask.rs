@@ -16,7 +16,7 @@ use crate::rstd::io::Write;
 use crate::zerotrie_any::TagError;
 use crate::zerotrie_core::{Fault, TrieKind};
 use crate::zerotrie_files::Noted;
-use crate::zerotrie_queries::{OpenError, of_tagged};
+use crate::zerotrie_queries::{Form, OpenError, of_tagged};
 use crate::zerotrie_sealed::{SealError, is_index_number};
 
 /// Returns what the places in a file are counted from.
@@ -138,9 +138,19 @@ pub fn tell_number<M: Write>(
     }
 }
 
-/// Returns a line that says that pairs can't be one JSON value, with the key that shows it.
-fn not_text(alloc: Global, place: &str, key: &[u8]) -> Result<Vec<u8>, AllocError> {
-    let words = with_key(alloc, "a key is not UTF-8, so take --format jsonl: ", key)?;
+/// Returns why a form can't have a key, and which one can.
+fn unprintable_words(form: Form) -> &'static str {
+    match form {
+        Form::Lines(_) => "a key has a tab or a line feed, so leave out --raw: ",
+        Form::Json | Form::Distances | Form::Count => {
+            "a key is not UTF-8, so take --format jsonl: "
+        }
+    }
+}
+
+/// Returns a line that says that pairs can't be printed in a form, with the key that shows it.
+fn unprintable(alloc: Global, place: &str, form: Form, key: &[u8]) -> Result<Vec<u8>, AllocError> {
+    let words = with_key(alloc, unprintable_words(form), key)?;
     line_on(alloc, place, words.as_slice())
 }
 
@@ -150,7 +160,7 @@ pub fn ask_text(alloc: Global, file: TrieFile<'_>, error: &AskError) -> Result<V
     match error {
         AskError::Unread(error) => fault_on(alloc, path, error),
         AskError::NoTrie(why, hint) => no_trie(alloc, file, why, *hint),
-        AskError::NotText(key) => not_text(alloc, path, key.as_slice()),
+        AskError::Unprintable(form, key) => unprintable(alloc, path, *form, key.as_slice()),
         AskError::Unanswered(AnswerError::Input(error)) => fault_on(alloc, STANDARD_INPUT, error),
         AskError::Unanswered(AnswerError::NoLines(other)) => {
             line_on(alloc, STANDARD_INPUT, other_words(*other).as_bytes())
@@ -170,7 +180,6 @@ fn is_index(question: Question<'_>, why: SealError) -> bool {
         Question::Verify => is_sealed_index(why),
         Question::LookUp(_, _)
         | Question::List(_, _)
-        | Question::Distances(_, _)
         | Question::Code(_, _)
         | Question::Report(_)
         | Question::View(_) => false,
@@ -192,7 +201,7 @@ pub fn question_text(
         ),
         AskError::Unread(_)
         | AskError::NoTrie(_, _)
-        | AskError::NotText(_)
+        | AskError::Unprintable(_, _)
         | AskError::Unanswered(_) => ask_text(alloc, file, error),
     }
 }
