@@ -162,9 +162,10 @@ fn fill_sought(
 /// in every kind, as many as the rooms have places for: a range, a pattern, bytes in their order, or a word
 /// with few edits, and with `beginnings` also the keys that begin with one that it finds.
 ///
-/// The rooms, `count`, `next_len`, the status, and how a call continues are as in `zerotrie_list_some`. In
-/// the kind that ignores case, keys, bounds and words are compared in lower case, and the letters of a
-/// pattern are taken in both cases. A search that has no meaning is refused, and then nothing is written.
+/// If `goes_on`, it continues above the key `last`. The rooms, `count`, `next_len` and the status are as in
+/// `zerotrie_list_some`. In the kind that ignores case, keys, bounds and words are compared in lower case,
+/// and the letters of a pattern are taken in both cases. A search that has no meaning is refused, and then
+/// nothing is written.
 ///
 /// On malformed bytes it does the same for some pairs that the search finds, at most as many as there are
 /// bytes.

@@ -74,35 +74,36 @@ impl<'a> ListOptions<'a> {
         self.prefix.unwrap_or("").as_bytes()
     }
 
-    /// Returns the range that keys have to be in.
-    pub fn range(&self) -> KeyRange<'a> {
-        KeyRange {
-            from: match self.from {
-                Some(word) => Bound::Included(word.as_bytes()),
-                None => Bound::Unbounded,
-            },
-            to: match self.below {
-                Some(word) => Bound::Excluded(word.as_bytes()),
-                None => Bound::Unbounded,
-            },
-        }
+    /// Returns the range that keys have to be in. It is an error if it ends twice.
+    pub fn range(&self) -> Result<KeyRange<'a>, Misuse> {
+        let from = match self.from {
+            Some(word) => Bound::Included(word.as_bytes()),
+            None => Bound::Unbounded,
+        };
+        let to = match (self.below, self.to) {
+            (None, None) => Bound::Unbounded,
+            (Some(word), None) => Bound::Excluded(word.as_bytes()),
+            (None, Some(word)) => Bound::Included(word.as_bytes()),
+            (Some(_), Some(_)) => return Err(Misuse::TwoEnds),
+        };
+        Ok(KeyRange { from, to })
     }
 
     /// Returns which keys are listed: those with a prefix, in a range.
-    fn choice(&self) -> Choice<'a> {
-        Choice {
+    fn choice(&self) -> Result<Choice<'a>, Misuse> {
+        Ok(Choice {
             prefix: self.front(),
-            range: self.range(),
+            range: self.range()?,
             without: None,
             sought: None,
-        }
+        })
     }
 
     /// Returns what `list` asks for, by whether it is to be in the order of bytes.
     pub fn question(&self, sorted: bool) -> Result<Question<'a>, Misuse> {
         let form = self.form()?;
         let query = ListQuery {
-            choice: self.choice(),
+            choice: self.choice()?,
             order: order_by(self.count, sorted),
             limit: self.most()?,
         };

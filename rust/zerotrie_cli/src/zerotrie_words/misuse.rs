@@ -30,6 +30,8 @@ pub enum Misuse {
     IdleBytes,
     /// `--distance` is given without `--fuzzy`, or with `--beginnings`.
     IdleDistance,
+    /// A range ends below a key and at one.
+    TwoEnds,
     /// `--distance` is given with another format, or with `--count`.
     DistanceForm,
     /// `--eol` is given for JSON.
@@ -101,13 +103,14 @@ impl Misuse {
             Misuse::CountWithForm => "--count prints no pairs: leave out --format and --raw",
             Misuse::RawIsTsv => "--raw is for tsv",
             Misuse::NothingSought =>
-                "give --glob, --fuzzy, --subsequence, --not, --prefix, --from or --below",
+                "give --glob, --fuzzy, --subsequence, --not, --prefix, --from, --below or --to",
             Misuse::TooMuchSought => "give only one of --glob, --fuzzy and --subsequence",
             Misuse::Word(by, error) => word_text(by, error),
             Misuse::IdleEdits => "--edits is for --fuzzy",
             Misuse::IdleSwaps => "--no-transpose is for --fuzzy",
             Misuse::IdleBeginnings => "--beginnings is for --fuzzy",
             Misuse::IdleBytes => "--bytes is for --glob, --not and --fuzzy",
+            Misuse::TwoEnds => "give only one of --below and --to",
             Misuse::IdleDistance => "--distance is for --fuzzy without --beginnings",
             Misuse::DistanceForm => {
                 "--distance prints tsv: leave out --count, --format and --raw"

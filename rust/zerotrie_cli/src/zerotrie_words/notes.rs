@@ -41,8 +41,8 @@ pub const NOTES: &[(&str, &str)] = &[
     (
         "MEMORY",
         "All commands but build hold their FILEs (of text or gzip 64 KB) and what they print next; with keys of standard input four bytes a pair more. search \
-            and list --sorted hold a state for each byte of the longest key, union and the like OUT. build holds the input, the trie, 24 to 36 bytes a pair, and \
-            24 more if the keys have to be sorted. If a key has an escape or is to be in lower case, or the input is csv or JSON, it copies the keys, with 16 \
+            and list --sorted, --from, --below and --to hold a state for each byte of the longest key, union and the like OUT. build holds the input, the trie, 24 to 36 \
+            bytes a pair, and 24 more if the keys have to be sorted. If a key has an escape or is to be in lower case, or the input is csv or JSON, it copies the keys, with 16 \
             bytes a pair for their lengths and values, and frees the input before the build. Of JSON it also holds the parsed value. It copies the trie to seal \
             it. An index takes 32 bytes a pair, itself and a sealed copy.",
     ),

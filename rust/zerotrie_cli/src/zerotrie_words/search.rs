@@ -21,7 +21,7 @@ fn word_by(by: SearchBy, word: &str) -> Result<&[u8], Misuse> {
 
 /// Returns whether keys have to begin so, or to be in a range.
 fn has_part(list: &ListOptions<'_>) -> bool {
-    list.prefix.is_some() || list.from.is_some() || list.below.is_some()
+    list.prefix.is_some() || list.from.is_some() || list.below.is_some() || list.to.is_some()
 }
 
 impl<'a> SearchOptions<'a> {
@@ -127,7 +127,7 @@ impl<'a> SearchOptions<'a> {
         }
         Ok(Choice {
             prefix: self.list.front(),
-            range: self.list.range(),
+            range: self.list.range()?,
             without,
             sought,
         })
@@ -138,8 +138,8 @@ impl<'a> SearchOptions<'a> {
         if self.fuzzy.is_none() || self.beginnings {
             return Some(Misuse::IdleDistance);
         }
-        (self.list.format.is_some() || self.list.raw || self.list.count)
-            .then_some(Misuse::DistanceForm)
+        let other = self.list.format.is_some() || self.list.raw || self.list.count;
+        other.then_some(Misuse::DistanceForm)
     }
 
     /// Returns how pairs are to be printed.

@@ -90,6 +90,12 @@ const BELOW: Argument = Argument {
     help: "Only keys below this one, by their bytes; in kind ignore by those in lower case",
 };
 
+const TO: Argument = Argument {
+    name: "to",
+    form: Form::Text("B", None, Otherwise::Nothing),
+    help: "Only keys up to this one, with it",
+};
+
 /// How keys and texts are written.
 const ESCAPED: Argument = Argument {
     name: "escaped",
@@ -371,10 +377,10 @@ const LISTINGS: &[Subcommand] = &[
         name: "list",
         about: "Print the pairs",
         help: "Example: zerotrie list names.trie --prefix am\n\
-            The order is that of the trie, but with --from and --below that of bytes.\n\
+            The order is that of the trie, but with --from, --below and --to that of bytes.\n\
             Status: 1 if no key is listed, 2 if FILE is no trie.",
         arguments: &[
-            FILE, PREFIX, FROM, BELOW, FORMAT, RAW, LIMIT, COUNT, SORTED, ONLY_ASK, BARE_KIND,
+            FILE, PREFIX, FROM, BELOW, TO, FORMAT, RAW, LIMIT, COUNT, SORTED, ONLY_ASK, BARE_KIND,
             NO_CHECK,
         ],
     },
@@ -386,7 +392,7 @@ const LISTINGS: &[Subcommand] = &[
             Example: zerotrie search names.trie --glob '{l,g}t*' --not '*;'\n\
             Example: zerotrie search names.trie --prefix su --subsequence sq\n\
             All conditions hold: one of --glob, --fuzzy and --subsequence beside --not,\n\
-            --prefix, --from and --below, or these alone. Keys are in the order of their\n\
+            --prefix, --from, --below and --to, or these alone. Keys are in the order of their\n\
             bytes, but with --edits the nearest come first; without it those of the\n\
             fewest edits that find any, up to 2, are printed. In kind ignore a letter is\n\
             found in either case.\n\
@@ -441,6 +447,7 @@ const LISTINGS: &[Subcommand] = &[
             PREFIX,
             FROM,
             BELOW,
+            TO,
             FORMAT,
             RAW,
             LIMIT,

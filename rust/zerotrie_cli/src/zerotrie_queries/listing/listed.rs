@@ -22,9 +22,11 @@ type WordPairs<'t, 'q, W> = ZeroTrieSearch<'t, 'q, ByKind<Found<W>>>;
 /// The pairs that edits of a word find, the nearest first.
 type NearPairs<'t, W> = ZeroTrieNearest<'t, ByKind<W>>;
 
-/// The pairs with a prefix in the order of the trie, or those that a word finds.
+/// The pairs with a prefix in the order of the trie, those of which the conditions of a choice hold, or those
+/// that a word finds.
 pub(in crate::zerotrie_queries) enum ListedPairs<'t, 'q> {
     Plain(ZeroTrieStream<'t>),
+    Kept(ZeroTrieSearch<'t, 'q, Conditions<'q>>),
     Prefix(WordPairs<'t, 'q, StartsWith<'q>>),
     Range(WordPairs<'t, 'q, KeyRange<'q>>),
     Glob(WordPairs<'t, 'q, Glob<'q>>),
@@ -45,6 +47,7 @@ macro_rules! by_pairs {
     ($any:expr, $pairs:ident => $result:expr) => {
         match $any {
             ListedPairs::Plain($pairs) => $result,
+            ListedPairs::Kept($pairs) => $result,
             ListedPairs::Prefix($pairs) => $result,
             ListedPairs::Range($pairs) => $result,
             ListedPairs::Glob($pairs) => $result,
@@ -64,7 +67,7 @@ macro_rules! by_pairs {
 
 impl<'t, 'q> TrieListing for ListedPairs<'t, 'q> {
     fn advance(&mut self) -> Result<bool, AllocError> {
-        by_pairs!(self, pairs => pairs.advance())
+        by_pairs!(self, pairs => TrieListing::advance(pairs))
     }
 
     fn key(&self) -> &[u8] {
@@ -208,11 +211,7 @@ fn condition_of<'q>(kind: TrieKind, choice: Choice<'q>) -> Option<Conditions<'q>
 
 /// Returns two bounds between which all keys are that are chosen. `above` is above all keys that begin
 /// with the prefix.
-fn bounds<'q>(
-    kind: TrieKind,
-    choice: Choice<'q>,
-    above: Bound<&'q [u8]>,
-) -> KeyRange<'q> {
+fn bounds<'q>(kind: TrieKind, choice: Choice<'q>, above: Bound<&'q [u8]>) -> KeyRange<'q> {
     match (kind, is_unbounded(choice.range)) {
         (TrieKind::Ignore, _) => KeyRange {
             from: Bound::Unbounded,
@@ -226,6 +225,18 @@ fn bounds<'q>(
     }
 }
 
+/// Lists the pairs between two bounds whose keys are chosen. The choice has no word.
+fn unsought<'t, 'q>(
+    alloc: Global,
+    trie: &'t TrieRef<'_>,
+    choice: Choice<'q>,
+    part: KeyRange<'q>,
+) -> Result<ListedPairs<'t, 'q>, AllocError> {
+    let kept = conditions(trie.kind, choice);
+    let pairs = trie.search_range(alloc, part.from, part.to, kept)?;
+    Ok(ListedPairs::Kept(pairs))
+}
+
 /// Lists the pairs whose keys are chosen, in the order of their bytes.
 fn sorted<'t, 'q>(
     alloc: Global,
@@ -234,6 +245,13 @@ fn sorted<'t, 'q>(
     above: Bound<&'q [u8]>,
 ) -> Result<ChosenPairs<'t, 'q>, AllocError> {
     let part = bounds(trie.kind, choice, above);
+    if choice.sought.is_none() {
+        let pairs = unsought(alloc, trie, choice, part)?;
+        return Ok(ChosenPairs {
+            pairs,
+            condition: None,
+        });
+    }
     let pairs = found(alloc, trie, choice, part)?;
     let condition = condition_of(trie.kind, choice);
     Ok(ChosenPairs { pairs, condition })
@@ -301,11 +319,7 @@ fn closest<'t, 'q>(
 }
 
 /// Lists the pairs that edits of a word find, the nearest first.
-fn near<'t, W: Fuzzy>(
-    alloc: Global,
-    trie: &'t TrieRef<'_>,
-    word: W,
-) -> NearPairs<'t, W> {
+fn near<'t, W: Fuzzy>(alloc: Global, trie: &'t TrieRef<'_>, word: W) -> NearPairs<'t, W> {
     trie.nearest(alloc, ByKind(trie.kind, word))
 }
 

@@ -7,10 +7,14 @@ use crate::zerotrie_queries::text::is_text;
 use crate::rstd::alloc::{AllocError, Global};
 use crate::zerotrie_search::TrieListing;
 
-/// Returns whether a key has no tab and no line feed.
-fn is_raw(key: &[u8]) -> bool {
-    for byte in key {
-        if *byte == b'\t' || *byte == b'\n' {
+/// Returns whether a byte is no tab and no line feed.
+fn is_raw(byte: u8) -> bool {
+    byte != b'\t' && byte != b'\n'
+}
+
+fn are_raw(bytes: &[u8]) -> bool {
+    for byte in bytes {
+        if !is_raw(*byte) {
             return false;
         }
     }
@@ -29,10 +33,8 @@ pub(in crate::zerotrie_queries) fn takes_all_keys(form: Form) -> bool {
 /// Returns whether a form can print a key.
 fn can_print(form: Form, key: &[u8]) -> bool {
     match form {
-        Form::Lines(Style::TsvRaw) => is_raw(key),
-        Form::Lines(
-            Style::Tsv | Style::Csv | Style::JsonLines | Style::Keys | Style::Values,
-        )
+        Form::Lines(Style::TsvRaw) => are_raw(key),
+        Form::Lines(Style::Tsv | Style::Csv | Style::JsonLines | Style::Keys | Style::Values)
         | Form::Distances
         | Form::Count => true,
         Form::Json => is_text(key),
