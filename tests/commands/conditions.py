@@ -29,8 +29,9 @@ def test_conditions():
                 words += ['--from', low]
                 tests.append(lambda key: folds(key) >= folds(low.encode()))
             if chance.random() < 0.5:
-                words += ['--below', high]
-                tests.append(lambda key: folds(key) < folds(high.encode()))
+                end = chance.choice(['--below', '--to'])
+                words += [end, high]
+                tests.append(lambda key: folds(key) < folds(high.encode()) or end == '--to' and folds(key) == folds(high.encode()))
             if chance.random() < 0.3:
                 spared, other = chance.choice(patterns[:-2])
                 words += ['--not', spared]
@@ -60,7 +61,7 @@ def test_conditions():
                     tests.append(lambda key: is_within(folds(letters), folds(key)))
             if command == 'list' and chance.random() < 0.5:
                 words += ['-S']
-            is_stored = command == 'list' and not {'-S', '--from', '--below'} & {*words}
+            is_stored = command == 'list' and not {'-S', '--from', '--below', '--to'} & {*words}
             wanted = [pair for pair in (stored if is_stored else sorted(stored)) if all(test(pair[0]) for test in tests)]
             if far:
                 wanted.sort(key=lambda pair: far(pair[0]))

@@ -117,11 +117,12 @@ def test_sorted():
             lists_json(f'{name}, list {words}', path, wanted, ['--sorted', *words])
         for words, has in [(['--from', 'am', '--below', 'ap'], lambda key: b'am' <= key < b'ap'),
                            (['--from', 'b'], lambda key: key >= b'b'), (['--below', 'b'], lambda key: key < b'b'),
+                           (['--to', 'amp;'], lambda key: key <= b'amp;'),
                            (['--glob', 'a*;', '--bytes'], lambda key: re.fullmatch(rb'a.*;', key, re.S)),
                            (['--subsequence', 'sbq'], lambda key: is_within(b'sbq', key))]:
             wanted = [pair for pair in in_order if has(pair[0].lower() if folds else pair[0])]
             holds(f'{name}, search {words}', ['search', path, *words], lines_of(wanted), 0)
-            if words[0] in ('--from', '--below'):
+            if words[0] in ('--from', '--below', '--to'):
                 holds(f'{name}, list {words}', ['list', path, *words], lines_of(wanted), 0)
             holds(f'{name}, search {words}, the first two', ['search', path, '-n', '2', '-f', 'csv', *words],
                   b''.join(b'%s,%d\n' % pair if re.fullmatch(rb'[ !#-+\--~]*', pair[0])
