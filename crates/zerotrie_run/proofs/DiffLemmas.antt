@@ -180,7 +180,7 @@ pub told_of : (diff : Diff) (file : TrieFile) (i : Option (List ℕ)) (files : O
     → IsTold (commands.Diff diff) i files a b s
 told_of diff file i files a b Done of h = h
 told_of diff file i files a b Absent of h = h
-told_of diff file i files a b Refused of h = absurd h.1.shows
+told_of diff file i files a b Refused of h = absurd h.2.shows
 told_of diff file i files a b Taken of h = h
 told_of diff file i files a b BadUsage of h = h
 told_of diff file i files a b BadInput of h = (file, of, (h.0, h.1, h.2, no_index_asked file h.0 h.2 h.3, h.4, h.5, h.6, h.7, h.8))

@@ -131,7 +131,7 @@ fails (commands.Combine c) i before after false true false h = h
 -- a command that is refused, of which that can't be said for want of memory
 unsaid : (s : Status) → Refusal (Some s) → (command : Command) (i : Option (List ℕ)) (before after : World) → Runs command i before after s → Runs command i before after OutOfMemory
 unsaid Refused is_refused (commands.Build b) i before after h = inl h.5
-unsaid Refused is_refused (commands.Ask f q) i before after h = (h.0, inl h.1.2)
+unsaid Refused is_refused (commands.Ask f q) i before after h = (h.0, inl h.1.3)
 unsaid Refused is_refused (commands.Diff d) i before after h = absurd h.1
 unsaid Refused is_refused (commands.Combine c) i before after h = inl h.3
 unsaid Taken is_taken (commands.Build b) i before after h = inl h.2

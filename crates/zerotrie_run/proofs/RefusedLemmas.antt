@@ -43,7 +43,7 @@ always_so : (file : TrieFile) (q : Question) (input : List ℕ) (files : Story) 
     → (HasAnswerInBlocks file q input files old new → ⊥) → (status ≡ BadInput) ⊎ (status ≡ BadUsage) ⊎ (3 ≤ number_of status)
 always_so file q input files old new Done h none blocks = unasked file q input files old new true h none blocks h.opens
 always_so file q input files old new Absent h none blocks = unasked file q input files old new false h none blocks h.opens
-always_so file q input files old new Refused h none blocks = absurd (none (h.1.held, h.1.read, of_trie h.1.kind h.1.bytes, h.1.opens))
+always_so file q input files old new Refused h none blocks = absurd (none (h.2.held, h.2.read, of_trie h.2.kind h.2.bytes, h.2.opens))
 always_so file q input files old new Taken h none blocks = absurd h
 always_so file q input files old new BadUsage h none blocks = inr (inl refl)
 always_so file q input files old new BadInput h none blocks = inl refl
