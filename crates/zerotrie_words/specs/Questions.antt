@@ -1,5 +1,5 @@
 -- What a trie is asked, by the words of a command, and how these are misused.
-use Rattle.std.specs.Prelude.{◌≡◌, ◌≢◌, ◌⊎◌, ◌∷◌, [], ℕ, List, Option, Some, None, true, false, codes, eqb, unwrap_or}
+use Rattle.std.specs.Prelude.{◌≡◌, ◌≢◌, ◌⊎◌, ◌∷◌, [], ℕ, Bool, List, Option, Some, None, true, false, codes, eqb, unwrap_or}
 use Rattle.std.specs.Borrow.{Bor}
 use Rattle.std.specs.List.{starts_with}
 use Rattle.clap.specs.declared.parser.matches.ArgMatches.{ArgMatches}

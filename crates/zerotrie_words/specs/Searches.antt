@@ -18,7 +18,7 @@ use Rattle.zerotrie_search.specs.declared.any.WordError.{WordError}
 use Rattle.zerotrie_search.specs.declared.range.KeyRange.{KeyRange}
 use Rattle.zerotrie_words.specs.Options.{text_of}
 use Rattle.zerotrie_words.specs.Refusals.{HasNoNumber, IsUnknown}
-use Rattle.zerotrie_words.specs.Words.{IsEdits, IsEnd, IsFormOf, IsFrom, IsLimit, IsTsv, form_word, fuzzy_by, glob_by, most_of, order_by, search_order}
+use Rattle.zerotrie_words.specs.Words.{IsEdits, IsFormOf, IsFrom, IsLimit, IsRangeEnd, IsTsv, form_word, fuzzy_by, glob_by, most_of, order_by, search_order}
 use Rattle.zerotrie_words.specs.declared.misuse.Misuse.{Misuse}
 use Rattle.zerotrie_words.specs.declared.misuse.Misuse.TheVariants as misuse
 use Rattle.zerotrie_words.specs.declared.options.ListOptions.{ListOptions}
@@ -47,7 +47,7 @@ abbrev pub IsFront : ListOptions → List ℕ → Type 0
 IsFront o prefix = prefix ≡ unwrap_or (text_of o.prefix) []
 
 abbrev pub IsRange : ListOptions → KeyRange → Type 0
-IsRange o r = IsFrom (text_of o.from) r.from × IsEnd (text_of o.below) (text_of o.to) r.to
+IsRange o r = IsFrom (text_of o.from) r.from × IsRangeEnd (text_of o.below) (text_of o.to) r.to
 
 -- a range ends twice
 abbrev pub IsRangeMisuse : ListOptions → Misuse → Type 0

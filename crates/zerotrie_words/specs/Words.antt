@@ -401,10 +401,10 @@ IsFrom word (Included key) = word ≡ Some key.now
 IsFrom word (Excluded key) = ⊥
 IsFrom word Unbounded = word ≡ None
 
-abbrev pub IsEnd : (below to : Option (List ℕ)) → Bound (Bor (List ℕ)) → Type 0
-IsEnd below to (Included key) = (below ≡ None) × (to ≡ Some key.now)
-IsEnd below to (Excluded key) = (below ≡ Some key.now) × (to ≡ None)
-IsEnd below to Unbounded = (below ≡ None) × (to ≡ None)
+abbrev pub IsRangeEnd : (below to : Option (List ℕ)) → Bound (Bor (List ℕ)) → Type 0
+IsRangeEnd below to (Included key) = (below ≡ None) × (to ≡ Some key.now)
+IsRangeEnd below to (Excluded key) = (below ≡ Some key.now) × (to ≡ None)
+IsRangeEnd below to Unbounded = (below ≡ None) × (to ≡ None)
 
 -- how the word of `glob` finds keys: by characters, or by bytes with a flag
 abbrev pub glob_by : Bool → SearchBy
