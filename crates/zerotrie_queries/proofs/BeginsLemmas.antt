@@ -27,6 +27,15 @@ found_here false from None = refl
 found_here false from (Some state) = refl
 
 -- and none is found where none is accepted
+pub none_from : (begins : Bool) (finds : List ℕ → Bool) → ((key : List ℕ) → finds key ≡ false) → (key : List ℕ) → found_from begins finds key ≡ false
+none_from true finds none key = no_front finds none key
+none_from false finds none key = none key
+
 pub none_left : {S : Type 0} (begins : Bool) (from : S → List ℕ → Bool) (state : S) → ((key : List ℕ) → from state key ≡ false) → (key : List ℕ) → found_left begins from (Some state) key ≡ false
 none_left true from state none key = no_front (from state) none key
 none_left false from state none key = none key
+
+-- nor after a byte that no key has next, unless the bytes before it are one
+pub none_after : (begins : Bool) (finds : List ℕ → Bool) (byte : ℕ) → (begins ≡ true → finds [] ≡ false) → ((key : List ℕ) → finds (byte ∷ key) ≡ false) → (key : List ℕ) → found_from begins finds (byte ∷ key) ≡ false
+none_after true finds byte here none key = ap (λ x. x || some_front (λ rest. finds (byte ∷ rest)) key) (here refl) ∙ no_front (λ rest. finds (byte ∷ rest)) none key
+none_after false finds byte here none key = none key

@@ -16,9 +16,10 @@ use Rattle.zerotrie_core.specs.Texts.{Lists, Means}
 use Rattle.zerotrie_core.specs.declared.TrieKind.{TrieKind}
 use Rattle.zerotrie_core.specs.declared.TrieKind.TheVariants.{Simple, Ignore, Hash, Ext}
 use Rattle.zerotrie_index.specs.Tries.{folded_key}
-use Rattle.zerotrie_search.specs.Automata.{edits_to, finds_by, finds_in, free_if, ignores_case, most_by, word_by}
+use Rattle.zerotrie_search.specs.Automata.{edits_to, finds_by, finds_in, ignores_case, most_by, word_by}
 use Rattle.zerotrie_search.specs.Sets.{by_bytes, some_front}
 use Rattle.zerotrie_queries.specs.Chosen.{at_edits, by_edits, found_from, sought_at, closest, edits_matched, edits_of, folded_bound, measured, is_in, is_kept, is_matched, is_chosen, is_word, told_edits, word_of, chosen, IsFolded, AreWordsOf, HasWords}
+use Rattle.zerotrie_queries.specs.Near.{edits_from}
 use Rattle.zerotrie_queries.specs.Sorted.{is_free, is_prefix_alone, picked}
 use Rattle.zerotrie_queries.specs.declared.folding.FoldedWords.{FoldedWords}
 use Rattle.zerotrie_queries.specs.declared.question.Choice.{Choice}
@@ -28,7 +29,7 @@ use Rattle.zerotrie_queries.specs.declared.question.Sought.{Sought}
 use Rattle.zerotrie_search.specs.Nearest.{measured_up_to, nearest}
 use Rattle.zerotrie_search.specs.declared.any.SearchBy.{SearchBy}
 use Rattle.zerotrie_search.specs.declared.any.SearchBy.TheVariants as by
-use Rattle.zerotrie_queries.proofs.BeginsLemmas.{no_front}
+use Rattle.zerotrie_queries.proofs.BeginsLemmas.{none_from}
 use Rattle.zerotrie_queries.proofs.NearLemmas.{nearest_alike}
 use Rattle.zerotrie_queries.proofs.ChoiceLemmas.{accepted_alike}
 
@@ -122,12 +123,9 @@ matched_folded kind (Some s) (Some t) word key is by has begins =
 
 -- and by as many edits
 edits_as : (kind : TrieKind) (b : SearchBy) (begins : Bool) (word other key : List ℕ) → word_by (kind_of kind) b word ≡ word_by (kind_of kind) b other
-    → (if begins then free_if (is_word b (word_by (kind_of kind) b word) && found_from begins (finds_by (kind_of kind) b word) key)
-    else if is_word b (word_by (kind_of kind) b word) then edits_to (ignores_case (kind_of kind)) b (word_by (kind_of kind) b word) (folded_key (kind_of kind) key) else None)
-    ≡ (if begins then free_if (is_word b (word_by (kind_of kind) b other) && found_from begins (finds_by (kind_of kind) b other) key)
-    else if is_word b (word_by (kind_of kind) b other) then edits_to (ignores_case (kind_of kind)) b (word_by (kind_of kind) b other) (folded_key (kind_of kind) key) else None)
-edits_as kind b true word other key same = ap free_if (matched_as kind b true word other key same)
-edits_as kind b false word other key same = ap (λ w. if is_word b w then edits_to (ignores_case (kind_of kind)) b w (folded_key (kind_of kind) key) else None) same
+    → (if is_word b (word_by (kind_of kind) b word) then edits_from begins (edits_to (ignores_case (kind_of kind)) b (word_by (kind_of kind) b word)) (folded_key (kind_of kind) key) else None)
+    ≡ (if is_word b (word_by (kind_of kind) b other) then edits_from begins (edits_to (ignores_case (kind_of kind)) b (word_by (kind_of kind) b other)) (folded_key (kind_of kind) key) else None)
+edits_as kind b begins word other key same = ap (λ w. if is_word b w then edits_from begins (edits_to (ignores_case (kind_of kind)) b w) (folded_key (kind_of kind) key) else None) same
 
 edits_folded : (kind : TrieKind) (o p : Option Sought) (word key : List ℕ) → word ≡ word_of kind o
     → option_map (λ s. s.by) p ≡ option_map (λ s. s.by) o → option_map (λ s. s.word.now) p ≡ option_map (λ _. word) o → option_map (λ s. s.begins) p ≡ option_map (λ s. s.begins) o → edits_matched kind p key ≡ edits_matched kind o key
@@ -314,16 +312,12 @@ none_between : (key : List ℕ) → bounds_contain by_bytes (Excluded []) (Exclu
 none_between [] = refl
 none_between (b ∷ key) = refl
 
-none_from : (begins : Bool) (key : List ℕ) → found_from begins (bounds_contain by_bytes (Excluded []) (Excluded [])) key ≡ false
-none_from false key = none_between key
-none_from true key = no_front (bounds_contain by_bytes (Excluded []) (Excluded [])) none_between key
-
 -- a word that is none of its sort finds none
 pub none_found : (kind : TrieKind) (c : Choice) (s : Sought) (begins : Bool) → IsFolded kind c → c.sought ≡ Some s → is_word s.by s.word.now ≡ false
     → (key : List ℕ) → found_from begins (bounds_contain by_bytes (Excluded []) (Excluded [])) (folded_key (kind_of kind) key) ≡ is_matched kind c.sought key
 none_found kind c s begins h is word key =
     let none : false ≡ is_matched kind c.sought key = rw (is, same_word kind c s h is, word) refl in
-    none_from begins (folded_key (kind_of kind) key) ∙ none
+    none_from begins (bounds_contain by_bytes (Excluded []) (Excluded [])) none_between (folded_key (kind_of kind) key) ∙ none
 
 -- the fewest edits are these, if they choose a pair
 pub closest_here : (kind : TrieKind) (c : Choice) (pairs : Pairs) (e n : ℕ) → e < n → (length (chosen kind (at_edits e c) pairs) == 0) ≡ false → closest kind c pairs e (n - e) ≡ chosen kind (at_edits e c) pairs

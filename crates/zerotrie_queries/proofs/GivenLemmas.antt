@@ -14,13 +14,17 @@ use Rattle.zerotrie_core.specs.Texts.{Lists, Means}
 use Rattle.zerotrie_core.specs.WellFormed.{IsWellFormed}
 use Rattle.zerotrie_core.specs.declared.TrieKind.{TrieKind}
 use Rattle.zerotrie_files.specs.Parts.{AppendsPart}
+use Rattle.zerotrie_index.specs.Tries.{folded_key}
 use Rattle.zerotrie_search.proofs.PathLemmas.{lists_few}
+use Rattle.zerotrie_search.specs.Automata.{any_edits_to, any_most}
 use Rattle.zerotrie_search.specs.Nearest.{nearest}
 use Rattle.zerotrie_search.specs.Searches.{accepted, accepted_left}
 use Rattle.zerotrie_search.specs.Sorted.{within}
+use Rattle.zerotrie_search.specs.declared.any.AnyAutomaton.{AnyAutomaton}
 use Rattle.zerotrie_search.specs.declared.range.KeyRange.{KeyRange}
-use Rattle.zerotrie_queries.specs.Chosen.{at_edits, chosen, closest, edits_matched, edits_of, is_chosen, is_kept, is_matched, measured, told_edits, AreWordsOf, HasWords}
+use Rattle.zerotrie_queries.specs.Chosen.{at_edits, begins_of, chosen, closest, edits_matched, edits_of, is_chosen, is_kept, is_matched, measured, told_edits, AreWordsOf, HasWords}
 use Rattle.zerotrie_queries.specs.Listed.{limited, first_left, first_picked, printed, Gives, IsPrintable, AreListed, AreListedInPart, AreUnprintable}
+use Rattle.zerotrie_queries.specs.Near.{edits_from}
 use Rattle.zerotrie_queries.specs.Printed.{are_printable, can_print, edits_line, listed, IsFirstUnprintable}
 use Rattle.zerotrie_queries.specs.Sorted.{found_between, is_prefix_alone, picked, AreWithin}
 use Rattle.zerotrie_queries.specs.declared.folding.FoldedWords.{FoldedWords}
@@ -57,6 +61,15 @@ pub gives_near : {P : Type 0} (IsValid : P → Type 0) (left : P → Left) (kind
 gives_near IsValid left kind c keep measure most kept edits is bytes p h pairs lists =
     let given = h pairs lists in
     (given.0, ap (accepted_left keep) given.1 ∙ ap to_come (near_kept kind c keep measure most kept edits is pairs))
+
+-- as it does by an automaton, of keys or of the nearest of their fronts
+pub gives_by : {P : Type 0} (IsValid : P → Type 0) (left : P → Left) (kind : TrieKind) (c : Choice) (keep : List ℕ → Bool) (begins : Bool) (a any : AnyAutomaton) → begins ≡ begins_of c.sought → any ≡ a → ((key : List ℕ) → keep key ≡ is_kept kind c key)
+    → ((key : List ℕ) → edits_from (begins_of c.sought) (any_edits_to any) (folded_key (kind_of kind) key) ≡ edits_matched kind c.sought key) → any_most any ≡ edits_of c → (bytes : List ℕ) (p : P)
+    → Gives IsValid left (λ pairs. nearest (λ key. edits_from begins (any_edits_to a) (folded_key (kind_of kind) key)) (entries (map_of pairs)) 0 (suc (any_most a))) kind bytes p → (pairs : Pairs) → Lists (kind_of kind) bytes pairs → IsValid p × (accepted_left keep (left p) ≡ to_come (picked Nearest kind c pairs))
+gives_by IsValid left kind c keep begins a any told is kept edits most bytes p =
+    gives_near IsValid left kind c keep (λ key. edits_from begins (any_edits_to a) (folded_key (kind_of kind) key)) (any_most a) kept
+    (λ key. ap (λ b. edits_from b (any_edits_to a) (folded_key (kind_of kind) key)) told ∙ ap (λ x. edits_from (begins_of c.sought) (any_edits_to x) (folded_key (kind_of kind) key)) (sym is) ∙ edits key)
+    (sym (ap any_most is) ∙ most) bytes p
 
 -- all are kept where there is no condition
 all_accepted : (pairs : Pairs) → accepted (λ _. true) pairs ≡ pairs

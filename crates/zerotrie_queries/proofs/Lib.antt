@@ -17,6 +17,7 @@ pub mod RecasedLemmas
 mod DiffLemmas
 mod NearLemmas
 mod FoldLemmas
+mod FewestLemmas
 mod EditsLemmas
 mod BeginsLemmas
 mod KeptLemmas

@@ -10,7 +10,7 @@ use Rattle.zerotrie_core.specs.Maps.{Pairs, after_run, begins_with}
 use Rattle.zerotrie_core.specs.Kinds.{kind_of}
 use Rattle.zerotrie_core.specs.declared.TrieKind.{TrieKind}
 use Rattle.zerotrie_index.specs.Tries.{folded_key}
-use Rattle.zerotrie_search.specs.Automata.{any_edits_to, any_most, edits_to, finds_by, free_if, ignores_case, most_by, word_by}
+use Rattle.zerotrie_search.specs.Automata.{any_edits_to, any_most, edits_to, finds_by, ignores_case, most_by, word_by}
 use Rattle.zerotrie_search.specs.Nearest.{measured_up_to}
 use Rattle.zerotrie_search.specs.Searches.{accepted}
 use Rattle.zerotrie_search.specs.Sets.{by_bytes, some_front}
@@ -20,6 +20,7 @@ use Rattle.zerotrie_search.specs.declared.any.AnyAutomaton.{AnyAutomaton}
 use Rattle.zerotrie_search.specs.declared.any.SearchBy.{SearchBy}
 use Rattle.zerotrie_search.specs.declared.any.SearchBy.TheVariants as by
 use Rattle.zerotrie_search.specs.declared.range.KeyRange.{KeyRange}
+use Rattle.zerotrie_queries.specs.Near.{edits_from}
 use Rattle.zerotrie_queries.specs.declared.folding.FoldedWords.{FoldedWords}
 use Rattle.zerotrie_queries.specs.declared.question.Choice.{Choice}
 use Rattle.zerotrie_queries.specs.declared.question.Pattern.{Pattern}
@@ -148,13 +149,12 @@ abbrev pub closest : TrieKind → Choice → Pairs → ℕ → ℕ → Pairs
 closest kind c pairs e zero = chosen kind (at_edits e c) pairs
 closest kind c pairs e (suc n) = if length (chosen kind (at_edits e c) pairs) == 0 then closest kind c pairs (suc e) n else chosen kind (at_edits e c) pairs
 
--- how many edits make a key of the word by which keys are sought, if some number does; none if it finds the key by no
--- edits, if keys are sought that begin with one that it finds, or if there is no word
+-- how many edits make a key of the word by which keys are sought, or if keys are sought that begin with one that it finds,
+-- the nearest of its fronts, if some number does; none if the word finds keys by no edits, or if there is no word
 abbrev pub edits_matched : TrieKind → Option Sought → List ℕ → Option ℕ
 edits_matched kind None key = Some 0
-edits_matched kind (Some s) key =
-    if s.begins then free_if (is_matched kind (Some s) key)
-    else if is_word s.by (word_by (kind_of kind) s.by s.word.now) then edits_to (ignores_case (kind_of kind)) s.by (word_by (kind_of kind) s.by s.word.now) (folded_key (kind_of kind) key) else None
+edits_matched kind (Some s) key = if is_word s.by (word_by (kind_of kind) s.by s.word.now)
+    then edits_from s.begins (edits_to (ignores_case (kind_of kind)) s.by (word_by (kind_of kind) s.by s.word.now)) (folded_key (kind_of kind) key) else None
 
 -- the same number of a key of which the other conditions hold
 abbrev pub measured : TrieKind → Choice → List ℕ → Option ℕ
@@ -164,7 +164,8 @@ measured kind c key = if is_kept kind c key then edits_matched kind c.sought key
 abbrev pub told_edits : TrieKind → Choice → List ℕ → ℕ
 told_edits kind c key = unwrap_or (measured_up_to (edits_of c) (edits_matched kind c.sought key)) 0
 
--- how many edits an automaton says that make a key of its word, and 0 without one, or if it does not accept as many
-abbrev pub told_by : Option AnyAutomaton → List ℕ → ℕ
-told_by None key = 0
-told_by (Some a) key = unwrap_or (measured_up_to (any_most a) (any_edits_to a key)) 0
+-- how many edits an automaton says that make a key of its word, or the nearest of its fronts, and 0 without one, or if it
+-- does not accept as many
+abbrev pub told_by : (begins : Bool) → Option AnyAutomaton → List ℕ → ℕ
+told_by begins None key = 0
+told_by begins (Some a) key = unwrap_or (measured_up_to (any_most a) (edits_from begins (any_edits_to a) key)) 0

@@ -2,6 +2,7 @@ pub mod Texts
 pub mod Files
 pub mod Json
 pub mod Printed
+pub mod Near
 pub mod Chosen
 pub mod Found
 pub mod Kept

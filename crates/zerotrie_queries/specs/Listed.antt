@@ -79,4 +79,4 @@ IsListingNoted (Err (Failed e)) old new = IsOutOfMemory e ⊎ (new ≡ true)
 
 -- how many edits a line of distances says that make a key of its word
 abbrev pub edits_said : Distances → List ℕ → ℕ
-edits_said line key = told_by line.word (folded_key (kind_of line.kind) key)
+edits_said line key = told_by line.begins line.word (folded_key (kind_of line.kind) key)

@@ -3,7 +3,7 @@
 ghost use Rattle.std.specs.Prelude.{◌≡◌, true, false, IfSome, IfNone};
 ghost use Rattle.zerotrie_core.specs.Kinds.{kind_of};
 ghost use Rattle.zerotrie_search.specs.Automata.{any_accepts, any_edits_to, any_most, edits_to, finds_in, ignores_case, most_by};
-ghost use Rattle.zerotrie_queries.specs.Chosen.{at_edits, by_edits, edits_of, is_word};
+ghost use Rattle.zerotrie_queries.specs.Chosen.{at_edits, begins_of, by_edits, edits_of, is_word};
 ghost use Rattle.zerotrie_queries.specs.Finders.{asks_keys};
 
 use zerotrie_core::{TrieKind, TrieRef};
@@ -165,6 +165,16 @@ impl<'a> Choice<'a> {
         }
     }
 
+    /// Returns whether keys need only begin with one that its word finds.
+    pub(crate) fn begins(self) -> bool
+        ensures { result ≡ begins_of self.entry.sought }
+    {
+        match self.sought {
+            Some(sought) => sought.begins,
+            None => false,
+        }
+    }
+
     /// Returns the same choice with other edits of its word.
     pub(crate) fn with_edits(self, edits: u32) -> Self
         ensures { result ≡ at_edits edits self.entry }
@@ -191,8 +201,9 @@ pub enum Order {
     /// That of bytes, and only the pairs that the fewest edits of the word find, of those that its edits
     /// do. If keys are not sought by edits, all pairs.
     Closest,
-    /// The pairs that fewer edits of the word find first, and those that as many find in the order of bytes.
-    /// If keys are not sought by edits, that of bytes.
+    /// The pairs that fewer edits of the word find first, and those that as many find in the order of bytes. A
+    /// key that need only begin with one that the word finds is as near as the nearest of its beginnings. If keys
+    /// are not sought by edits, that of bytes.
     Nearest,
 }
 

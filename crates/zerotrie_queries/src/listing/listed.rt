@@ -13,6 +13,7 @@ ghost use Rattle.zerotrie_search.specs.Automata.{any_accepts, any_edits_to, any_
 ghost use Rattle.zerotrie_search.specs.Nearest.{nearest};
 ghost use Rattle.zerotrie_queries.specs.Chosen.{AreBelow, AreWordsOf, IsFolded, at_edits, begins_of, chosen, closest, edits_matched, edits_of, found_from, is_chosen, is_in, is_kept, is_matched, measured};
 ghost use Rattle.zerotrie_queries.specs.Listed.{Gives, first_picked};
+ghost use Rattle.zerotrie_queries.specs.Near.{edits_from};
 ghost use Rattle.zerotrie_queries.specs.Kept.{keeps, may_keep};
 ghost use Rattle.zerotrie_queries.specs.Pairs.{AreChosenValid, AreFirstValid, IsValid, left_of, left_of_chosen, left_of_first};
 ghost use Rattle.zerotrie_queries.specs.Sorted.{AreWithin, found_between, is_prefix_alone, is_unbounded, picked};
@@ -23,7 +24,8 @@ use crate::first_pairs::FirstPairs;
 use crate::folding::FoldedWords;
 use crate::found::Found;
 use crate::kept::{Conditions, conditions};
-use crate::question::{Choice, ListQuery, Order, Sought};
+use crate::near::Near;
+use crate::question::{Choice, ListQuery, Order};
 use std::alloc::{AllocError, Global};
 use std::ops::Bound;
 use zerotrie_core::{Trie, TrieKind, TrieRef, ZeroTrieStream};
@@ -37,7 +39,7 @@ use zerotrie_search::{
 type WordPairs<'t, 'q, W> = ZeroTrieSearch<'t, 'q, ByKind<Found<W>>>;
 
 /// The pairs that edits of a word find, the nearest first.
-type NearPairs<'t, W> = ZeroTrieNearest<'t, ByKind<W>>;
+type NearPairs<'t, W> = ZeroTrieNearest<'t, ByKind<Near<W>>>;
 
 /// The pairs with a prefix in the order of the trie, those of which the conditions of a choice hold, or those
 /// that a word finds.
@@ -139,16 +141,6 @@ impl<'t, 'q> TrieListing for ChosenPairs<'t, 'q> {
     }
 }
 
-/// Returns whether keys may begin with one that the word of a choice finds.
-fn begins_of(sought: Option<Sought<'_>>) -> bool
-    ensures { result ≡ begins_of sought.entry }
-{
-    match sought {
-        Some(sought) => sought.begins,
-        None => false,
-    }
-}
-
 /// Lists the pairs between two bounds that the word of a choice finds. `word` finds what it does.
 fn by_word<'t, 'q, W: Automaton + Drop>(
     alloc: Global,
@@ -167,7 +159,7 @@ fn by_word<'t, 'q, W: Automaton + Drop>(
 {
     let found = Found {
         word: BeginsWith(word),
-        begins: begins_of(choice.sought),
+        begins: choice.begins(),
     };
     trie.search_range(alloc, part.from, part.to, ByKind(trie.kind, found))
 }
@@ -437,14 +429,20 @@ fn closest<'t, 'q>(
     sorted(alloc, trie, choice.with_edits(edits), above)
 }
 
-/// Lists the pairs that edits of a word find, the nearest first.
-fn near<'t, W: Fuzzy>(alloc: Global, trie: &'t TrieRef<'_>, word: W) -> NearPairs<'t, W>
+/// Lists the pairs that edits of a word find, or if `begins` is set, those that begin so, the nearest first.
+fn near<'t, W: Fuzzy>(
+    alloc: Global,
+    trie: &'t TrieRef<'_>,
+    word: W,
+    begins: bool,
+) -> NearPairs<'t, W>
     ensures { Gives ⟦<NearPairs<'t, W> as TrieListing>⟧.IsValid
         ⟦<NearPairs<'t, W> as TrieListing>⟧.left
-        (λ pairs. nearest (λ key. W.measure word (folded_key (kind_of trie.now.kind) key))
+        (λ pairs. nearest (λ key. edits_from begins (W.measure word)
+        (folded_key (kind_of trie.now.kind) key))
         (entries (map_of pairs)) 0 (suc (W.most word))) trie.now.kind trie.now.bytes.now result }
 {
-    trie.nearest(alloc, ByKind(trie.kind, word))
+    trie.nearest(alloc, ByKind(trie.kind, Near { word, begins }))
 }
 
 /// Lists the pairs whose keys are chosen, all of them by no edit, in the order of their bytes.
@@ -475,29 +473,32 @@ fn by_edits<'t, 'q>(
     requires folded { IsFolded trie.now.kind choice }
     requires above { AreBelow choice.prefix.now (bound_map (λ b. b.now) above) }
     requires most { any_most any ≡ edits_of choice }
-    requires edits { (key : List ℕ) → any_edits_to any (folded_key (kind_of trie.now.kind) key)
+    requires edits { (key : List ℕ)
+        → edits_from (begins_of choice.sought) (any_edits_to any) (folded_key (kind_of trie.now.kind) key)
         ≡ edits_matched trie.now.kind choice.sought key }
-    requires finds { (key : List ℕ) → any_accepts any (folded_key (kind_of trie.now.kind) key)
+    requires finds { (key : List ℕ)
+        → found_from (begins_of choice.sought) (any_accepts any) (folded_key (kind_of trie.now.kind) key)
         ≡ is_matched trie.now.kind choice.sought key }
     ensures { IfOk result (Gives AreChosenValid left_of_chosen
         (picked Nearest trie.now.kind choice.entry) trie.now.kind trie.now.bytes.now) }
 {
     let condition = condition_of(trie.kind, choice);
+    let begins = choice.begins();
     match any {
         AnyAutomaton::Fuzzy(word) => {
-            let pairs = ListedPairs::NearFuzzy(near(alloc, trie, word));
+            let pairs = ListedPairs::NearFuzzy(near(alloc, trie, word, begins));
             Ok(ChosenPairs { pairs, condition })
         }
         AnyAutomaton::FuzzyChars(word) => {
-            let pairs = ListedPairs::NearFuzzyChars(near(alloc, trie, word));
+            let pairs = ListedPairs::NearFuzzyChars(near(alloc, trie, word, begins));
             Ok(ChosenPairs { pairs, condition })
         }
         AnyAutomaton::Swaps(word) => {
-            let pairs = ListedPairs::NearSwaps(near(alloc, trie, word));
+            let pairs = ListedPairs::NearSwaps(near(alloc, trie, word, begins));
             Ok(ChosenPairs { pairs, condition })
         }
         AnyAutomaton::SwapsChars(word) => {
-            let pairs = ListedPairs::NearSwapsChars(near(alloc, trie, word));
+            let pairs = ListedPairs::NearSwapsChars(near(alloc, trie, word, begins));
             Ok(ChosenPairs { pairs, condition })
         }
         AnyAutomaton::Prefix(_)
@@ -509,7 +510,7 @@ fn by_edits<'t, 'q>(
 }
 
 /// Lists the pairs whose keys are chosen, the nearest first.
-#[tactic(auto, using(crate::proofs::EditsLemmas::exact_none, crate::proofs::EditsLemmas::exact_no_word, crate::proofs::EditsLemmas::exact_begins, crate::proofs::EditsLemmas::edits_found, crate::proofs::EditsLemmas::most_found, crate::proofs::EditsLemmas::found_whole))]
+#[tactic(auto, using(crate::proofs::EditsLemmas::exact_none, crate::proofs::EditsLemmas::exact_no_word, crate::proofs::EditsLemmas::edits_found, crate::proofs::EditsLemmas::most_found, crate::proofs::FoldLemmas::found_folded))]
 fn nearest<'t, 'q>(
     alloc: Global,
     trie: &'t TrieRef<'_>,
@@ -524,9 +525,6 @@ fn nearest<'t, 'q>(
     let Some(sought) = choice.sought else {
         return exact(alloc, trie, choice, above);
     };
-    if sought.begins {
-        return exact(alloc, trie, choice, above);
-    }
     match sought.automaton(trie.kind) {
         Some(any) => by_edits(alloc, trie, choice, above, any),
         None => exact(alloc, trie, choice, above),

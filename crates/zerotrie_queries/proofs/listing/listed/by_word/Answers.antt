@@ -13,7 +13,7 @@ returns g c =
     let sought = c.args.choice.sought in
     let short : length trie.bytes.now < 2 ^ 64 = search rules in
     let accepts : Bool → List ℕ → Bool = λ begins key. found_from begins (g.W.Automaton.accepts c.args.word) (folded_key (kind_of trie.kind) key) in
-    let same : (key : List ℕ) → accepts c.begins_of.result key ≡ is_matched trie.kind sought key = subst (λ b. (key : List ℕ) → accepts b key ≡ is_matched trie.kind sought key) (sym c.begins_of.ensures) c.requires in
+    let same : (key : List ℕ) → accepts c.begins.result key ≡ is_matched trie.kind sought key = subst (λ b. (key : List ℕ) → accepts b key ≡ is_matched trie.kind sought key) (sym c.begins.ensures) c.requires in
     if_ok_so c.search_range.result
-    (λ s kind bytes pairs. gives_between trie.kind (accepts c.begins_of.result) (is_matched trie.kind sought) same (bound_map (λ b. b.now) c.args.part.from) (bound_map (λ b. b.now) c.args.part.to) trie.bytes.now s.sorted.kind s.sorted.bytes s.left short kind bytes pairs)
+    (λ s kind bytes pairs. gives_between trie.kind (accepts c.begins.result) (is_matched trie.kind sought) same (bound_map (λ b. b.now) c.args.part.from) (bound_map (λ b. b.now) c.args.part.to) trie.bytes.now s.sorted.kind s.sorted.bytes s.left short kind bytes pairs)
     c.search_range.ensures.kind c.search_range.ensures.bytes c.search_range.ensures.pairs
