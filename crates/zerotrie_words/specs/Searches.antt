@@ -153,13 +153,12 @@ IsChoiceMisuse o why = (SeeksNothing o × (why ≡ misuse.NothingSought)) ⊎ (I
 -- Keys are near a word, and nothing says otherwise how they are listed than with how many edits make each.
 pub record AreMeasured (o : SearchOptions) : Type 0 where
   pub near : o.fuzzy ≢ None
-  pub whole : o.beginnings ≡ false
   pub format : o.list.format ≡ None
   pub spelled : o.list.raw ≡ false
   pub printed : o.list.count ≡ false
 
 abbrev pub IsMeasuringMisuse : SearchOptions → Misuse → Type 0
-IsMeasuringMisuse o why = (((o.fuzzy ≡ None) ⊎ (o.beginnings ≡ true)) × (why ≡ misuse.IdleDistance))
+IsMeasuringMisuse o why = ((o.fuzzy ≡ None) × (why ≡ misuse.IdleDistance))
     ⊎ (((o.list.format ≢ None) ⊎ ((o.list.raw ≡ true) ⊎ (o.list.count ≡ true))) × (why ≡ misuse.DistanceForm))
 
 -- how the pairs of a search are printed, by whether distances are

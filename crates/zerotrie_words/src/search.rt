@@ -176,7 +176,7 @@ impl<'a> SearchOptions<'a> {
         ensures none { IfNone result (AreMeasured self.now) }
         ensures some { IfSome result (IsMeasuringMisuse self.now) }
     {
-        if self.fuzzy.is_none() || self.beginnings {
+        if self.fuzzy.is_none() {
             return Some(Misuse::IdleDistance);
         }
         let other = self.list.format.is_some() || self.list.raw || self.list.count;
