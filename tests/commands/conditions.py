@@ -3,9 +3,8 @@ import random
 import re
 
 from .cases import LOWER, NAMES, RUN, here, holds, lines_of, made
-from .formats import escaped
 from .listing import in_listed_order
-from .search import edits_between, is_within
+from .search import edits_between, edits_of_front, is_within, lines_far
 
 
 def test_conditions():
@@ -47,14 +46,12 @@ def test_conditions():
                 elif sort == 1:
                     near = chance.choice(sorted(pairs)).decode()[1:]
                     words += ['--fuzzy', near, '-e', '2']
-                    how_far = lambda key: edits_between(folds(near), folds(key).decode())
                     if chance.random() < 0.3:
                         words += ['--beginnings']
-                        tests.append(lambda key: any(how_far(key[:end]) <= 2 for end in range(len(key) + 1)))
-                        far = lambda key: 0
+                        far = lambda key: edits_of_front(folds(near), folds(key))
                     else:
-                        far = how_far
-                        tests.append(lambda key: how_far(key) <= 2)
+                        far = lambda key: edits_between(folds(near), folds(key).decode())
+                    tests.append(lambda key: far(key) <= 2)
                 elif sort == 2 or not words:
                     letters = bytes(chance.choice(sorted(pairs))[::2])[:3]
                     words += ['--subsequence', letters.decode()]
@@ -68,6 +65,5 @@ def test_conditions():
             holds(f'{kind}: {command} {words}', [command, path, *words], lines_of(wanted), 0)
             holds(f'{kind}: {command} {words}, counted', [command, path, *words, '-c'], b'%d\n' % len(wanted), 0)
             holds(f'{kind}: {command} {words}, the first', [command, path, *words, '-n', '1'], lines_of(wanted[:1]), 0)
-            if far and '--beginnings' not in words:
-                measured = b''.join(escaped(key) + b'\t%d\t%d\n' % (value, far(key)) for key, value in wanted)
-                holds(f'{kind}: {command} {words}, how far', [command, path, *words, '--distance'], measured, 0)
+            if far:
+                holds(f'{kind}: {command} {words}, how far', [command, path, *words, '--distance'], lines_far(wanted, far), 0)
