@@ -23,6 +23,7 @@ mod json_text;
 mod kept;
 mod listing;
 mod lookups;
+mod near;
 mod print;
 mod question;
 mod reports;

@@ -142,6 +142,14 @@ impl<'a> Choice<'a> {
         }
     }
 
+    /// Returns whether keys need only begin with one that its word finds.
+    pub(in crate::zerotrie_queries) fn begins(self) -> bool {
+        match self.sought {
+            Some(sought) => sought.begins,
+            None => false,
+        }
+    }
+
     /// Returns the same choice with other edits of its word.
     pub(in crate::zerotrie_queries) fn with_edits(self, edits: u32) -> Self {
         Choice {
@@ -166,8 +174,9 @@ pub enum Order {
     /// That of bytes, and only the pairs that the fewest edits of the word find, of those that its edits
     /// do. If keys are not sought by edits, all pairs.
     Closest,
-    /// The pairs that fewer edits of the word find first, and those that as many find in the order of bytes.
-    /// If keys are not sought by edits, that of bytes.
+    /// The pairs that fewer edits of the word find first, and those that as many find in the order of bytes. A
+    /// key that need only begin with one that the word finds is as near as the nearest of its beginnings. If keys
+    /// are not sought by edits, that of bytes.
     Nearest,
 }
 

@@ -28,7 +28,7 @@ pub enum Misuse {
     IdleBeginnings,
     /// `--bytes` is given without a word that it is of.
     IdleBytes,
-    /// `--distance` is given without `--fuzzy`, or with `--beginnings`.
+    /// `--distance` is given without `--fuzzy`.
     IdleDistance,
     /// A range ends below a key and at one.
     TwoEnds,
@@ -111,7 +111,7 @@ impl Misuse {
             Misuse::IdleBeginnings => "--beginnings is for --fuzzy",
             Misuse::IdleBytes => "--bytes is for --glob, --not and --fuzzy",
             Misuse::TwoEnds => "give only one of --below and --to",
-            Misuse::IdleDistance => "--distance is for --fuzzy without --beginnings",
+            Misuse::IdleDistance => "--distance is for --fuzzy",
             Misuse::DistanceForm => {
                 "--distance prints tsv: leave out --count, --format and --raw"
             }

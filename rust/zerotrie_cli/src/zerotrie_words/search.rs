@@ -135,7 +135,7 @@ impl<'a> SearchOptions<'a> {
 
     /// Returns why no distances can be printed, if so.
     fn unmeasured(&self) -> Option<Misuse> {
-        if self.fuzzy.is_none() || self.beginnings {
+        if self.fuzzy.is_none() {
             return Some(Misuse::IdleDistance);
         }
         let other = self.list.format.is_some() || self.list.raw || self.list.count;

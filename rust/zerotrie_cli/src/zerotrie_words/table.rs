@@ -432,7 +432,7 @@ const LISTINGS: &[Subcommand] = &[
             Argument {
                 name: "distance",
                 form: Form::Flag(None),
-                help: "Print how many edits each key is from WORD, too",
+                help: "Print how many edits each key, or its beginning, is from WORD",
             },
             Argument {
                 name: "subsequence",

@@ -6,7 +6,8 @@ use crate::zerotrie_queries::first_pairs::FirstPairs;
 use crate::zerotrie_queries::folding::FoldedWords;
 use crate::zerotrie_queries::found::Found;
 use crate::zerotrie_queries::kept::{Conditions, conditions};
-use crate::zerotrie_queries::question::{Choice, ListQuery, Order, Sought};
+use crate::zerotrie_queries::near::Near;
+use crate::zerotrie_queries::question::{Choice, ListQuery, Order};
 use crate::rstd::alloc::{AllocError, Global};
 use crate::rstd::ops::Bound;
 use crate::zerotrie_core::{Trie, TrieKind, TrieRef, ZeroTrieStream};
@@ -20,7 +21,7 @@ use crate::zerotrie_search::{
 type WordPairs<'t, 'q, W> = ZeroTrieSearch<'t, 'q, ByKind<Found<W>>>;
 
 /// The pairs that edits of a word find, the nearest first.
-type NearPairs<'t, W> = ZeroTrieNearest<'t, ByKind<W>>;
+type NearPairs<'t, W> = ZeroTrieNearest<'t, ByKind<Near<W>>>;
 
 /// The pairs with a prefix in the order of the trie, those of which the conditions of a choice hold, or those
 /// that a word finds.
@@ -100,14 +101,6 @@ impl<'t, 'q> TrieListing for ChosenPairs<'t, 'q> {
     }
 }
 
-/// Returns whether keys may begin with one that the word of a choice finds.
-fn begins_of(sought: Option<Sought<'_>>) -> bool {
-    match sought {
-        Some(sought) => sought.begins,
-        None => false,
-    }
-}
-
 /// Lists the pairs between two bounds that the word of a choice finds. `word` finds what it does.
 fn by_word<'t, 'q, W: Automaton>(
     alloc: Global,
@@ -118,7 +111,7 @@ fn by_word<'t, 'q, W: Automaton>(
 ) -> Result<WordPairs<'t, 'q, W>, AllocError> {
     let found = Found {
         word: BeginsWith(word),
-        begins: begins_of(choice.sought),
+        begins: choice.begins(),
     };
     trie.search_range(alloc, part.from, part.to, ByKind(trie.kind, found))
 }
@@ -318,9 +311,14 @@ fn closest<'t, 'q>(
     sorted(alloc, trie, choice.with_edits(edits), above)
 }
 
-/// Lists the pairs that edits of a word find, the nearest first.
-fn near<'t, W: Fuzzy>(alloc: Global, trie: &'t TrieRef<'_>, word: W) -> NearPairs<'t, W> {
-    trie.nearest(alloc, ByKind(trie.kind, word))
+/// Lists the pairs that edits of a word find, or if `begins` is set, those that begin so, the nearest first.
+fn near<'t, W: Fuzzy>(
+    alloc: Global,
+    trie: &'t TrieRef<'_>,
+    word: W,
+    begins: bool,
+) -> NearPairs<'t, W> {
+    trie.nearest(alloc, ByKind(trie.kind, Near { word, begins }))
 }
 
 /// Lists the pairs whose keys are chosen, all of them by no edit, in the order of their bytes.
@@ -342,21 +340,22 @@ fn by_edits<'t, 'q>(
     any: AnyAutomaton<'q>,
 ) -> Result<ChosenPairs<'t, 'q>, AllocError> {
     let condition = condition_of(trie.kind, choice);
+    let begins = choice.begins();
     match any {
         AnyAutomaton::Fuzzy(word) => {
-            let pairs = ListedPairs::NearFuzzy(near(alloc, trie, word));
+            let pairs = ListedPairs::NearFuzzy(near(alloc, trie, word, begins));
             Ok(ChosenPairs { pairs, condition })
         }
         AnyAutomaton::FuzzyChars(word) => {
-            let pairs = ListedPairs::NearFuzzyChars(near(alloc, trie, word));
+            let pairs = ListedPairs::NearFuzzyChars(near(alloc, trie, word, begins));
             Ok(ChosenPairs { pairs, condition })
         }
         AnyAutomaton::Swaps(word) => {
-            let pairs = ListedPairs::NearSwaps(near(alloc, trie, word));
+            let pairs = ListedPairs::NearSwaps(near(alloc, trie, word, begins));
             Ok(ChosenPairs { pairs, condition })
         }
         AnyAutomaton::SwapsChars(word) => {
-            let pairs = ListedPairs::NearSwapsChars(near(alloc, trie, word));
+            let pairs = ListedPairs::NearSwapsChars(near(alloc, trie, word, begins));
             Ok(ChosenPairs { pairs, condition })
         }
         AnyAutomaton::Prefix(_)
@@ -377,9 +376,6 @@ fn nearest<'t, 'q>(
     let Some(sought) = choice.sought else {
         return exact(alloc, trie, choice, above);
     };
-    if sought.begins {
-        return exact(alloc, trie, choice, above);
-    }
     match sought.automaton(trie.kind) {
         Some(any) => by_edits(alloc, trie, choice, above, any),
         None => exact(alloc, trie, choice, above),
