@@ -1,2 +1,3 @@
 mod StepLemmas
 mod LawLemmas
+mod MakingLemmas

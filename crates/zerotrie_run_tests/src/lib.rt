@@ -4,9 +4,11 @@
 #![tactic(auto)]
 
 mod laws;
+mod making;
 mod memory;
 
 pub use laws::{asks, builds, combines};
+pub use making::{makes, makes_again, makes_listed, parses_value};
 pub use memory::{MemoryDisk, replaced};
 
 #[cfg(test)]
