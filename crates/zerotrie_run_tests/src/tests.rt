@@ -2,6 +2,7 @@ mod builds;
 mod disk;
 mod files;
 mod indexes;
+mod making;
 mod planted;
 mod several;
 
