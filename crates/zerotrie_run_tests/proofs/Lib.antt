@@ -1,3 +1,4 @@
 mod StepLemmas
 mod LawLemmas
+mod ListingLemmas
 mod MakingLemmas

@@ -1,13 +1,18 @@
 -- The laws of zerotrie_making, of what its calls return.
-use Rattle.std.proofs.Common.{◌≡◌, ℕ, List, [], Option, Some, None, Result, Ok, Err, refl, sym, subst}
-use Rattle.std.specs.Prelude.{◌≢◌, IfErr, IfNone, IfOk, IfSome}
+use Rattle.std.proofs.Common.{◌≡◌, ℕ, ◌^◌, ◌<◌, List, [], ◌∷◌, ◌++◌, Option, Some, None, Result, Ok, Err, refl, sym, ap, ◌∙◌, subst}
+use Rattle.std.specs.Prelude.{◌≢◌, All, IfErr, IfNone, IfOk, IfSome}
 use Rattle.zerotrie_core.specs.Kinds.{kind_of}
 use Rattle.zerotrie_core.specs.Maps.{Pairs, beginning, map_of}
 use Rattle.zerotrie_core.specs.Texts.{Lists, Means}
+use Rattle.zerotrie_core.specs.WellFormed.{IsWellFormed}
 use Rattle.zerotrie_core.specs.declared.TrieKind.{TrieKind}
 use Rattle.zerotrie_core.specs.declared.ZeroTrieBuildError.TheVariants.{CouldNotSolvePerfectHash}
 use Rattle.zerotrie_index.specs.declared.error.ZeroIndexBuildError.TheVariants.{Crowded}
+use Rattle.zerotrie_lines.specs.Laws.{BadIsUnread, LinesReadBack}
+use Rattle.zerotrie_lines.specs.Lines.{tsv_line, tsv_lines}
 use Rattle.zerotrie_lines.specs.Numbers.{IsNumber}
+use Rattle.zerotrie_lines.specs.declared.reading.Format.TheVariants as format
+use Rattle.zerotrie_lines.specs.declared.reading.Header.TheVariants.{Absent}
 use Rattle.zerotrie_lines.specs.declared.reading.LineEnd.TheVariants.{CrLf}
 use Rattle.zerotrie_making.specs.Json.{WholeIsNumber, whole}
 use Rattle.zerotrie_making.specs.Laws.{ListedIsMadeAgain, RefusedMakesNoFile, UnreadMakesNoFile}
@@ -20,6 +25,7 @@ use Rattle.zerotrie_making.specs.declared.plan.Plan.{Plan}
 use Rattle.zerotrie_queries.specs.Printed.{lines_of, pair_line}
 use Rattle.zerotrie_queries.specs.declared.print.Style.TheVariants.{Tsv}
 use Rattle.zerotrie_run_tests.specs.Making.{MakesNone, MeanPairsOf, MeanSame, NoPlanMakes, SaysNoPairs, bare_plan}
+use Rattle.zerotrie_run_tests.proofs.ListingLemmas.{no_other, values_below}
 
 -- the text is the lines of all pairs that bytes list
 abbrev pub IsListing : TrieKind → (bytes text : List ℕ) → Type 0
@@ -32,6 +38,31 @@ listed_same law kind bytes text (Ok made) listed is = λ m means.
     let again = law kind bytes made.file.items m (bare_plan kind) means CrLf refl (λ same. cc) refl refl refl file in
     subst (λ b. Means (kind_of kind) b m) (sym again.1) again.2
 listed_same law kind bytes text (Err e) listed is = tt
+
+-- the lines in which pairs are listed
+same_lines : (kind : TrieKind) (pairs : Pairs) → lines_of (pair_line Tsv) (beginning (kind_of kind) [] pairs) ≡ tsv_lines pairs
+same_lines kind [] = refl
+same_lines kind (e ∷ pairs) = ap (λ t. tsv_line e ++ t) (same_lines kind pairs)
+
+-- no error says that they are no pairs
+lines_are_pairs : LinesReadBack → BadIsUnread → (kind : TrieKind) (pairs : Pairs) (e : MakeError) → All (λ p. p.1 < 2 ^ 64) pairs → Explains (bare_plan kind) (tsv_lines pairs) e → SaysNoPairs e → ⊥
+lines_are_pairs back bad kind pairs (NotText other) small why says = no_other pairs other why
+lines_are_pairs back bad kind pairs (Line number fault) small why says = bad format.Tsv CrLf Absent (tsv_lines pairs) number fault pairs why (back CrLf pairs small)
+lines_are_pairs back bad kind pairs (NotJson line column) small why says = why
+lines_are_pairs back bad kind pairs NotPairs small why says = why
+lines_are_pairs back bad kind pairs (NotPair bad_pair) small why says = why
+lines_are_pairs back bad kind pairs (Keys s) small why says = says
+lines_are_pairs back bad kind pairs (SumTooLarge k) small why says = says
+lines_are_pairs back bad kind pairs (Refused e) small why says = says
+lines_are_pairs back bad kind pairs (IndexRefused e) small why says = says
+lines_are_pairs back bad kind pairs OutOfMemory small why says = says
+
+pub listed_pairs : LinesReadBack → BadIsUnread → (kind : TrieKind) (bytes text : List ℕ) (r : Result Made MakeError) → IsListing kind bytes text → IfErr r (λ e. Explains (bare_plan kind) text e)
+    → IfErr r (λ e. IsWellFormed (kind_of kind) bytes → SaysNoPairs e → ⊥)
+listed_pairs back bad kind bytes text (Ok made) listed why = tt
+listed_pairs back bad kind bytes text (Err e) listed why = λ formed.
+    let means = formed.1 in
+    lines_are_pairs back bad kind means.pairs e (values_below means.lists) (subst (λ t. Explains (bare_plan kind) t e) (listed means.pairs means.lists ∙ same_lines kind means.pairs) why)
 
 pub mean_pairs : (kind : TrieKind) (lines : List ℕ) (first second : Made) → IsMade (bare_plan kind) lines first → MeanSame kind first.file.items second.file.items → MeanPairsOf lines kind first.file.items second.file.items
 mean_pairs kind lines first second made same =

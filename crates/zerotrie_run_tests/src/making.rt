@@ -5,6 +5,7 @@ ghost use Rattle.std.specs.Prelude.{◌≡◌, ◌≢◌, [], Some, None, IfErr,
 ghost use Rattle.zerotrie_core.specs.Kinds.{kind_of};
 ghost use Rattle.zerotrie_core.specs.Maps.{Pairs, beginning};
 ghost use Rattle.zerotrie_core.specs.Texts.{Lists};
+ghost use Rattle.zerotrie_core.specs.WellFormed.{IsWellFormed};
 ghost use Rattle.zerotrie_core.specs.declared.ZeroTrieBuildError.TheVariants.{CouldNotSolvePerfectHash};
 ghost use Rattle.zerotrie_index.specs.declared.error.ZeroIndexBuildError.TheVariants.{Crowded};
 ghost use Rattle.zerotrie_making.specs.Json.{whole};
@@ -18,6 +19,7 @@ use std::alloc::Global;
 use std::ops::Bound;
 use zerotrie_core::{TrieKind, TrieRef};
 use zerotrie_files::Noted;
+use zerotrie_lines::laws::{bad_is_unread, lines_read_back};
 use zerotrie_lines::{Format, Header, LineEnd, parse_number};
 use zerotrie_making::laws::{
     listed_is_made_again, refused_makes_no_file, unread_makes_no_file, whole_is_number,
@@ -48,8 +50,9 @@ fn plan_of(kind: TrieKind) -> Plan
 
 /// Lists all pairs of a trie as lines. In memory that fails only if an allocation does.
 fn listing_of(alloc: Global, kind: TrieKind, bytes: &[u8]) -> Result<Vec<u8>, MakeError>
-    ensures { IfOk result (λ text. (pairs : Pairs) → Lists (kind_of kind) bytes.now pairs
+    ensures ok { IfOk result (λ text. (pairs : Pairs) → Lists (kind_of kind) bytes.now pairs
         → text.items ≡ lines_of (pair_line Tsv) (beginning (kind_of kind) [] pairs)) }
+    ensures err { IfErr result (λ e. e ≡ OutOfMemory) }
 {
     let all = ListQuery {
         choice: Choice {
@@ -72,11 +75,15 @@ fn listing_of(alloc: Global, kind: TrieKind, bytes: &[u8]) -> Result<Vec<u8>, Ma
     }
 }
 
-/// Makes a trie again of the lines in which it is listed. It means the same map.
+/// Makes a trie again of the lines in which it is listed. It means the same map. No error says that the
+/// lines are no pairs.
 pub fn makes_listed(alloc: Global, kind: TrieKind, bytes: &[u8]) -> Result<Made, MakeError>
-    ensures { IfOk result (λ made. MeanSame kind bytes.now made.file.items) }
+    ensures same { IfOk result (λ made. MeanSame kind bytes.now made.file.items) }
+    ensures read { IfErr result (λ e. IsWellFormed (kind_of kind) bytes.now → SaysNoPairs e → ⊥) }
 {
     listed_is_made_again();
+    lines_read_back();
+    bad_is_unread();
     let text = listing_of(alloc, kind, bytes)?;
     make(alloc, plan_of(kind), text)
 }

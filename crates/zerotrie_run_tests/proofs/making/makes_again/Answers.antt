@@ -10,4 +10,4 @@ returns c =
     let first = c.in_ok-first.first in
     let second = c.in_ok-second.second in
     let made = subst (λ plan. IsMade plan lines first) c.plan_of.ensures c.in_ok-first.ensures.ok in
-    mean_pairs c.args.kind lines first second made (subst (λ bytes. MeanSame c.args.kind bytes second.file.items) c.as_slice.ensures.value c.in_ok-second.ensures)
+    mean_pairs c.args.kind lines first second made (subst (λ bytes. MeanSame c.args.kind bytes second.file.items) c.as_slice.ensures.value c.in_ok-second.ensures.same)
