@@ -9,7 +9,7 @@ ghost use Rattle.zerotrie.specs.dense.Views.{pairs_in, rows_in};
 ghost use Rattle.zerotrie_c.specs.Entries.{entry_before, rows_given, start_at, NoRows};
 ghost use Rattle.zerotrie_c.specs.Keys.{keys_from};
 
-use crate::look_up::key_between;
+use crate::many::key_between;
 use std::alloc::Global;
 use std::cmp::Ordering;
 use std::collections::BTreeMap;

@@ -8,7 +8,7 @@ ghost use Rattle.zerotrie_c.specs.Numbers.{kind_of};
 ghost use Rattle.zerotrie_c.specs.Statuses.{unknown_kind};
 
 use crate::builds::{bytes_of, hand_out_trie};
-use crate::look_up::key_between;
+use crate::many::key_between;
 use crate::numbers::{OUT_OF_MEMORY, UNKNOWN_KIND, kind_of};
 use std::alloc::{AllocError, Global};
 

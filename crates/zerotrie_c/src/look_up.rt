@@ -1,16 +1,18 @@
 //! Look-ups.
 
-ghost use Rattle.std.specs.Prelude.{◌≡◌, ◌≤◌, false, IfSome, IfNone, IsTrue, length, take, drop};
+ghost use Rattle.std.specs.Prelude.{◌≡◌, ◌≤◌, false, IfSome, IfNone, IsTrue, length, drop};
 ghost use Rattle.zerotrie_core.specs.Maps.{Map, look};
 ghost use Rattle.zerotrie_core.specs.Texts.{Means};
 ghost use Rattle.zerotrie_core.specs.Prefixes.{IsLongestPrefix};
 ghost use Rattle.zerotrie_c.specs.Numbers.{kind_of};
 ghost use Rattle.zerotrie_c.specs.Answers.{told, told_both};
-ghost use Rattle.zerotrie_c.specs.Keys.{keys_from, or_else, values_or, written_over};
+ghost use Rattle.zerotrie_c.specs.Keys.{keys_from, values_or, written_over};
 ghost use Rattle.zerotrie_c.specs.Statuses.{done, unknown_kind};
 
 use crate::answers::{tell, tell_both};
+use crate::many::{Finder, look_up_all};
 use crate::numbers::{DONE, UNKNOWN_KIND, kind_of, trie_of};
+use std::marker::PhantomData;
 use zerotrie_core::{LookUps, Trie, ZeroTrieWithOptions, by_kind, get};
 
 /// The number of keys from which a `LookUps` pays.
@@ -32,44 +34,34 @@ pub extern "C" fn zerotrie_get(kind: u32, bytes: &[u8], key: &[u8], value: &mut 
     }
 }
 
-/// Returns the bytes from one place up to another. A place past all bytes counts as their end.
-pub fn key_between(bytes: &[u8], from: usize, to: usize) -> &[u8]
-    ensures { result.now ≡ drop from (take to bytes.now) }
-{
-    let front = if to < bytes.len() {
-        &bytes[..to]
-    } else {
-        bytes
-    };
-    if from < front.len() {
-        &front[from..]
-    } else {
-        &[]
+/// A trie of the kind `K`, in which each key is looked up from the first node.
+#[derive(Drop)]
+struct EachAlone<'a, K: ZeroTrieWithOptions> {
+    bytes: &'a [u8],
+    kind: PhantomData<K>,
+}
+
+impl<'a, K: ZeroTrieWithOptions> Finder for EachAlone<'a, K> {
+    ghost MayFind = { λ trie key found. (m : Map) → Means K.kind trie.bytes.now m
+        → found ≡ look K.kind m key };
+
+    fn find(&mut self, key: &[u8]) -> Option<usize> {
+        get::<K>(self.bytes, key)
     }
 }
 
-/// Returns the value of the key, or `missing` if the trie does not have it.
-fn value_or<K: ZeroTrieWithOptions>(
-    bytes: &[u8],
-    many: &mut Option<LookUps<'_, K>>,
-    key: &[u8],
-    missing: usize,
-) -> usize
-    requires { IfSome many.old (λ trie. trie ≡ bytes.now) }
-    ensures value { (m : Map) → Means K.kind bytes.now m
-        → result ≡ or_else missing (look K.kind m key.now) }
-    ensures kept { IfSome many.new (λ trie. trie ≡ bytes.now) }
-{
-    let found = match many {
-        Some(trie) => trie.get(key),
-        None => get::<K>(bytes, key),
-    };
-    found.unwrap_or(missing)
+impl<'a, K: ZeroTrieWithOptions> Finder for LookUps<'a, K> {
+    ghost MayFind = { λ trie key found. (m : Map) → Means K.kind trie m
+        → found ≡ look K.kind m key };
+
+    fn find(&mut self, key: &[u8]) -> Option<usize> {
+        self.get(key)
+    }
 }
 
 /// Looks up keys in a trie of the kind `K`: if they are many, each from the target of its first
 /// byte.
-fn look_up_all<K: ZeroTrieWithOptions>(
+fn look_up_in<K: ZeroTrieWithOptions>(
     bytes: &[u8],
     keys: &[u8],
     ends: &[usize],
@@ -77,21 +69,19 @@ fn look_up_all<K: ZeroTrieWithOptions>(
     values: &mut [usize],
 )
     ensures found { (m : Map) → Means K.kind bytes.now m
-        → values.new ≡ written_over (values_or missing K.kind m (keys_from 0 keys.now ends.now))
-        values.old }
+        → values.new ≡ written_over
+        (values_or missing (look K.kind m) (keys_from 0 keys.now ends.now)) values.old }
     ensures any { drop (length ends.now) values.new ≡ drop (length ends.now) values.old }
 {
-    let mut many = if ends.len() < MANY {
-        None
+    if ends.len() < MANY {
+        let mut trie = EachAlone::<K> {
+            bytes,
+            kind: PhantomData,
+        };
+        look_up_all(&mut trie, keys, ends, missing, values);
     } else {
-        Some(LookUps::<K>::new(bytes))
-    };
-    let mut from = 0;
-    let count = ends.len().min(values.len());
-    for number in 0..count {
-        let to = ends[number];
-        values[number] = value_or(bytes, &mut many, key_between(keys, from, to), missing);
-        from = to;
+        let mut trie = LookUps::<K>::new(bytes);
+        look_up_all(&mut trie, keys, ends, missing, values);
     }
 }
 
@@ -111,13 +101,13 @@ pub extern "C" fn zerotrie_get_many(
     values: &mut [usize],
 ) -> u32
     ensures known { IfSome (kind_of kind) (λ k. (result ≡ done) × ((m : Map) → Means k bytes.now m
-        → values.new ≡ written_over (values_or missing k m (keys_from 0 keys.now ends.now))
-        values.old)) }
+        → values.new ≡ written_over
+        (values_or missing (look k m) (keys_from 0 keys.now ends.now)) values.old)) }
     ensures any { drop (length ends.now) values.new ≡ drop (length ends.now) values.old }
     ensures unknown { IfNone (kind_of kind) ((result ≡ unknown_kind) × (values.new ≡ values.old)) }
 {
     match kind_of(kind) {
-        Some(kind) => by_kind!(kind, look_up_all::<_>(bytes, keys, ends, missing, values)),
+        Some(kind) => by_kind!(kind, look_up_in::<_>(bytes, keys, ends, missing, values)),
         None => return UNKNOWN_KIND,
     }
     DONE

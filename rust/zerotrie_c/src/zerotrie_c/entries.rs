@@ -1,7 +1,7 @@
 // Made from crates/zerotrie_c/src/entries.rt by rust/make: edit that.
 //! The entries of a dense table, two lists of strings and one of values, as a map of maps.
 
-use crate::zerotrie_c::look_up::key_between;
+use crate::zerotrie_c::many::key_between;
 use crate::rstd::alloc::Global;
 use crate::rstd::cmp::Ordering;
 use crate::rstd::collections::BTreeMap;

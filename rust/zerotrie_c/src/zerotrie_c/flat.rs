@@ -3,7 +3,7 @@
 
 use crate::rstd::prelude::*;
 use crate::zerotrie_c::builds::{bytes_of, hand_out_trie};
-use crate::zerotrie_c::look_up::key_between;
+use crate::zerotrie_c::many::key_between;
 use crate::zerotrie_c::numbers::{OUT_OF_MEMORY, UNKNOWN_KIND, kind_of};
 use crate::rstd::alloc::{AllocError, Global};
 

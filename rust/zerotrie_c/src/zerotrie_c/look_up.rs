@@ -2,7 +2,9 @@
 //! Look-ups.
 
 use crate::zerotrie_c::answers::{tell, tell_both};
+use crate::zerotrie_c::many::{Finder, look_up_all};
 use crate::zerotrie_c::numbers::{DONE, UNKNOWN_KIND, kind_of, trie_of};
+use crate::rstd::marker::PhantomData;
 use crate::zerotrie_core::{LookUps, Trie, ZeroTrieWithOptions, by_kind, get};
 
 /// The number of keys from which a `LookUps` pays.
@@ -18,54 +20,42 @@ pub fn zerotrie_get(kind: u32, bytes: &[u8], key: &[u8], value: &mut usize) -> b
     }
 }
 
-/// Returns the bytes from one place up to another. A place past all bytes counts as their end.
-pub fn key_between(bytes: &[u8], from: usize, to: usize) -> &[u8] {
-    let front = if to < bytes.len() {
-        &bytes[..to]
-    } else {
-        bytes
-    };
-    if from < front.len() {
-        &front[from..]
-    } else {
-        &[]
+/// A trie of the kind `K`, in which each key is looked up from the first node.
+struct EachAlone<'a, K: ZeroTrieWithOptions> {
+    bytes: &'a [u8],
+    kind: PhantomData<K>,
+}
+
+impl<'a, K: ZeroTrieWithOptions> Finder for EachAlone<'a, K> {
+    fn find(&mut self, key: &[u8]) -> Option<usize> {
+        get::<K>(self.bytes, key)
     }
 }
 
-/// Returns the value of the key, or `missing` if the trie does not have it.
-fn value_or<K: ZeroTrieWithOptions>(
-    bytes: &[u8],
-    many: &mut Option<LookUps<'_, K>>,
-    key: &[u8],
-    missing: usize,
-) -> usize {
-    let found = match many {
-        Some(trie) => trie.get(key),
-        None => get::<K>(bytes, key),
-    };
-    found.unwrap_or(missing)
+impl<'a, K: ZeroTrieWithOptions> Finder for LookUps<'a, K> {
+    fn find(&mut self, key: &[u8]) -> Option<usize> {
+        self.get(key)
+    }
 }
 
 /// Looks up keys in a trie of the kind `K`: if they are many, each from the target of its first
 /// byte.
-fn look_up_all<K: ZeroTrieWithOptions>(
+fn look_up_in<K: ZeroTrieWithOptions>(
     bytes: &[u8],
     keys: &[u8],
     ends: &[usize],
     missing: usize,
     values: &mut [usize],
 ) {
-    let mut many = if ends.len() < MANY {
-        None
+    if ends.len() < MANY {
+        let mut trie = EachAlone::<K> {
+            bytes,
+            kind: PhantomData,
+        };
+        look_up_all(&mut trie, keys, ends, missing, values);
     } else {
-        Some(LookUps::<K>::new(bytes))
-    };
-    let mut from = 0;
-    let count = ends.len().min(values.len());
-    for number in 0..count {
-        let to = ends[number];
-        values[number] = value_or(bytes, &mut many, key_between(keys, from, to), missing);
-        from = to;
+        let mut trie = LookUps::<K>::new(bytes);
+        look_up_all(&mut trie, keys, ends, missing, values);
     }
 }
 
@@ -84,7 +74,7 @@ pub fn zerotrie_get_many(
     values: &mut [usize],
 ) -> u32 {
     match kind_of(kind) {
-        Some(kind) => by_kind!(kind, look_up_all::<_>(bytes, keys, ends, missing, values)),
+        Some(kind) => by_kind!(kind, look_up_in::<_>(bytes, keys, ends, missing, values)),
         None => return UNKNOWN_KIND,
     }
     DONE

@@ -23,6 +23,7 @@ pub mod fronts;
 pub mod indexes;
 pub mod listings;
 pub mod look_up;
+mod many;
 pub mod nearest;
 pub mod numbers;
 pub mod parts;
