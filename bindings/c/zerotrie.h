@@ -1051,6 +1051,17 @@ ZEROTRIE_ANSWERS
 bool zerotrie_index_get(const uint8_t *bytes, size_t len, const uint8_t *key, size_t key_len,
                         size_t *value);
 
+/**
+ * Looks up many keys, which are one after another in `keys`, as in zerotrie_get_many(): writes the
+ * value of each, or `missing` for a key that the index does not have, and as many values as the
+ * smaller of `ends_len` and `values_len`; the rest of the room stays, whatever the bytes are.
+ * Returns ZEROTRIE_DONE. Does not allocate.
+ */
+ZEROTRIE_NONNULL
+zerotrie_status zerotrie_index_get_many(const uint8_t *bytes, size_t len, const uint8_t *keys,
+                                        size_t keys_len, const size_t *ends, size_t ends_len,
+                                        size_t missing, size_t *values, size_t values_len);
+
 /** Returns whether the bytes are a valid index. Does not allocate. */
 ZEROTRIE_ANSWERS
 bool zerotrie_index_is_valid(const uint8_t *bytes, size_t len);
@@ -1595,6 +1606,19 @@ ZEROTRIE_INLINE bool zerotrie_index_get_or_null(const void *bytes, size_t len, c
     return zerotrie_index_get(ZEROTRIE_READS(bytes, len), ZEROTRIE_READS(key, key_len), value);
 }
 #define zerotrie_index_get(...) zerotrie_index_get_or_null(__VA_ARGS__)
+
+ZEROTRIE_INLINE zerotrie_status zerotrie_index_get_many_or_null(const void *bytes, size_t len,
+                                                                const void *keys, size_t keys_len,
+                                                                const size_t *ends, size_t ends_len,
+                                                                size_t missing, size_t *values,
+                                                                size_t values_len) {
+    const size_t no_number = 0;
+    size_t number;
+    return zerotrie_index_get_many(ZEROTRIE_READS(bytes, len), ZEROTRIE_READS(keys, keys_len),
+                                   ZEROTRIE_ARRAY(ends, ends_len, &no_number), missing,
+                                   ZEROTRIE_ARRAY(values, values_len, &number));
+}
+#define zerotrie_index_get_many(...) zerotrie_index_get_many_or_null(__VA_ARGS__)
 
 ZEROTRIE_MUST_USE
 ZEROTRIE_INLINE bool zerotrie_index_is_valid_or_null(const void *bytes, size_t len) {

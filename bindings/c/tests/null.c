@@ -96,6 +96,7 @@ static did call(int line, int at, bool null, size_t n, const char **called) {
     CALL(zerotrie_reverse_places, kind, TRIE, ARRAY(1, it.places, ROOM), it.numbers);
     CALL(zerotrie_reverse_key, kind, TRIE, ARRAY(1, places, 3), 2, OUT(2), it.numbers);
     CALL(zerotrie_index_get, TRIE, TEXT(1), it.numbers);
+    CALL(zerotrie_index_get_many, TRIE, TEXT(1), THREE(2), 7, VALUES(3));
     CALL(zerotrie_index_is_valid, TRIE);
     CALL(zerotrie_index_build, 1, PAIRS, OUT(1), it.numbers);
     CALL(zerotrie_index_build_many, 1, TEXT(0), THREE(1), THREE(2), OUT(3), it.numbers);

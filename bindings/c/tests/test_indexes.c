@@ -4,6 +4,20 @@
 #include <sys/mman.h>
 #include <unistd.h>
 
+/* Many keys of an index of foo 1, bar 2, "" 3 and bazzoo SIZE_MAX: as many values as there are ends and room. */
+static void many_at_once(const uint8_t *index, size_t len) {
+    static const size_t ends[4] = { 3, 6, 6, 12 };
+    /* with an end below the one before it, and one past all bytes */
+    static const size_t any_ends[6] = { 3, 4, 3, 7, 6, 99 };
+    size_t values[7] = { 5, 5, 5, 5, 5, 5, 5 };
+    CHECK(zerotrie_index_get_many(index, len, TEXT("fooxbarbazzoo"), any_ends, 6, 77, values, 7) == ZEROTRIE_DONE);
+    CHECK(values[0] == 1 && values[1] == 77 && values[2] == 3 && values[3] == 77 && values[4] == 3 && values[5] == 77 && values[6] == 5);
+    CHECK(zerotrie_index_get_many(index, len, TEXT("foobarbazzoo"), ends, 4, 77, values, 3) == ZEROTRIE_DONE);
+    CHECK(values[0] == 1 && values[1] == 2 && values[2] == 3 && values[3] == 77);
+    CHECK(zerotrie_index_get_many(index, len, TEXT("foobarbazzoo"), ends, 4, 77, values, 7) == ZEROTRIE_DONE);
+    CHECK(values[3] == SIZE_MAX && values[4] == 3);
+}
+
 /* Indexes: what they have, what is refused, and bytes that are none. */
 void test_indexes(void) {
     static const size_t ends[4] = { 3, 6, 6, 12 }, values[4] = { 1, 2, 3, SIZE_MAX };
@@ -20,6 +34,7 @@ void test_indexes(void) {
         CHECK(zerotrie_index_get(index, len, pairs[n].key.ptr, pairs[n].key.len, &value) && value == pairs[n].value);
     CHECK(!zerotrie_index_get(index, len, TEXT("ba"), &value) && !zerotrie_index_get(index, len, TEXT("BAR"), &value));
     CHECK(!zerotrie_index_get(index, len, TEXT("bazzooo"), &value) && value == SIZE_MAX);
+    many_at_once(index, len);
     CHECK(zerotrie_index_build_many(0, TEXT("foobarbazzoo"), ends, 4, values, 4, again, sizeof again, &len) == ZEROTRIE_DONE);
     CHECK(len == whole && memcmp(index, again, len) == 0);
     /* another seed is in the bytes, and its index has the same */
@@ -50,6 +65,9 @@ void test_indexes(void) {
         value = 77;
         const bool has = zerotrie_index_get(bytes, some, pairs[turn % 4].key.ptr, pairs[turn % 4].key.len, &value);
         CHECK(has || value == 77);
+        size_t one = 99;
+        const zerotrie_bytes asked = pairs[turn % 4].key;
+        CHECK(zerotrie_index_get_many(bytes, some, asked.ptr, asked.len, &asked.len, 1, 77, &one, 1) == ZEROTRIE_DONE && one == value);
         found += has, valid += zerotrie_index_is_valid(bytes, some);
     }
     CHECK(valid > 10000 && valid < 290000 && found > 10000);
@@ -66,6 +84,9 @@ void test_indexes(void) {
     }
     CHECK(zerotrie_index_build_many(7, texts, at, places, 1000, places, 1000, many, sizeof many, &len) == ZEROTRIE_DONE);
     CHECK(zerotrie_index_is_valid(many, len));
+    static size_t found_all[1000];
+    CHECK(zerotrie_index_get_many(many, len, texts, at, places, 1000, 0, found_all, 1000) == ZEROTRIE_DONE);
+    CHECK(memcmp(found_all, places, sizeof places) == 0);
     for (size_t n = 0; n < 1000; n++) {
         const size_t from = n ? places[n - 1] : 0;
         CHECK(zerotrie_index_get(many, len, texts + from, places[n] - from, &value) && value == places[n]);

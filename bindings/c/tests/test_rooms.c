@@ -42,6 +42,7 @@ void test_nulls(void) {
         CHECK(zerotrie_sorted_some(k, NULL, 0, ZEROTRIE_EXCLUDED, NULL, 0, ZEROTRIE_INCLUDED, NULL, 0, NULL, 0, NULL, 0, NULL, 0, &count,
                                    &len) == done);
     }
+    CHECK(zerotrie_index_get_many(NULL, 0, NULL, 0, NULL, 0, 7, NULL, 0) == ZEROTRIE_DONE);
     CHECK(!zerotrie_cursor_take_value(NULL, 0, &at, &value) && zerotrie_auto_kind(NULL, 0) == ZEROTRIE_SIMPLE_ASCII);
     CHECK(zerotrie_tagged_kind(NULL, 0, &kind) == ZEROTRIE_NO_TAG && zerotrie_untagged(NULL, 0, &kind, &bytes) == ZEROTRIE_NO_TAG);
     CHECK(zerotrie_trie_from_tagged(NULL, 0, &trie) == ZEROTRIE_NO_TAG && trie.bytes.len == 0);

@@ -140,6 +140,7 @@ _DECLARED: dict[str, tuple[Any, list[Any]]] = {
         c_uint32,
         [c_uint32, *BYTES, POINTER(c_uint32), c_size_t, c_size_t, *BYTES, SIZE]),
     "zerotrie_index_get": (c_bool, [*BYTES, *TEXT, SIZE]),
+    "zerotrie_index_get_many": (c_uint32, [*BYTES, *TEXT, *SIZES, c_size_t, *SIZES]),
     "zerotrie_index_is_valid": (c_bool, [*BYTES]),
     "zerotrie_index_build": (c_uint32, [c_uint64, *RAW_PAIRS, *BYTES, SIZE]),
     "zerotrie_index_build_many": (c_uint32, [c_uint64, *TEXT, *SIZES, *SIZES, *BYTES, SIZE]),

@@ -1,6 +1,6 @@
 //! Indexes.
 
-ghost use Rattle.std.specs.Prelude.{◌≡◌, ◌↔◌, ℕ, false, IsTrue};
+ghost use Rattle.std.specs.Prelude.{◌≡◌, ◌↔◌, ℕ, false, IsTrue, length, drop};
 ghost use Rattle.zerotrie_core.specs.Kind.{simple_ascii};
 ghost use Rattle.zerotrie_core.specs.Maps.{Pairs, value_at};
 ghost use Rattle.zerotrie_index.specs.Layout.{IsIndex};
@@ -8,14 +8,17 @@ ghost use Rattle.zerotrie_index.specs.Built.{IsIndexOf, IsIndexBuild};
 ghost use Rattle.zerotrie_c.specs.Answers.{told};
 ghost use Rattle.zerotrie_c.specs.Builds.{given, given_flat};
 ghost use Rattle.zerotrie_c.specs.Indexes.{index_status_of, IsIndexBuildTold};
+ghost use Rattle.zerotrie_c.specs.Keys.{keys_from, values_or, written_over};
+ghost use Rattle.zerotrie_c.specs.Statuses.{done};
 
 use crate::answers::tell;
 use crate::builds::{Pair, hand_out, items_of};
 use crate::flat::items_between;
-use crate::numbers::{CROWDED, OUT_OF_MEMORY, status_of};
+use crate::many::{Finder, look_up_all};
+use crate::numbers::{CROWDED, DONE, OUT_OF_MEMORY, status_of};
 use std::alloc::Global;
 use zerotrie_core::ZeroTrieBuildError;
-use zerotrie_index::{ZeroIndex, ZeroIndexBuildError, build, is_well_formed};
+use zerotrie_index::{OpenedIndex, ZeroIndex, ZeroIndexBuildError, build, is_well_formed};
 
 /// Returns whether the index has the key, and then sets `value` to its value.
 #[unsafe(no_mangle)]
@@ -27,6 +30,40 @@ pub extern "C" fn zerotrie_index_get(bytes: &[u8], key: &[u8], value: &mut usize
     ensures kept { result ≡ false → value.new ≡ value.old }
 {
     tell(ZeroIndex::from_bytes(bytes).get(key), value)
+}
+
+impl<'a> Finder for OpenedIndex<'a> {
+    ghost MayFind = { λ index key found. ((pairs : Pairs) → IsIndex pairs index
+        → found ≡ value_at simple_ascii pairs key)
+        × ((given : Pairs) → IsIndexOf given index → found ≡ value_at simple_ascii given key) };
+
+    fn find(&mut self, key: &[u8]) -> Option<usize> {
+        self.get(key)
+    }
+}
+
+/// Looks up keys and writes the value of each, or `missing` for a key that the index does not have.
+/// The keys are one after another, each up to its end, as in `zerotrie_get_many`.
+#[unsafe(no_mangle)]
+pub extern "C" fn zerotrie_index_get_many(
+    bytes: &[u8],
+    keys: &[u8],
+    ends: &[usize],
+    missing: usize,
+    values: &mut [usize],
+) -> u32
+    ensures done { result ≡ done }
+    ensures index { (pairs : Pairs) → IsIndex pairs bytes.now → values.new ≡ written_over
+        (values_or missing (value_at simple_ascii pairs) (keys_from 0 keys.now ends.now))
+        values.old }
+    ensures given { (given : Pairs) → IsIndexOf given bytes.now → values.new ≡ written_over
+        (values_or missing (value_at simple_ascii given) (keys_from 0 keys.now ends.now))
+        values.old }
+    ensures any { drop (length ends.now) values.new ≡ drop (length ends.now) values.old }
+{
+    let mut index = OpenedIndex::new(bytes);
+    look_up_all(&mut index, keys, ends, missing, values);
+    DONE
 }
 
 /// Returns whether the bytes are a valid index: exactly if they are one of some pairs.

@@ -5,14 +5,35 @@ use crate::rstd::prelude::*;
 use crate::zerotrie_c::answers::tell;
 use crate::zerotrie_c::builds::{Pair, hand_out, items_of};
 use crate::zerotrie_c::flat::items_between;
-use crate::zerotrie_c::numbers::{CROWDED, OUT_OF_MEMORY, status_of};
+use crate::zerotrie_c::many::{Finder, look_up_all};
+use crate::zerotrie_c::numbers::{CROWDED, DONE, OUT_OF_MEMORY, status_of};
 use crate::rstd::alloc::Global;
 use crate::zerotrie_core::ZeroTrieBuildError;
-use crate::zerotrie_index::{ZeroIndex, ZeroIndexBuildError, build, is_well_formed};
+use crate::zerotrie_index::{OpenedIndex, ZeroIndex, ZeroIndexBuildError, build, is_well_formed};
 
 /// Returns whether the index has the key, and then sets `value` to its value.
 pub fn zerotrie_index_get(bytes: &[u8], key: &[u8], value: &mut usize) -> bool {
     tell(ZeroIndex::from_bytes(bytes).get(key), value)
+}
+
+impl<'a> Finder for OpenedIndex<'a> {
+    fn find(&mut self, key: &[u8]) -> Option<usize> {
+        self.get(key)
+    }
+}
+
+/// Looks up keys and writes the value of each, or `missing` for a key that the index does not have.
+/// The keys are one after another, each up to its end, as in `zerotrie_get_many`.
+pub fn zerotrie_index_get_many(
+    bytes: &[u8],
+    keys: &[u8],
+    ends: &[usize],
+    missing: usize,
+    values: &mut [usize],
+) -> u32 {
+    let mut index = OpenedIndex::new(bytes);
+    look_up_all(&mut index, keys, ends, missing, values);
+    DONE
 }
 
 /// Returns whether the bytes are a valid index: exactly if they are one of some pairs.
@@ -94,6 +115,30 @@ mod exports {
                 crate::slice(bytes, bytes_len),
                 crate::slice(key, key_len),
                 &mut *value,
+            )
+        }
+    }
+
+    #[unsafe(no_mangle)]
+    unsafe extern "C" fn zerotrie_index_get_many(
+        bytes: *const u8,
+        bytes_len: usize,
+        keys: *const u8,
+        keys_len: usize,
+        ends: *const usize,
+        ends_len: usize,
+        missing: usize,
+        values: *mut usize,
+        values_len: usize,
+    ) -> u32 {
+        // SAFETY: a caller keeps to what zerotrie.h says.
+        unsafe {
+            super::zerotrie_index_get_many(
+                crate::slice(bytes, bytes_len),
+                crate::slice(keys, keys_len),
+                crate::slice(ends, ends_len),
+                missing,
+                crate::slice_mut(values, values_len),
             )
         }
     }
