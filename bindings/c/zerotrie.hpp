@@ -449,6 +449,16 @@ private:
     std::vector<zerotrie_pair> pairs_;
 };
 
+// The values that a call finds of the keys of a range, which it gets one after another.
+template <class Keys, class Call> std::vector<size_t> values_of(Keys &keys, Call call) {
+    std::string text;
+    std::vector<size_t> ends;
+    for (auto &&key : keys) text += std::string_view(key), ends.push_back(text.size());
+    std::vector<size_t> values(ends.size());
+    check(call(of(text), ends.data(), values.data(), values.size()));
+    return values;
+}
+
 class Parts;
 } // namespace detail
 /// @endcond
@@ -1069,14 +1079,12 @@ public:
     /// `missing` for a key that the trie does not have. It copies the keys.
     template <class Keys = std::initializer_list<std::string_view>>
     [[nodiscard]] std::vector<size_t> get_many(Keys &&keys, size_t missing) const {
-        std::string text;
-        std::vector<size_t> ends;
-        for (auto &&key : keys) text += std::string_view(key), ends.push_back(text.size());
-        std::vector<size_t> values(ends.size());
-        const auto at = detail::of(bytes_), k = detail::of(text);
-        detail::check(zerotrie_get_many(number(), at.ptr, at.len, k.ptr, k.len, ends.data(),
-                                        ends.size(), missing, values.data(), values.size()));
-        return values;
+        const auto at = detail::of(bytes_);
+        return detail::values_of(
+            keys, [&](zerotrie_bytes texts, const size_t *ends, size_t *values, size_t count) {
+                return zerotrie_get_many(number(), at.ptr, at.len, texts.ptr, texts.len, ends,
+                                         count, missing, values, count);
+            });
     }
     /// The longest key that the text begins with, as a view into the text, and its value. nullopt:
     /// it begins with no key.
@@ -1999,6 +2007,17 @@ public:
     /// Whether the index has the key.
     [[nodiscard]] bool contains(std::string_view key) const noexcept {
         return get(key).has_value();
+    }
+    /// The values of a range of keys, each of which makes a std::string_view, in its order, and
+    /// `missing` for a key that the index does not have. It copies the keys.
+    template <class Keys = std::initializer_list<std::string_view>>
+    [[nodiscard]] std::vector<size_t> get_many(Keys &&keys, size_t missing) const {
+        const auto at = detail::of(bytes_);
+        return detail::values_of(
+            keys, [&](zerotrie_bytes texts, const size_t *ends, size_t *values, size_t count) {
+                return zerotrie_index_get_many(at.ptr, at.len, texts.ptr, texts.len, ends, count,
+                                               missing, values, count);
+            });
     }
 
 private:

@@ -88,6 +88,10 @@ void test_against_a_map() {
             want.push_back(trie->get(key).value_or(12345));
         }
         CHECK(trie->get_many(keys, 12345) == want);
+        const std::string index_bytes = zerotrie::build_index(map);
+        const auto index = zerotrie::Index::checked(index_bytes);
+        for (size_t n = 0; n < keys.size(); n++) want[n] = index->get(keys[n]).value_or(12345);
+        CHECK(index->get_many(keys, 12345) == want);
         done++;
     }
 }
@@ -130,6 +134,8 @@ void test_view() {
     CHECK(zerotrie::Trie(Kind::SimpleAscii, {}).items().empty());
     CHECK((trie->get_many({"bar", "ba", ""}, 0) == std::vector<size_t>{2, 0, 0}));
     CHECK(trie->get_many(std::vector<std::string>{}, 0).empty());
+    const std::string index_bytes = zerotrie::build_index(map);
+    CHECK((zerotrie::Index(index_bytes).get_many({"bar", "ba", ""}, 0) == std::vector<size_t>{2, 0, 0}));
     try {
         CHECK(zerotrie::build(Kind::SimpleAscii, std::vector<std::pair<const char *, int>>{{"a", 1}, {"a", 2}}).empty());
         CHECK(false);
