@@ -112,7 +112,7 @@ def test_numbers(trie):
         refused(TypeError, call, 5)
     for call in (
         trie.cursor().step, trie.cursor().probe, lambda n: trie.get_many(["x"], n), lambda n: ZeroTrie(b"", n),
-        lambda n: build({}, n)
+        lambda n: build({}, n), lambda n: zerotrie.Index.build({}).get_many([], n)
     ):
         refused(OverflowError, call, 1 << 64)
         refused(OverflowError, call, -1 << 64)

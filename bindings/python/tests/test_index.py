@@ -40,6 +40,8 @@ def test_beside_dicts():
         assert all(index[key] == value == index.get(key.encode()) for key, value in pairs.items())
         for key in (word(9) for _ in range(100)):
             assert index.get(key) == pairs.get(key) and (key in index) == (key in pairs)
+        some = [word(9) for _ in range(100)] + list(pairs)
+        assert list(index.get_many(some, 7)) == [pairs.get(key, 7) for key in some]
         shared = Index(memoryview(bytes(index)))
         assert shared == index == pickle.loads(pickle.dumps(index)) == copy.deepcopy(index)
         assert hash(shared) == hash(index) and repr(index).startswith("<Index {")

@@ -130,19 +130,11 @@ class Reader(Generic[Word]):
         return list(zip(words, values[:count]))
 
     def _values_of(self, keys: Iterable[Any], missing: Any, /) -> bytes:
-        rows, other = list(keys), whole_number(missing, 64, "missing")
-        gaps = [place for place, key in enumerate(rows) if is_gap(key)]
-        texts = all_key_bytes(b"" if is_gap(key) else key for key in rows)
-        view, kind, at, length, _ = held_by(self)
-        ends = array("Q", accumulate(map(len, texts)))
-        values = array("Q", bytes(8 * len(texts)))
-        if texts:
-            check_status(lib.zerotrie_get_many(
-                kind, at, length, b"".join(texts), ends[-1], sizes(ends), len(texts), other,
-                sizes(values), len(texts)))
-        for place in gaps:
-            values[place] = other
-        return values.tobytes()
+        def find(*column: Any) -> Any:
+            view, kind, at, length, _ = held_by(self)
+            return lib.zerotrie_get_many(kind, at, length, *column)
+
+        return values_by(find, keys, missing)
 
     def _part(
         self, what: int, front: bytes, last: Optional[bytes], room: int, places: int,
@@ -274,9 +266,29 @@ class Table:
         return bool(lib.zerotrie_index_get(at, length, text, len(text), value))
 
     def _values_of(self, keys: Iterable[Any], missing: Any, /) -> bytes:
-        other = whole_number(missing, 64, "missing")
-        values = [other if is_gap(key) else self.get(key, other) for key in keys]
-        return array("Q", values).tobytes()
+        def find(*column: Any) -> Any:
+            view, _, at, length = self._held
+            return lib.zerotrie_index_get_many(at, length, *column)
+
+        return values_by(find, keys, missing)
+
+
+def values_by(find: Any, keys: Iterable[Any], missing: Any) -> bytes:
+    """The values of keys and gaps, as the bytes of an array, by a call of the library that looks up
+    keys that are one after another.
+    """
+    rows, other = list(keys), whole_number(missing, 64, "missing")
+    gaps = [place for place, key in enumerate(rows) if is_gap(key)]
+    for place in gaps:
+        rows[place] = b""
+    texts = all_key_bytes(rows)
+    text, ends = b"".join(texts), array("Q", accumulate(map(len, texts)))
+    values = array("Q", bytes(8 * len(texts)))
+    check_status(
+        find(text, len(text), sizes(ends), len(texts), other, sizes(values), len(texts)))
+    for place in gaps:
+        values[place] = other
+    return values.tobytes()
 
 
 def text_at(text: Bytes) -> tuple[bytes, int]:
