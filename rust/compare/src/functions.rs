@@ -76,6 +76,7 @@ unsafe extern "C" {
     pub fn zerotrie_index_build_many(seed: u64, keys: *const u8, keys_len: usize, ends: *const usize, ends_len: usize, values: *const usize, values_len: usize, out: *mut u8, room: usize, len: &mut usize) -> u32;
     pub fn zerotrie_index_build(seed: u64, pairs: *const KeyAndValue, count: usize, out: *mut u8, room: usize, len: &mut usize) -> u32;
     pub fn zerotrie_index_get(bytes: *const u8, len: usize, key: *const u8, key_len: usize, value: &mut usize) -> bool;
+    pub fn zerotrie_index_get_many(bytes: *const u8, len: usize, keys: *const u8, keys_len: usize, ends: *const usize, ends_len: usize, missing: usize, values: *mut usize, values_len: usize) -> u32;
     pub fn zerotrie_index_is_valid(bytes: *const u8, len: usize) -> bool;
     pub fn zerotrie_seal_index(index: *const u8, len: usize, out: *mut u8, room: usize, sealed: &mut usize) -> u32;
     pub fn zerotrie_open_index(file: *const u8, len: usize, at: &mut usize, index_len: &mut usize) -> u32;

@@ -73,6 +73,7 @@ pub trait Library {
     fn dense_get(&self, record: &[u8], prefix: &[u8], suffix: &[u8]) -> Result<usize, Status>;
     fn index_build(&self, seed: u64, pairs: &[Pair]) -> Result<Vec<u8>, Status>;
     fn index_get(&self, bytes: &[u8], key: &[u8]) -> Option<usize>;
+    fn index_get_many(&self, bytes: &[u8], keys: &[Vec<u8>], missing: usize) -> Vec<usize>;
     fn index_is_valid(&self, bytes: &[u8]) -> bool;
     /// The file of an index, in blocks.
     fn index_seal(&self, bytes: &[u8]) -> Vec<u8>;

@@ -353,6 +353,12 @@ impl Library for Plain {
         ZeroIndex::from_store(bytes).get(key)
     }
 
+    fn index_get_many(&self, bytes: &[u8], keys: &[Vec<u8>], missing: usize) -> Vec<usize> {
+        let index = ZeroIndex::from_store(bytes);
+        let opened = index.opened();
+        keys.iter().map(|key| opened.get(key).unwrap_or(missing)).collect()
+    }
+
     fn index_is_valid(&self, bytes: &[u8]) -> bool {
         ZeroIndex::from_store(bytes).is_well_formed()
     }

@@ -399,6 +399,14 @@ impl Library for Proved {
         call!(zerotrie_index_get([bytes], [key], &mut value)).then_some(value)
     }
 
+    fn index_get_many(&self, bytes: &[u8], keys: &[Vec<u8>], missing: usize) -> Vec<usize> {
+        let (joined, ends) = joined(keys.iter());
+        let mut values = vec![0; keys.len()];
+        let status = call!(zerotrie_index_get_many([bytes], [joined], [ends], missing, [mut values]));
+        assert_eq!(status, 0);
+        values
+    }
+
     fn index_is_valid(&self, bytes: &[u8]) -> bool {
         call!(zerotrie_index_is_valid([bytes]))
     }

@@ -335,6 +335,8 @@ impl Round {
             answers.add("index_get", library.index_get(&index, key));
             answers.add("index_get", library.index_get(&self.bytes, key));
         }
+        answers.add("index_get_many", library.index_get_many(&index, &self.keys, self.missing));
+        answers.add("index_get_many", library.index_get_many(&self.bytes, &self.keys, self.missing));
         let mut file = library.index_seal(&index);
         answers.add("index_open", library.index_open(&file));
         let at = self.number() % file.len();
