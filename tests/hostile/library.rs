@@ -244,6 +244,11 @@ pub fn index_build_many(pairs: &Flat, ends: &[usize], out: &mut [u8]) -> usize {
     told(call!(zerotrie_index_build_many(0, [pairs.keys], [ends], [pairs.values], [mut out], &mut len)), len)
 }
 
+/// The values of keys in an index.
+pub fn index_get_many(bytes: &[u8], keys: &[u8], ends: &[usize], values: &mut [usize]) {
+    assert_eq!(call!(zerotrie_index_get_many([bytes], [keys], [ends], usize::MAX, [mut values])), DONE);
+}
+
 /// Strings one after another, and where each ends.
 #[derive(Default)]
 pub struct Column {

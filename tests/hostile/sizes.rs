@@ -85,6 +85,15 @@ const MANY: Call = ("look-ups, many", |Input { kind, bytes, asked, wanted, .. },
     library::get_many(*kind, bytes, &asked.texts, &asked.ends, &mut room.values[..wanted.len()]);
     room.values[..wanted.len()] == **wanted
 });
+/// The build of an index, and look-ups of many keys in it.
+const INDEX_BUILD: Call = ("build, index", |input, room| {
+    let len = library::index_build(&input.pairs, &mut room.out);
+    is_trie(input, len, &room.out)
+});
+const INDEX_MANY: Call = ("look-ups, index", |Input { bytes, asked, wanted, .. }, room| {
+    library::index_get_many(bytes, &asked.texts, &asked.ends, &mut room.values[..wanted.len()]);
+    room.values[..wanted.len()] == **wanted
+});
 const STEPS: Call = ("cursors", |input, _| {
     input.keys_asked().zip(&input.wanted).all(|(key, value)| library::stepped(input.kind, &input.bytes, key) == Some(*value))
 });
@@ -228,6 +237,8 @@ fn rows(size: usize) -> (Column, Column, Vec<usize>) {
 type Sort = (&'static str, fn(usize, u8) -> Flat, usize, &'static [u8], &'static [Call]);
 
 const ALL: &[u8] = &[0, 1, 2, 3];
+/// Its place in `NAMES`.
+const INDEX: u8 = 7;
 const MOST: &[Call] = &[
     SLICE, REFUSAL, LENGTH, LOOK_UPS, MANY, STEPS, TEST, FAULT, STREAM, PREFIX,
     #[cfg(rest)] of_rest::ITERATOR,
@@ -237,7 +248,9 @@ const MOST: &[Call] = &[
 ];
 const SORTS: &[Sort] = &[
     ("pairs", pairs, 1_000_000, ALL, MOST),
+    ("pairs", pairs, 1_000_000, &[INDEX], &[INDEX_BUILD, INDEX_MANY]),
     ("one key", one_key, 10_000_000, ALL, MOST),
+    ("one key", one_key, 10_000_000, &[INDEX], &[INDEX_BUILD, INDEX_MANY]),
     ("one span", one_span, 10_000_000, &[2, 3], MOST),
     ("nested branches", nested, 50_000, ALL, MOST),
     ("full tables", tables, 500, ALL, MOST),
@@ -278,7 +291,10 @@ impl Input {
             return Input { rows: rows(size), ..Input::default() };
         }
         let pairs = sort.1(size, kind);
-        let len = library::build_sorted(kind, &pairs, &mut room.out);
+        let len = match kind {
+            INDEX => library::index_build(&pairs, &mut room.out),
+            _ => library::build_sorted(kind, &pairs, &mut room.out),
+        };
         assert!(len <= room.out.len(), "{} of {size} is not built in {}: {len}", sort.0, NAMES[kind as usize]);
         let mut input = Input { kind, bytes: room.out[..len].to_vec(), ..Input::default() };
         let count = pairs.values.len();
