@@ -44,9 +44,13 @@ impl Asked {
 
     /// The sets that are wanted of the made ones, those that benches/data wrote, and those that were given.
     pub fn sets(&self) -> Vec<Set> {
-        let mut sets: Vec<Set> = sets::all().into_iter().chain(self.files.iter().map(|file| set_of(file))).collect();
-        sets.retain(|set| set.name.contains(&self.set));
-        sets
+        let given = self.files.iter().map(|file| set_of(file));
+        sets::all().into_iter().chain(given).filter(|set| set.name.contains(&self.set)).collect()
+    }
+
+    /// The large sets that are wanted.
+    pub fn large_sets(&self) -> Vec<Set> {
+        sets::large().into_iter().filter(|set| set.name.contains(&self.set)).collect()
     }
 
     /// The set that was given, or the words of benches/data.

@@ -78,11 +78,15 @@ impl Random {
         Random(seed)
     }
 
-    pub fn below(&mut self, limit: usize) -> usize {
+    fn next(&mut self) -> u64 {
         self.0 ^= self.0 << 13;
         self.0 ^= self.0 >> 7;
         self.0 ^= self.0 << 17;
-        ((self.0 >> 11) % limit as u64) as usize
+        self.0
+    }
+
+    pub fn below(&mut self, limit: usize) -> usize {
+        ((self.next() >> 11) % limit as u64) as usize
     }
 
     fn pick<'a>(&mut self, words: &[&'a str]) -> &'a str {
@@ -199,6 +203,22 @@ fn paths() -> Vec<Vec<u8>> {
         }
         path + ["index.html", "settings.json", "main.css", "readme.txt"][random.below(4)]
     })
+}
+
+/// Sets of a million keys: integers, ids of 32 hex digits, and URLs.
+pub fn large() -> Vec<Set> {
+    const COUNT: usize = 1_000_000;
+    let (mut integers, mut random) = (0..COUNT, Random::new(79));
+    let ids = collected(COUNT, || format!("{:016x}{:016x}", random.next(), random.next()));
+    let url = || {
+        let (site, year, number) = (random.below(1_000), 2000 + random.below(25), random.below(1_000_000_000));
+        format!("https://www.example{site}.com/articles/{year}/page-{number}.html")
+    };
+    vec![
+        Set::numbered("1,000,000 integers", collected(COUNT, || integers.next().unwrap_or_default().to_string())),
+        Set::numbered("1,000,000 hex ids", ids),
+        Set::numbered("1,000,000 URLs", collected(COUNT, url)),
+    ]
 }
 
 /// The made sets. Those of other bytes than ASCII are for the hashed kinds alone.

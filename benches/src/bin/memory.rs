@@ -30,6 +30,16 @@ fn held_by<M>(make: impl FnOnce() -> M) -> usize {
     memory::held() - before
 }
 
+/// How many keys a set has.
+fn keys(set: &Set) -> usize {
+    set.keys.len()
+}
+
+/// How many bytes the keys of a set have.
+fn bytes(set: &Set) -> usize {
+    set.keys.iter().map(Vec::len).sum()
+}
+
 type Pair<'a> = (&'a [u8], usize);
 
 /// The bytes of the trie of a set.
@@ -50,7 +60,7 @@ fn held(sets: &[Set]) -> Table {
             ("phf", held_by(|| peers::phf_of(set))),
             ("BTreeMap", held_by(|| owned::<BTreeMap<_, _>>(set))),
             ("HashMap", held_by(|| owned::<HashMap<_, _>>(set))),
-            ("the keys alone", set.keys.iter().map(Vec::len).sum()),
+            ("the keys alone", bytes(set)),
         ]);
         let each = values.into_iter().map(|(name, bytes)| (name, bytes as f64 / set.keys.len() as f64)).collect();
         table.add(set.name.clone(), each);
@@ -117,8 +127,9 @@ fn shuffled_pairs(set: &Set) -> Vec<(&[u8], usize)> {
     pairs
 }
 
-fn peaks(sets: &[Set]) -> Table {
-    let mut table = Table::of_shares("Bytes a key at the peak of a build");
+/// The peaks of builds, as shares of a number that each set has.
+fn peaks(title: &str, sets: &[Set], of: impl Fn(&Set) -> usize) -> Table {
+    let mut table = Table::of_shares(title);
     for set in sets {
         let sorted: Vec<_> = set.pairs().collect();
         let shuffled = shuffled_pairs(set);
@@ -130,7 +141,7 @@ fn peaks(sets: &[Set]) -> Table {
                 ("iterator", Route::Iterator, &shuffled),
             ] {
                 let map = pairs.iter().copied().collect();
-                let each = |work: &dyn Fn() -> usize| peak_of(|| assert!(work() > 0)) as f64 / pairs.len() as f64;
+                let each = |work: &dyn Fn() -> usize| peak_of(|| assert!(work() > 0)) as f64 / of(set) as f64;
                 let values = vec![
                     ("plain Rust", each(&|| build(kind, route, pairs, &map))),
                     #[cfg(original)]
@@ -191,7 +202,15 @@ fn main() {
     type Measure<'a> = Box<dyn Fn() -> Vec<Table> + 'a>;
     let parts: [(&str, Measure<'_>); 4] = [
         ("held", Box::new(|| vec![held(sets)])),
-        ("peaks", Box::new(|| vec![peaks(sets)])),
+        (
+            "peaks",
+            Box::new(|| {
+                vec![
+                    peaks("Bytes a key at the peak of a build", sets, keys),
+                    peaks("Bytes at the peak of a build, of each byte of the keys", &asked.large_sets(), bytes),
+                ]
+            }),
+        ),
         ("shipped", Box::new(|| vec![shipped(sets)])),
         ("growth", Box::new(|| growth(Kind::Simple).into())),
     ];
