@@ -1,5 +1,5 @@
 """What plain Rust writes in another way, so that there is less to compile: std's sorts are not made anew for each kind of trie, builders
-read items of one form, and a build by a type is of its kind alone. A number is read by as many digits as always fit into `usize`. Each text
+read slices of pairs, whose keys are whatever has bytes, and a build by a type is of its kind alone. A number is read by as many digits as always fit into `usize`. Each text
 must be in its file once.
 """
 import re
@@ -14,7 +14,20 @@ ONCE = {
 }
 INLINED = r"#\[inline(?:\(always\))?\]\n( *(?:pub(?:\([^)]*\))? )?fn {}\b)"
 IN_ORDER = "    let sorted = ByteSliceWithIndices::from_byte_slice(items.as_slice());\n    if {}!is_ordered::<K, _>(sorted) {{"
+KEY = "impl{} TrieKey for {} {{\n    fn key_bytes(&self) -> &[u8] {{\n        {}\n    }}\n}}\n"
+KEYS = [("", "&str", "self.as_bytes()"), ("", "String", "self.as_bytes()"), ("", "&[u8]", "&self[..]")]
+KEYS += [("<const N: usize>", "&[u8; N]", "self.as_slice()"), ("", "Vec<u8>", "self.as_slice()")]
 LESS = {
+    # builders read the pairs of a user where they lie
+    "zerotrie_base/store.rs": {
+        "\n".join(KEY.format(*key) for key in KEYS): KEY.format("<K: AsRef<[u8]>>", "K", "self.as_ref()"),
+    },
+    "zerotrie_build/order.rs": {
+        "fn are_folded<K: ZeroTrieWithOptions>(items: ByteSliceWithIndices<'_>)": "fn are_folded<'a, K: ZeroTrieWithOptions, I: IndexedItems<'a>>(items: I)",
+        "are_in_order<K: ZeroTrieWithOptions>(\n    items: ByteSliceWithIndices<'_>,": "are_in_order<'a, K: ZeroTrieWithOptions, I: IndexedItems<'a>>(\n    items: I,",
+        "are_folded::<K>(items)": "are_folded::<K, I>(items)",
+        "items::{ByteSliceWithIndices, IndexedItems}": "items::IndexedItems",
+    },
     # it names the types of kinds, which programs do not see
     "zerotrie_base/kind.rs": {"#[macro_export]": '#[cfg_attr(not(feature = "__internal"), doc(hidden))]\n#[macro_export]'},
     # users match a type that may get more cases, which the macro of the same version has
@@ -62,12 +75,12 @@ fn build_ascending<K: ZeroTrieWithOptions, S: TrieBuilderStore, A: Allocator + C
     items: ByteSliceWithIndices<'_>,
 ) -> Result<S, ZeroTrieBuildError> {
     if are_in_order::<K>(items)? {""": """\
-pub fn build_ascending<K: ZeroTrieWithOptions, S: TrieBuilderStore, A: Allocator + Copy>(
+pub fn build_ascending<K: ZeroTrieWithOptions, Key: TrieKey, S: TrieBuilderStore, A: Allocator + Copy>(
     alloc: Global,
     spare: A,
-    items: &[(&[u8], usize)],
+    items: &[(Key, usize)],
 ) -> Result<S, ZeroTrieBuildError> {
-    if are_in_order::<K>(ByteSliceWithIndices::from_byte_slice(items))? {""",
+    if are_in_order::<K, _>(items)? {""",
         """\
     match items {
         ByteSliceWithIndices::Bytes(items) => build_sorted::<K, &[u8], S, A>(alloc, spare, items),
@@ -75,7 +88,7 @@ pub fn build_ascending<K: ZeroTrieWithOptions, S: TrieBuilderStore, A: Allocator
     }
 }
 """: """\
-    build_sorted::<K, &[u8], S, A>(alloc, spare, items)
+    build_sorted::<K, Key, S, A>(alloc, spare, items)
 }
 
 /// Returns the items with their keys as bytes: a copy, if they are text.
@@ -92,33 +105,33 @@ fn with_bytes<'i, 'a: 'i>(
         """\
     by_kind!(
         options.kind(),
-        build_ascending""": """\
+        build_ascending::<_, S, A>""": """\
     let mut copy = None;
     let items = with_bytes(items, &mut copy)?;
     by_kind!(
         options.kind(),
-        build_ascending""",
+        build_ascending::<_, &[u8], S, A>""",
         """\
 fn build_given<
 """: """\
 pub fn build_given<
 """,
         """\
+fn len_ordered<K: ZeroTrieWithOptions, A: Allocator + Copy>(
     alloc: A,
     items: ByteSliceWithIndices<'_>,
-) -> Result<usize, ZeroTrieBuildError> {
-    let measured = measure_all""": """\
+)""": """\
+fn len_ordered<K: ZeroTrieWithOptions, Key: TrieKey, A: Allocator + Copy>(
     alloc: A,
-    items: &[(&[u8], usize)],
-) -> Result<usize, ZeroTrieBuildError> {
-    let measured = measure_all""",
+    items: &[(Key, usize)],
+)""",
         """\
     len_ordered::<K, A>(
         alloc,
         ByteSliceWithIndices::from_byte_slice(items.as_slice()),
     )
 """: """\
-    len_ordered::<K, A>(alloc, items.as_slice())
+    len_ordered::<K, _, A>(alloc, items.as_slice())
 """,
         """\
 fn len_ascending<K: ZeroTrieWithOptions, A: Allocator + Copy>(
@@ -126,23 +139,24 @@ fn len_ascending<K: ZeroTrieWithOptions, A: Allocator + Copy>(
     items: ByteSliceWithIndices<'_>,
 ) -> Result<usize, ZeroTrieBuildError> {
     if are_in_order::<K>(items)? {""": """\
-pub fn len_ascending<K: ZeroTrieWithOptions, A: Allocator + Copy>(
+pub fn len_ascending<K: ZeroTrieWithOptions, Key: TrieKey, A: Allocator + Copy>(
     alloc: A,
-    items: &[(&[u8], usize)],
+    items: &[(Key, usize)],
 ) -> Result<usize, ZeroTrieBuildError> {
-    if are_in_order::<K>(ByteSliceWithIndices::from_byte_slice(items))? {""",
+    if are_in_order::<K, _>(items)? {""",
+        "        return len_ordered::<K, A>(alloc, items);": "        return len_ordered::<K, Key, A>(alloc, items);",
         """\
     match items {
         ByteSliceWithIndices::Bytes(items) => len_sorted::<K, &[u8], A>(alloc, items),
         ByteSliceWithIndices::Str(items) => len_sorted::<K, &str, A>(alloc, items),
     }
 """: """\
-    len_sorted::<K, &[u8], A>(alloc, items)
+    len_sorted::<K, Key, A>(alloc, items)
 """,
-        "    by_kind!(options.kind(), len_ascending": """\
+        "    by_kind!(options.kind(), len_ascending::<_, A>": """\
     let mut copy = None;
     let items = with_bytes(items, &mut copy)?;
-    by_kind!(options.kind(), len_ascending""",
+    by_kind!(options.kind(), len_ascending::<_, &[u8], A>""",
     },
     "zerotrie_build/mod.rs": {
         "pub use builder::{ZeroTrieBuilder, build_slice, encoded_len};": """\
@@ -169,7 +183,7 @@ const MOST_DIGITS: usize = if usize::BITS == 64 { 18 } else { 9 };
     if !ByteSliceWithIndices::from_byte_slice(items).is_sorted() {
         return Err(ZeroTrieBuildError::Unsorted);
     }
-    let data: VecDeque<u8> = build_ascending::<K, _, Global>(alloc, alloc, items)?;
+    let data: VecDeque<u8> = build_ascending::<K, _, _, Global>(alloc, alloc, items)?;
     Ok(data.into_vec())
 """,
         """\

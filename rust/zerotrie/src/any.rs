@@ -8,12 +8,9 @@ use crate::look_ups::LookUps;
 use crate::reverse::KeysByValue;
 use crate::rstd::alloc::{AllocError, Global};
 use crate::sealed::Sealed;
-use crate::zerotrie_any::{self, LoadError, TagError};
+use crate::zerotrie_any::{LoadError, TagError, kind_for_pairs};
 use crate::zerotrie_ascii;
-use crate::zerotrie_build::{self, ByteSliceWithIndices};
-use crate::zerotrie_core::{
-    self, CommonPrefixes, Fault, TrieKind, ZeroTrieBuildError, ZeroTrieBuilderOptions, ZeroTrieWithOptions,
-};
+use crate::zerotrie_core::{self, CommonPrefixes, Fault, TrieKind, ZeroTrieBuildError, ZeroTrieWithOptions};
 use crate::zerotrie_hashed;
 use crate::zerotrie_sealed::{self, SealError};
 use crate::zerotrie_search::{Automaton, Both, Fuzzy, KeyRange, KindPrefix, Search};
@@ -251,22 +248,18 @@ impl<Store: AsRef<[u8]>> ZeroTrie<Store> {
 }
 
 impl ZeroTrie<Vec<u8>> {
-    fn of_sorted(pairs: &[(&[u8], usize)]) -> Result<Self, ZeroTrieBuildError> {
-        Ok(Self::of_built(zerotrie_any::ZeroTrie::try_from_sorted_slice(Global, pairs)?))
+    fn of_sorted<K: AsRef<[u8]>>(pairs: &[(K, usize)]) -> Result<Self, ZeroTrieBuildError> {
+        Ok(match kind_for_pairs(pairs) {
+            TrieKind::Simple => ZeroTrieSimpleAscii::try_from_sorted_slice(pairs)?.into_zerotrie(),
+            _ => ZeroTriePerfectHash::try_from_sorted_slice(pairs)?.into_zerotrie(),
+        })
     }
 
-    fn of_unsorted(pairs: &[(&[u8], usize)]) -> Result<Self, ZeroTrieBuildError> {
-        Ok(Self::of_built(zerotrie_any::ZeroTrie::try_from_iter(Global, pairs.iter().copied())?))
-    }
-
-    pub(crate) fn of_built(built: zerotrie_any::ZeroTrie<crate::rstd::vec::Vec<u8>>) -> Self {
-        let flavor = built.flavor;
-        let store = built.into_store().into_inner();
-        match flavor {
-            zerotrie_any::ZeroTrieFlavor::SimpleAscii => ZeroTrieSimpleAscii::from_store(store).into_zerotrie(),
-            zerotrie_any::ZeroTrieFlavor::PerfectHash => ZeroTriePerfectHash::from_store(store).into_zerotrie(),
-            zerotrie_any::ZeroTrieFlavor::ExtendedCapacity => ZeroTrieExtendedCapacity::from_store(store).into_zerotrie(),
-        }
+    fn of_pairs(pairs: &[(&[u8], usize)]) -> Result<Self, ZeroTrieBuildError> {
+        Ok(match kind_for_pairs(pairs) {
+            TrieKind::Simple => ZeroTrieSimpleAscii::of_pairs(pairs)?.into_zerotrie(),
+            _ => ZeroTriePerfectHash::of_pairs(pairs)?.into_zerotrie(),
+        })
     }
 }
 
@@ -274,7 +267,7 @@ impl<'a, K: Borrow<[u8]>> TryFrom<&'a BTreeMap<K, usize>> for ZeroTrie<Vec<u8>> 
     type Error = ZeroTrieBuildError;
 
     fn try_from(map: &'a BTreeMap<K, usize>) -> Result<Self, ZeroTrieBuildError> {
-        Self::of_sorted(&map.iter().map(|(key, value)| (key.borrow(), *value)).collect::<Vec<_>>())
+        Self::of_pairs(&map.iter().map(|(key, value)| (key.borrow(), *value)).collect::<Vec<_>>())
     }
 }
 
@@ -338,6 +331,12 @@ pub(crate) fn lent<K: AsRef<[u8]>>(pairs: &[(K, usize)]) -> Vec<(&[u8], usize)> 
     pairs.iter().map(|(key, value)| (key.as_ref(), *value)).collect()
 }
 
+/// Returns the pairs if their keys ascend by their bytes.
+pub(crate) fn ascending<K: AsRef<[u8]>>(pairs: &[(K, usize)]) -> Result<&[(K, usize)], ZeroTrieBuildError> {
+    let ascend = pairs.is_sorted_by(|(before, _), (key, _)| before.as_ref() < key.as_ref());
+    ascend.then_some(pairs).ok_or(ZeroTrieBuildError::Unsorted)
+}
+
 /// Lists all pairs of a trie in ascending order.
 pub(crate) fn sorted<T: Trie + ?Sized>(trie: &T) -> Sorted<'_, 'static> {
     Sorted::of(trie.kind(), trie.as_bytes(), KeyRange { from: Bound::Unbounded, to: Bound::Unbounded })
@@ -374,10 +373,4 @@ pub(crate) fn fault(kind: TrieKind, bytes: &[u8]) -> Option<Fault> {
 /// Returns the number of the kind, followed by the bytes.
 pub(crate) fn tagged(kind: TrieKind, bytes: &[u8]) -> Vec<u8> {
     [&[kind.tag()], bytes].concat()
-}
-
-/// Returns how many bytes the trie of some pairs has.
-pub(crate) fn encoded_len<K: ZeroTrieWithOptions>(pairs: &[(&[u8], usize)]) -> Result<usize, ZeroTrieBuildError> {
-    let pairs = ByteSliceWithIndices::from_byte_slice(pairs);
-    zerotrie_build::encoded_len(Global, pairs, ZeroTrieBuilderOptions::of::<K>())
 }

@@ -540,10 +540,11 @@ macro_rules! calls {
                 pairs: impl IntoIterator<Item = (K, V)>,
             ) -> Result<Self, ZeroTrieBuildError> {
                 let pairs: Vec<(K, usize)> = pairs.into_iter().map(|(key, value)| (key, *value.borrow())).collect();
-                Self::of_unsorted(&lent(&pairs))
+                Self::of_pairs(&lent(&pairs))
             }
 
-            /// Builds a trie of pairs whose keys ascend by their bytes.
+            /// Builds a trie of pairs whose keys ascend by their bytes. They are read where they lie, so of
+            /// all builds this one needs the least memory.
             ///
             /// ```
             #[doc = concat!("use zerotrie::{", stringify!($name), ", ZeroTrieBuildError};")]
@@ -555,7 +556,7 @@ macro_rules! calls {
             /// # Ok::<(), zerotrie::ZeroTrieBuildError>(())
             /// ```
             pub fn try_from_sorted_slice<K: AsRef<[u8]>>(pairs: &[(K, usize)]) -> Result<Self, ZeroTrieBuildError> {
-                Self::of_sorted(&lent(pairs))
+                Self::of_sorted(pairs)
             }
 
             /// Builds a trie of a `BTreeMap` whose keys are strings.
@@ -570,7 +571,7 @@ macro_rules! calls {
             /// # Ok::<(), zerotrie::ZeroTrieBuildError>(())
             /// ```
             pub fn try_from_btree_map_str<K: Borrow<str>>(map: &BTreeMap<K, usize>) -> Result<Self, ZeroTrieBuildError> {
-                Self::of_sorted(&map.iter().map(|(key, value)| (key.borrow().as_bytes(), *value)).collect::<Vec<_>>())
+                Self::of_pairs(&map.iter().map(|(key, value)| (key.borrow().as_bytes(), *value)).collect::<Vec<_>>())
             }
         }
 

@@ -3,7 +3,6 @@
 pub use crate::zerotrie_index::{NotAnIndex, ReadAt, ZeroIndexBuildError};
 
 use crate::Trie;
-use crate::any::lent;
 use crate::by_kind;
 use crate::listing::allocated;
 use crate::rstd::alloc::{AllocError, Global};
@@ -237,7 +236,7 @@ impl ZeroIndex<Vec<u8>> {
     /// assert_eq!(index, Err(ZeroIndexBuildError::Unsorted));
     /// ```
     pub fn try_from_sorted_slice<K: AsRef<[u8]>>(pairs: &[(K, usize)]) -> Result<Self, ZeroIndexBuildError> {
-        let index = zerotrie_index::build_sorted(Global, 0, &lent(pairs))?;
+        let index = zerotrie_index::build_sorted(Global, 0, pairs)?;
         Ok(Self::from_store(index.into_inner()))
     }
 
@@ -252,7 +251,7 @@ impl ZeroIndex<Vec<u8>> {
     /// # Ok::<(), zerotrie::index::ZeroIndexBuildError>(())
     /// ```
     pub fn try_from_seed<K: AsRef<[u8]>>(seed: u64, pairs: &[(K, usize)]) -> Result<Self, ZeroIndexBuildError> {
-        let index = zerotrie_index::build(Global, seed, &lent(pairs))?;
+        let index = zerotrie_index::build(Global, seed, pairs)?;
         Ok(Self::from_store(index.into_inner()))
     }
 

@@ -1,7 +1,7 @@
 //! Tries as JSON values of serde_json.
 
 use crate::rstd::{alloc::Global, serde_json as own};
-use crate::zerotrie_any::{JsonError, bytes_from_json, json_of};
+use crate::zerotrie_any::{JsonError, ZeroTrieFlavor, bytes_from_json, json_of};
 use crate::zerotrie_core::{Ext, Hash, Ignore, Simple};
 use crate::{ZeroAsciiIgnoreCaseTrie, ZeroTrie, ZeroTrieExtendedCapacity, ZeroTriePerfectHash, ZeroTrieSimpleAscii, by_kind};
 use crate::{any, zerotrie_any};
@@ -20,6 +20,17 @@ fn taken(value: &Value) -> own::Value {
             let members = members.iter().map(|(name, value)| (name.clone(), taken(value)));
             own::Value::Object(members.collect::<alloc::collections::BTreeMap<_, _>>().into())
         }
+    }
+}
+
+/// Returns the trie that the library built.
+fn of_built(built: zerotrie_any::ZeroTrie<crate::rstd::vec::Vec<u8>>) -> ZeroTrie<Vec<u8>> {
+    let flavor = built.flavor;
+    let store = built.into_store().into_inner();
+    match flavor {
+        ZeroTrieFlavor::SimpleAscii => ZeroTrieSimpleAscii::from_store(store).into_zerotrie(),
+        ZeroTrieFlavor::PerfectHash => ZeroTriePerfectHash::from_store(store).into_zerotrie(),
+        ZeroTrieFlavor::ExtendedCapacity => ZeroTrieExtendedCapacity::from_store(store).into_zerotrie(),
     }
 }
 
@@ -95,5 +106,5 @@ from_json! {
     ZeroAsciiIgnoreCaseTrie, value => Self::from_store(bytes_from_json::<Ignore>(Global, value)?.into_inner());
     ZeroTriePerfectHash, value => Self::from_store(bytes_from_json::<Hash>(Global, value)?.into_inner());
     ZeroTrieExtendedCapacity, value => Self::from_store(bytes_from_json::<Ext>(Global, value)?.into_inner());
-    ZeroTrie, value => Self::of_built(zerotrie_any::ZeroTrie::try_from_json_value(Global, value)?);
+    ZeroTrie, value => of_built(zerotrie_any::ZeroTrie::try_from_json_value(Global, value)?);
 }

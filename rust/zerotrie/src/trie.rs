@@ -1,6 +1,6 @@
 //! The types of tries whose kind is in the type.
 
-use crate::any::{Trie, fault, first, last, lent, sorted, tagged};
+use crate::any::{Trie, ascending, fault, first, last, lent, sorted, tagged};
 use crate::by_kind;
 use crate::calls::calls;
 use crate::listing::{
@@ -10,9 +10,10 @@ use crate::listing::{
 use crate::look_ups::LookUps;
 use crate::reverse::KeysByValue;
 use crate::rstd::alloc::Global;
+use crate::rstd::collections::VecDeque;
 use crate::sealed::Sealed;
 use crate::zerotrie_any::{self, LoadError, NotWellFormed, TagError};
-use crate::zerotrie_build::{Refusal, why_slice_refused};
+use crate::zerotrie_build::{Refusal, build_ascending, len_ascending, why_iter_refused, why_slice_refused};
 use crate::zerotrie_core::{self, CommonPrefixes, Ext, Fault, Hash, Ignore, Simple, TrieKind, ZeroTrieBuildError};
 use crate::zerotrie_sealed::{self, SealError};
 use crate::zerotrie_search::{Automaton, Both, Fuzzy, KeyRange, KindPrefix};
@@ -374,7 +375,7 @@ macro_rules! kind {
             /// # Ok::<(), zerotrie::ZeroTrieBuildError>(())
             /// ```
             pub fn encoded_len<K: AsRef<[u8]>>(pairs: &[(K, usize)]) -> Result<usize, ZeroTrieBuildError> {
-                any::encoded_len::<$kind>(&lent(pairs))
+                len_ascending::<$kind, K, Global>(Global, ascending(pairs)?)
             }
 
             /// Returns which keys show why a build of pairs returns an error, if keys do. The keys of
@@ -387,7 +388,7 @@ macro_rules! kind {
             /// assert_eq!(why.map(|why| (why.first, why.second)), Some((0, 1)));
             /// ```
             pub fn why_slice_refused<K: AsRef<[u8]>>(pairs: &[(K, usize)]) -> Option<Refusal> {
-                why_slice_refused::<$kind, _>(&lent(pairs))
+                why_slice_refused::<$kind, K>(pairs)
             }
 
             /// Returns the same of a build of pairs in any order, as
@@ -400,15 +401,15 @@ macro_rules! kind {
             /// assert_eq!(why.map(|why| (why.first, why.second)), Some((0, 2)));
             /// ```
             pub fn why_iter_refused<K: AsRef<[u8]>>(pairs: &[(K, usize)]) -> Option<Refusal> {
-                allocated(crate::zerotrie_build::why_iter_refused::<$kind, _>(Global, &lent(pairs)))
+                allocated(why_iter_refused::<$kind, K>(Global, pairs))
             }
 
-            fn of_sorted(pairs: &[(&[u8], usize)]) -> Result<Self, ZeroTrieBuildError> {
-                let bytes = zerotrie_any::bytes_from_slice::<$kind>(Global, pairs)?;
-                Ok(Self::from_store(bytes.into_inner()))
+            fn of_sorted<K: AsRef<[u8]>>(pairs: &[(K, usize)]) -> Result<Self, ZeroTrieBuildError> {
+                let bytes: VecDeque<u8> = build_ascending::<$kind, K, _, Global>(Global, Global, ascending(pairs)?)?;
+                Ok(Self::from_store(bytes.into_vec().into_inner()))
             }
 
-            fn of_unsorted(pairs: &[(&[u8], usize)]) -> Result<Self, ZeroTrieBuildError> {
+            pub(crate) fn of_pairs(pairs: &[(&[u8], usize)]) -> Result<Self, ZeroTrieBuildError> {
                 let bytes = zerotrie_any::bytes_from_unsorted_slice::<$kind>(Global, pairs)?;
                 Ok(Self::from_store(bytes.into_inner()))
             }
@@ -418,7 +419,7 @@ macro_rules! kind {
             type Error = ZeroTrieBuildError;
 
             fn try_from(map: &'a BTreeMap<K, usize>) -> Result<Self, ZeroTrieBuildError> {
-                Self::of_sorted(&map.iter().map(|(key, value)| (key.borrow(), *value)).collect::<Vec<_>>())
+                Self::of_pairs(&map.iter().map(|(key, value)| (key.borrow(), *value)).collect::<Vec<_>>())
             }
         }
 

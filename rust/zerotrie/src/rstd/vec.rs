@@ -96,6 +96,12 @@ impl<T, A> Borrow<[T]> for Vec<T, A> {
     }
 }
 
+impl<T, A> AsRef<[T]> for Vec<T, A> {
+    fn as_ref(&self) -> &[T] {
+        &self.items
+    }
+}
+
 impl<T: PartialEq, A> PartialEq for Vec<T, A> {
     fn eq(&self, other: &Self) -> bool {
         self.items == other.items

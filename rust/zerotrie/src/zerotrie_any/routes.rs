@@ -29,7 +29,7 @@ pub fn bytes_from_slice<K: ZeroTrieWithOptions>(
     if !ByteSliceWithIndices::from_byte_slice(items).is_sorted() {
         return Err(ZeroTrieBuildError::Unsorted);
     }
-    let data: VecDeque<u8> = build_ascending::<K, _, Global>(alloc, alloc, items)?;
+    let data: VecDeque<u8> = build_ascending::<K, _, _, Global>(alloc, alloc, items)?;
     Ok(data.into_vec())
 }
 

@@ -123,32 +123,8 @@ pub trait TrieKey {
     fn key_bytes(&self) -> &[u8];
 }
 
-impl TrieKey for &str {
+impl<K: AsRef<[u8]>> TrieKey for K {
     fn key_bytes(&self) -> &[u8] {
-        self.as_bytes()
-    }
-}
-
-impl TrieKey for String {
-    fn key_bytes(&self) -> &[u8] {
-        self.as_bytes()
-    }
-}
-
-impl TrieKey for &[u8] {
-    fn key_bytes(&self) -> &[u8] {
-        &self[..]
-    }
-}
-
-impl<const N: usize> TrieKey for &[u8; N] {
-    fn key_bytes(&self) -> &[u8] {
-        self.as_slice()
-    }
-}
-
-impl TrieKey for Vec<u8> {
-    fn key_bytes(&self) -> &[u8] {
-        self.as_slice()
+        self.as_ref()
     }
 }

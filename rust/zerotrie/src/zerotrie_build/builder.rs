@@ -95,15 +95,15 @@ fn build_sorted<
 
 /// Builds the trie of items that ascend by the bytes of their keys. If the kind has another order,
 /// they are sorted once more, unless they are in that order too.
-pub fn build_ascending<K: ZeroTrieWithOptions, S: TrieBuilderStore, A: Allocator + Copy>(
+pub fn build_ascending<K: ZeroTrieWithOptions, Key: TrieKey, S: TrieBuilderStore, A: Allocator + Copy>(
     alloc: Global,
     spare: A,
-    items: &[(&[u8], usize)],
+    items: &[(Key, usize)],
 ) -> Result<S, ZeroTrieBuildError> {
-    if are_in_order::<K>(ByteSliceWithIndices::from_byte_slice(items))? {
+    if are_in_order::<K, _>(items)? {
         return build_ordered::<K, _, S, A>(alloc, spare, items, are_ascii::<K, _>(items));
     }
-    build_sorted::<K, &[u8], S, A>(alloc, spare, items)
+    build_sorted::<K, Key, S, A>(alloc, spare, items)
 }
 
 /// Returns the items with their keys as bytes: a copy, if they are text.
@@ -131,7 +131,7 @@ pub fn build_slice<S: TrieBuilderStore, A: Allocator + Copy>(
     let items = with_bytes(items, &mut copy)?;
     by_kind!(
         options.kind(),
-        build_ascending::<_, S, A>(alloc, spare, items)
+        build_ascending::<_, &[u8], S, A>(alloc, spare, items)
     )
 }
 
@@ -166,9 +166,9 @@ fn build_any<Key: TrieKey, S: TrieBuilderStore, A: Allocator + Copy>(
 }
 
 /// Returns the length of a build of items in the order of the kind.
-fn len_ordered<K: ZeroTrieWithOptions, A: Allocator + Copy>(
+fn len_ordered<K: ZeroTrieWithOptions, Key: TrieKey, A: Allocator + Copy>(
     alloc: A,
-    items: &[(&[u8], usize)],
+    items: &[(Key, usize)],
 ) -> Result<usize, ZeroTrieBuildError> {
     let measured = measure_all::<K, _, A>(alloc, items, are_ascii::<K, _>(items))?;
     Ok(measured.len)
@@ -180,18 +180,18 @@ fn len_sorted<K: ZeroTrieWithOptions, Key: TrieKey, A: Allocator + Copy>(
     given: &[(Key, usize)],
 ) -> Result<usize, ZeroTrieBuildError> {
     let items = in_order::<K, Key, A>(alloc, given)?;
-    len_ordered::<K, A>(alloc, items.as_slice())
+    len_ordered::<K, _, A>(alloc, items.as_slice())
 }
 
 /// Returns the length of a build of items that ascend by the bytes of their keys.
-pub fn len_ascending<K: ZeroTrieWithOptions, A: Allocator + Copy>(
+pub fn len_ascending<K: ZeroTrieWithOptions, Key: TrieKey, A: Allocator + Copy>(
     alloc: A,
-    items: &[(&[u8], usize)],
+    items: &[(Key, usize)],
 ) -> Result<usize, ZeroTrieBuildError> {
-    if are_in_order::<K>(ByteSliceWithIndices::from_byte_slice(items))? {
-        return len_ordered::<K, A>(alloc, items);
+    if are_in_order::<K, _>(items)? {
+        return len_ordered::<K, Key, A>(alloc, items);
     }
-    len_sorted::<K, &[u8], A>(alloc, items)
+    len_sorted::<K, Key, A>(alloc, items)
 }
 
 /// Returns the length of a build of items that ascend by the bytes of their keys, in the kind of
@@ -203,7 +203,7 @@ fn len_slice<A: Allocator + Copy>(
 ) -> Result<usize, ZeroTrieBuildError> {
     let mut copy = None;
     let items = with_bytes(items, &mut copy)?;
-    by_kind!(options.kind(), len_ascending::<_, A>(alloc, items))
+    by_kind!(options.kind(), len_ascending::<_, &[u8], A>(alloc, items))
 }
 
 /// Returns how many bytes a build of the items has, whose keys must ascend strictly by their bytes.

@@ -2,7 +2,7 @@
 //! The order that the keys of a kind have: the tests that items are in it, that no key comes twice,
 //! and that keys have bytes of the kind alone.
 
-use crate::zerotrie_build::items::{ByteSliceWithIndices, IndexedItems};
+use crate::zerotrie_build::items::IndexedItems;
 use crate::zerotrie_base::{Simple, ZeroTrieBuildError, ZeroTrieWithOptions, folded};
 
 /// Returns how many bytes two keys have in common in front.
@@ -146,7 +146,7 @@ fn is_folded<K: ZeroTrieWithOptions>(key: &[u8]) -> bool {
 }
 
 /// Returns whether `is_folded` holds for every key.
-fn are_folded<K: ZeroTrieWithOptions>(items: ByteSliceWithIndices<'_>) -> bool {
+fn are_folded<'a, K: ZeroTrieWithOptions, I: IndexedItems<'a>>(items: I) -> bool {
     for index in 0..items.len() {
         let (key, _) = items.get(index);
         if !is_folded::<K>(key) {
@@ -160,10 +160,10 @@ fn are_folded<K: ZeroTrieWithOptions>(items: ByteSliceWithIndices<'_>) -> bool {
 /// It is an error if a key has other bytes than the kind.
 ///
 /// If case is ignored and there are no upper-case letters, one look at each byte shows it.
-pub(in crate::made::zerotrie_build) fn are_in_order<K: ZeroTrieWithOptions>(
-    items: ByteSliceWithIndices<'_>,
+pub(in crate::made::zerotrie_build) fn are_in_order<'a, K: ZeroTrieWithOptions, I: IndexedItems<'a>>(
+    items: I,
 ) -> Result<bool, ZeroTrieBuildError> {
-    if K::IGNORE_CASE && are_folded::<K>(items) {
+    if K::IGNORE_CASE && are_folded::<K, I>(items) {
         return Ok(true);
     }
     if !are_keys::<K, _>(items) {
