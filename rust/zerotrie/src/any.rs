@@ -251,14 +251,16 @@ impl ZeroTrie<Vec<u8>> {
     fn of_sorted<K: AsRef<[u8]>>(pairs: &[(K, usize)]) -> Result<Self, ZeroTrieBuildError> {
         Ok(match kind_for_pairs(pairs) {
             TrieKind::Simple => ZeroTrieSimpleAscii::try_from_sorted_slice(pairs)?.into_zerotrie(),
-            _ => ZeroTriePerfectHash::try_from_sorted_slice(pairs)?.into_zerotrie(),
+            TrieKind::Ignore | TrieKind::Hash | TrieKind::Ext => {
+                ZeroTriePerfectHash::try_from_sorted_slice(pairs)?.into_zerotrie()
+            }
         })
     }
 
     fn of_pairs(pairs: &[(&[u8], usize)]) -> Result<Self, ZeroTrieBuildError> {
         Ok(match kind_for_pairs(pairs) {
             TrieKind::Simple => ZeroTrieSimpleAscii::of_pairs(pairs)?.into_zerotrie(),
-            _ => ZeroTriePerfectHash::of_pairs(pairs)?.into_zerotrie(),
+            TrieKind::Ignore | TrieKind::Hash | TrieKind::Ext => ZeroTriePerfectHash::of_pairs(pairs)?.into_zerotrie(),
         })
     }
 }
