@@ -43,7 +43,7 @@ LIMITS = {
     "docs/FORMAT.md": 4290,
     "docs/MODEL.md": 1960,
     "docs/README.md": 190,
-    "docs/SPEED.md": 1090,
+    "docs/SPEED.md": 1352,
     "docs/speed/fast.md": 510,
     "docs/speed/tables.md": 1051,
     "examples/README.md": 250,
