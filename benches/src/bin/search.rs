@@ -19,7 +19,7 @@ const TURNS: usize = 5_000;
 /// What is listed in order: all keys, and some hundred and some thousand.
 const RANGES: [(&str, &str); 3] = [("", ""), ("interc", "interl"), ("mm", "mp")];
 
-const QUESTIONS: [Question; 16] = [
+const QUESTIONS: [Question; 18] = [
     Question::Prefix("inter"),
     Question::Range("interc", "interl"),
     Question::Range("mm", "mp"),
@@ -32,8 +32,10 @@ const QUESTIONS: [Question; 16] = [
     Question::Near("exampel", 1),
     Question::Near("example", 1),
     Question::Near("example", 2),
+    Question::Near("example", 3),
     Question::Near("internationalization", 1),
     Question::Near("internationalization", 2),
+    Question::Near("internationalization", 3),
     Question::Near("cat", 1),
     Question::Near("cat", 2),
 ];
