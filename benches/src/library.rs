@@ -150,12 +150,13 @@ pub struct Rooms {
     keys: Vec<u8>,
     ends: Vec<usize>,
     values: Vec<usize>,
+    distances: Vec<usize>,
     last: Vec<u8>,
 }
 
 impl Default for Rooms {
     fn default() -> Self {
-        Rooms { keys: vec![0; 1 << 16], ends: vec![0; 4096], values: vec![0; 4096], last: Vec::new() }
+        Rooms { keys: vec![0; 1 << 16], ends: vec![0; 4096], values: vec![0; 4096], distances: vec![0; 4096], last: Vec::new() }
     }
 }
 
@@ -182,7 +183,7 @@ impl Rooms {
 
     /// The pairs whose keys begin with a prefix, in the order of the trie.
     pub fn listed(&mut self, kind: Kind, bytes: &[u8], prefix: &[u8]) -> Found {
-        self.all(|Rooms { keys, ends, values, last }, goes_on, count| {
+        self.all(|Rooms { keys, ends, values, last, .. }, goes_on, count| {
             let kind = number_of(kind);
             call!(zerotrie_list_some(kind, [bytes], [prefix], goes_on, [last], [mut keys], [mut ends], [mut values], count, &mut 0))
         })
@@ -191,7 +192,7 @@ impl Rooms {
     /// The pairs from a key to below another, or to the last if that is empty, in the order of bytes.
     pub fn sorted(&mut self, kind: Kind, bytes: &[u8], from: &[u8], to: &[u8]) -> Found {
         let (upper, to) = bound(if to.is_empty() { Bound::Unbounded } else { Bound::Excluded(to) });
-        self.all(|Rooms { keys, ends, values, last }, goes_on, count| {
+        self.all(|Rooms { keys, ends, values, last, .. }, goes_on, count| {
             let (lower, from) = bound(if goes_on { Bound::Excluded(last) } else { Bound::Included(from) });
             let kind = number_of(kind);
             call!(zerotrie_sorted_some(kind, [bytes], lower, [from], upper, [to], [mut keys], [mut ends], [mut values], count, &mut 0))
@@ -209,9 +210,20 @@ impl Rooms {
         };
         let ((from_bound, text), (to_bound, to)) = (bound(Bound::Included(text.as_bytes())), bound(Bound::Excluded(to.as_bytes())));
         let by = &SearchBy { by, edits, from_bound, to_bound, text: all(text), to: all(to), beginnings: false };
-        self.all(|Rooms { keys, ends, values, last }, goes_on, count| {
+        self.all(|Rooms { keys, ends, values, last, .. }, goes_on, count| {
             let kind = number_of(kind);
             call!(zerotrie_search_some(kind, [bytes], [b""], by, goes_on, [last], [mut keys], [mut ends], [mut values], count, &mut 0))
         })
+    }
+
+    /// The values of the keys that few edits make of a word, the nearest first. The rooms have to hold all of them.
+    pub fn nearest(&mut self, kind: Kind, bytes: &[u8], word: &str, edits: u8) -> &[usize] {
+        let (mut count, Rooms { keys, ends, values, distances, .. }) = (0, self);
+        let (kind, edits) = (number_of(kind), edits.into());
+        let status = call!(
+            zerotrie_nearest(kind, [bytes], 3, [word], edits, [mut keys], [mut ends], [mut values], [mut distances], &mut count, &mut 0)
+        );
+        assert_eq!(status, DONE);
+        &values[..count]
     }
 }

@@ -170,6 +170,14 @@ impl Automaton {
     }
 }
 
+/// How many edits make a key of the word of an automaton.
+fn distance(automaton: &Automaton, key: &[u8]) -> u8 {
+    match (automaton, key.iter().fold(automaton.start(), |state, byte| automaton.step(&state, *byte))) {
+        (Automaton::Near(word, _), State::Row(row)) => row[word.len()],
+        _ => 0,
+    }
+}
+
 impl fst::Automaton for &Automaton {
     type State = State;
     fn start(&self) -> State {
@@ -189,6 +197,11 @@ impl fst::Automaton for &Automaton {
 /// The number of pairs times 2^44, and the sum of their values.
 fn summed(values: impl Iterator<Item = usize>) -> usize {
     values.fold(0, |sum, value| sum + value + (1 << 44))
+}
+
+/// The sum with each value times its place, so that another order has another sum.
+fn in_order(values: impl Iterator<Item = usize>) -> usize {
+    summed(values.zip(1..).map(|(value, place)| value * place))
 }
 
 fn sum_of(found: Found) -> usize {
@@ -216,6 +229,10 @@ fn by_plain_rust(kind: Kind, bytes: &[u8], question: &Question) -> usize {
             Question::Near(word, edits) => streamed(trie.search(Levenshtein::new(word.as_bytes(), edits).unwrap())),
         }
     })
+}
+
+fn nearest_by_plain_rust(kind: Kind, bytes: &[u8], word: &str, edits: u8) -> usize {
+    by_type!(kind, zerotrie, Trie => in_order(Trie::from_bytes(bytes).nearest(Levenshtein::new(word.as_bytes(), edits).unwrap()).values()))
 }
 
 fn is_accepted(automaton: &Automaton, key: &[u8]) -> bool {
@@ -248,6 +265,13 @@ macro_rules! fst_sum {
 fn fst_range(map: &fst::Map, (from, to): (&str, &str)) -> usize {
     let range = map.range().ge(from);
     fst_sum!(if to.is_empty() { range } else { range.lt(to) })
+}
+
+/// The nearest keys first by fst, which has no such call: those that a search finds are measured and sorted.
+fn fst_nearest(map: &fst::Map, automaton: &Automaton) -> usize {
+    let mut found = map.search(automaton).into_stream().into_byte_vec();
+    found.sort_by_cached_key(|(key, _)| distance(automaton, key));
+    in_order(found.into_iter().map(|(_, value)| value as usize))
 }
 
 /// What two maps have in common.
@@ -283,7 +307,27 @@ fn searches(set: &Set, rounds: usize) -> Table {
             table.measure(format!("{}, {}: {found}", name_of(question), kind.name()), rounds, 1000, contestants);
         }
     }
+    nearest(&mut table, set, &map, rounds);
     table
+}
+
+/// The rows of the nearest keys first.
+fn nearest(table: &mut Table, set: &Set, map: &fst::Map, rounds: usize) {
+    const WORD: &str = "example";
+    for edits in 1..=3 {
+        let automaton = Automaton::Near(WORD.as_bytes(), edits);
+        let row = format!("nearest, distance {edits} of {WORD}");
+        for (kind, bytes) in &tries_of(set) {
+            let mut rooms = Rooms::default();
+            let mut contestants: Contestants<'_> = vec![
+                ("here", Box::new(|| in_order(rooms.nearest(*kind, bytes, WORD, edits).iter().copied()))),
+                ("plain Rust", Box::new(|| nearest_by_plain_rust(*kind, bytes, WORD, edits))),
+                ("`fst`", Box::new(|| fst_nearest(map, &automaton))),
+            ];
+            let found = agreed(&mut contestants, &row) >> 44;
+            table.measure(format!("{row}, {}: {found}", kind.name()), rounds, 1000, contestants);
+        }
+    }
 }
 
 fn sorted_listings(set: &Set, rounds: usize) -> Table {
