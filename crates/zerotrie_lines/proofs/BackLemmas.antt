@@ -18,12 +18,12 @@ use Rattle.zerotrie_lines.specs.declared.fault.BadLine.TheVariants as bad
 use Rattle.zerotrie_lines.specs.declared.fault.ReadError.TheVariants.{Line}
 use Rattle.zerotrie_lines.proofs.RecordLemmas.{behind_more, one_rows, rows_on}
 use Rattle.zerotrie_lines.specs.Lines.{is_tab, behind, onto_line, lines_of, ended, ended_lines, text_lines, IsKeyText, IsPairLine, tsv_line, tsv_lines}
-use Rattle.zerotrie_lines.specs.Reads.{IsPairIn, ReadsLines, Reads, first_number, tabbed, IsLineFault, IsRecordFault, IsBadLine, Explains}
+use Rattle.zerotrie_lines.specs.Laws.{tsv_form}
+use Rattle.zerotrie_lines.specs.Reads.{IsPairIn, Reads, ReadsAs, ReadsLines, ExplainsAs, first_number, lines_in, tabbed, IsLineFault, IsRecordFault, IsBadLine}
 use Rattle.zerotrie_lines.specs.declared.reading.Format.TheVariants.{Lines, Tsv, TsvRaw, Csv}
 use Rattle.zerotrie_lines.specs.declared.reading.Format.{Format}
-use Rattle.zerotrie_lines.specs.declared.reading.Header.{Header}
-use Rattle.zerotrie_lines.specs.declared.reading.Header.TheVariants.{Absent}
 use Rattle.zerotrie_lines.specs.declared.reading.LineEnd.{LineEnd}
+use Rattle.zerotrie_lines.specs.declared.reading.TextForm.{TextForm}
 use Rattle.zerotrie_lines.proofs.BytesLemmas.{High, high_append, digits_high, Lacks, lacks_low, lacks_append, place_behind, drop_behind}
 use Rattle.zerotrie_lines.proofs.EndLemmas.{ended_on, ended_high, no_mark}
 use Rattle.zerotrie_lines.proofs.EscapeLemmas.{one_rest}
@@ -283,7 +283,7 @@ lines_unmarked (e ∷ pairs) =
     rw (append_assoc (escaped e.0) (9 ∷ (decimal e.1 ++ (10 ∷ []))) (tsv_lines pairs)) (unmarked e.0 (decimal e.1 ++ (10 ∷ []) ++ tsv_lines pairs))
 
 -- the lines of pairs are these pairs
-pub lines_back : (end : LineEnd) (pairs : Pairs) → All (λ e. e.1 < 2 ^ 64) pairs → Reads Tsv end Absent (tsv_lines pairs) pairs
+pub lines_back : (end : LineEnd) (pairs : Pairs) → All (λ e. e.1 < 2 ^ 64) pairs → Reads (tsv_form end) (tsv_lines pairs) pairs
 lines_back end pairs below = subst (λ t. ReadsLines Tsv 1 (ended_lines end t) pairs) (sym (no_mark (tsv_lines pairs) (lines_unmarked pairs))) (back_on end pairs 1 below)
 
 one_key_text : (raw : Bool) (text key other : List ℕ) → IsKeyText raw text key → IsKeyText raw text other → other ≡ key
@@ -329,13 +329,13 @@ one_records (row ∷ rows) (e ∷ pairs) [] h k = absurd k
 one_records (row ∷ rows) (e ∷ pairs) (o ∷ others) h k = rw (one_record row e o h.0 k.0, one_records rows pairs others h.1 k.1) refl
 
 -- an input is one list of pairs at most
-pub one_input : (format : Format) (end : LineEnd) (header : Header) (input : List ℕ) (pairs others : Pairs) → Reads format end header input pairs → Reads format end header input others → others ≡ pairs
-one_input Lines end header input pairs others h k = one_list Lines (text_lines end header input) (first_number header) pairs others h k
-one_input Tsv end header input pairs others h k = one_list Tsv (text_lines end header input) (first_number header) pairs others h k
-one_input TsvRaw end header input pairs others h k = one_list TsvRaw (text_lines end header input) (first_number header) pairs others h k
-one_input Csv end header input pairs others h k =
-    let rows = one_rows (config_of end) st.StartRecord (strip_bom input) h.0 k.0 h.1 k.1 in
-    one_records (behind header h.0) pairs others h.2 (subst (λ r. ArePairRecords (behind header r) others) rows k.2)
+pub one_input : (format : Format) (form : TextForm) (input : List ℕ) (pairs others : Pairs) → ReadsAs format form input pairs → ReadsAs format form input others → others ≡ pairs
+one_input Lines form input pairs others h k = one_list Lines (lines_in form input) (first_number form.header) pairs others h k
+one_input Tsv form input pairs others h k = one_list Tsv (lines_in form input) (first_number form.header) pairs others h k
+one_input TsvRaw form input pairs others h k = one_list TsvRaw (lines_in form input) (first_number form.header) pairs others h k
+one_input Csv form input pairs others h k =
+    let rows = one_rows (config_of form.end) st.StartRecord (strip_bom input) h.0 k.0 h.1 k.1 in
+    one_records (behind form.header h.0) pairs others h.2 (subst (λ r. ArePairRecords (behind form.header r) others) rows k.2)
 
 no_empty : (raw : Bool) (line : List ℕ) (e : Pair) → line ≡ [] → IsPairLine raw line e → ⊥
 no_empty raw line e none h = let t = rw none at h.0 in omega (arith, t)
@@ -380,14 +380,14 @@ no_records (r ∷ rows) more row fault [] f h = h
 no_records (r ∷ rows) more row fault (e ∷ pairs) f h = no_records rows more row fault pairs f h.1
 
 -- an input with a line or record that is bad is no pairs
-pub bad_unread : (format : Format) (end : LineEnd) (header : Header) (input : List ℕ) (m : ℕ) (fault : BadLine) (pairs : Pairs)
-    → Explains format end header input (Line m fault) → Reads format end header input pairs → ⊥
-bad_unread Lines end header input m fault pairs f h = absurd (cc f)
-bad_unread Tsv end header input m fault pairs f h = no_lines false (text_lines end header input) (first_number header) m fault pairs f h
-bad_unread TsvRaw end header input m fault pairs f h = no_lines true (text_lines end header input) (first_number header) m fault pairs f h
-bad_unread Csv end header input m fault pairs f h =
+pub bad_unread : (format : Format) (form : TextForm) (input : List ℕ) (m : ℕ) (fault : BadLine) (pairs : Pairs)
+    → ExplainsAs format form input (Line m fault) → ReadsAs format form input pairs → ⊥
+bad_unread Lines form input m fault pairs f h = absurd (cc f)
+bad_unread Tsv form input m fault pairs f h = no_lines false (lines_in form input) (first_number form.header) m fault pairs f h
+bad_unread TsvRaw form input m fault pairs f h = no_lines true (lines_in form input) (first_number form.header) m fault pairs f h
+bad_unread Csv form input m fault pairs f h =
     let first = f.3 in
     let all = h.1 in
-    let more = rows_on (config_of end) st.StartRecord (strip_bom input) (f.0 ++ f.1 ∷ []) h.0 first.0 first.1 first.2 all in
-    let all_rows = ap (behind header) (more.1 ∙ append_assoc f.0 (f.1 ∷ []) more.0) ∙ behind_more header f.0 (f.1 ∷ more.0) f.5 in
-    no_records (behind header f.0) more.0 f.1 fault pairs f.7 (subst (λ r. ArePairRecords r pairs) all_rows h.2)
+    let more = rows_on (config_of form.end) st.StartRecord (strip_bom input) (f.0 ++ f.1 ∷ []) h.0 first.0 first.1 first.2 all in
+    let all_rows = ap (behind form.header) (more.1 ∙ append_assoc f.0 (f.1 ∷ []) more.0) ∙ behind_more form.header f.0 (f.1 ∷ more.0) f.5 in
+    no_records (behind form.header f.0) more.0 f.1 fault pairs f.7 (subst (λ r. ArePairRecords r pairs) all_rows h.2)

@@ -9,7 +9,7 @@ use Rattle.zerotrie_lines.specs.Records.{Fields, ArePairRecords, AreRowsOf, AreF
 use Rattle.zerotrie_lines.specs.declared.reading.Format.{Format}
 use Rattle.zerotrie_lines.specs.declared.reading.Format.TheVariants.{Lines, Tsv, TsvRaw, Csv}
 use Rattle.zerotrie_lines.specs.declared.reading.Header.{Header}
-use Rattle.zerotrie_lines.specs.declared.reading.LineEnd.{LineEnd}
+use Rattle.zerotrie_lines.specs.declared.reading.TextForm.{TextForm}
 use Rattle.zerotrie_lines.specs.declared.fault.BadLine.{BadLine}
 use Rattle.zerotrie_lines.specs.declared.fault.BadLine.TheVariants as bad
 use Rattle.zerotrie_lines.specs.declared.fault.ReadError.{ReadError}
@@ -33,12 +33,24 @@ ReadsLines format n (line ∷ lines) (e ∷ pairs) = IsPairIn format n line e ×
 abbrev pub first_number : Header → ℕ
 first_number header = header_rows header + 1
 
+-- the lines of an input that are to be pairs
+abbrev pub lines_in : TextForm → List ℕ → List (List ℕ)
+lines_in form input = text_lines form.end form.header input
+
+-- the records of an input are the pairs
+abbrev pub ReadsRecords : TextForm → List ℕ → Pairs → Type 0
+ReadsRecords form input pairs = (rows : List Fields) × AreRowsOf form.end input rows × ArePairRecords (behind form.header rows) pairs
+
+-- what a format reads
+abbrev pub ReadsAs : Format → TextForm → List ℕ → Pairs → Type 0
+ReadsAs Lines form input pairs = ReadsLines Lines (first_number form.header) (lines_in form input) pairs
+ReadsAs Tsv form input pairs = ReadsLines Tsv (first_number form.header) (lines_in form input) pairs
+ReadsAs TsvRaw form input pairs = ReadsLines TsvRaw (first_number form.header) (lines_in form input) pairs
+ReadsAs Csv form input pairs = ReadsRecords form input pairs
+
 -- the input is the pairs, in their order
-abbrev pub Reads : Format → LineEnd → Header → List ℕ → Pairs → Type 0
-Reads Lines end header input pairs = ReadsLines Lines (first_number header) (text_lines end header input) pairs
-Reads Tsv end header input pairs = ReadsLines Tsv (first_number header) (text_lines end header input) pairs
-Reads TsvRaw end header input pairs = ReadsLines TsvRaw (first_number header) (text_lines end header input) pairs
-Reads Csv end header input pairs = (rows : List Fields) × AreRowsOf end input rows × ArePairRecords (behind header rows) pairs
+abbrev pub Reads : TextForm → List ℕ → Pairs → Type 0
+Reads form input pairs = ReadsAs form.format form input pairs
 
 -- lines with a tab, whose keys are raw or have escapes
 abbrev pub tabbed : Bool → Format
@@ -55,11 +67,14 @@ IsNotPlain true line = (e : Pair) → IsPairLine true line e → ⊥
 IsNotPlain false line = Contains (before_first is_tab line) 92 ⊎ ((e : Pair) → IsPairLine false line e → ⊥)
 
 -- an input is not pairs whose keys are in it as they are: a line is none, or it is records
-abbrev pub HasNoItems : Format → LineEnd → Header → List ℕ → Type 0
-HasNoItems Lines end header input = ⊥
-HasNoItems Tsv end header input = Any (IsNotPlain false) (text_lines end header input)
-HasNoItems TsvRaw end header input = Any (IsNotPlain true) (text_lines end header input)
-HasNoItems Csv end header input = Unit {0}
+abbrev pub HasNoItemsAs : Format → TextForm → List ℕ → Type 0
+HasNoItemsAs Lines form input = ⊥
+HasNoItemsAs Tsv form input = Any (IsNotPlain false) (lines_in form input)
+HasNoItemsAs TsvRaw form input = Any (IsNotPlain true) (lines_in form input)
+HasNoItemsAs Csv form input = Unit {0}
+
+abbrev pub HasNoItems : TextForm → List ℕ → Type 0
+HasNoItems form input = HasNoItemsAs form.format form input
 
 -- why a line is no pair: it is empty, it has no tab, what is before the tab is no key, or what is after it is no number
 abbrev pub IsLineFault : Bool → List ℕ → BadLine → Type 0
@@ -83,9 +98,9 @@ IsBadLine raw n [] m fault = ⊥
 IsBadLine raw n (line ∷ lines) m fault = ((m ≡ n) × IsLineFault raw line fault) ⊎ ((e : Pair) × IsPairLine raw line e × IsBadLine raw (n + 1) lines m fault)
 
 -- record number m of the input, which is behind the header, is no pair for this fault, and each between them is a pair
-abbrev pub IsBadRecord : LineEnd → Header → List ℕ → ℕ → BadLine → Type 0
-IsBadRecord end header input m fault = (rows : List Fields) × (row : Fields) × (pairs : Pairs) × AreFirstRowsOf end input (rows ++ row ∷ []) × ArePairRecords (behind header rows) pairs
-    × (header_rows header ≤ length rows) × (m ≡ length rows + 1) × IsRecordFault row fault
+abbrev pub IsBadRecord : TextForm → List ℕ → ℕ → BadLine → Type 0
+IsBadRecord form input m fault = (rows : List Fields) × (row : Fields) × (pairs : Pairs) × AreFirstRowsOf form.end input (rows ++ row ∷ []) × ArePairRecords (behind form.header rows) pairs
+    × (header_rows form.header ≤ length rows) × (m ≡ length rows + 1) × IsRecordFault row fault
 
 -- why lines, the first with number n, are no pairs: this line is none, or an allocation failed
 abbrev pub ExplainsLines : Bool → ℕ → List (List ℕ) → ReadError → Type 0
@@ -93,13 +108,16 @@ ExplainsLines raw n lines OutOfMemory = Unit {0}
 ExplainsLines raw n lines (Line m fault) = IsBadLine raw n lines m fault
 
 -- why records are no pairs
-abbrev pub ExplainsRecords : LineEnd → Header → List ℕ → ReadError → Type 0
-ExplainsRecords end header input OutOfMemory = Unit {0}
-ExplainsRecords end header input (Line m fault) = IsBadRecord end header input m fault
+abbrev pub ExplainsRecords : TextForm → List ℕ → ReadError → Type 0
+ExplainsRecords form input OutOfMemory = Unit {0}
+ExplainsRecords form input (Line m fault) = IsBadRecord form input m fault
 
 -- why an input is not read
-abbrev pub Explains : Format → LineEnd → Header → List ℕ → ReadError → Type 0
-Explains Lines end header input e = e ≡ OutOfMemory
-Explains Tsv end header input e = ExplainsLines false (first_number header) (text_lines end header input) e
-Explains TsvRaw end header input e = ExplainsLines true (first_number header) (text_lines end header input) e
-Explains Csv end header input e = ExplainsRecords end header input e
+abbrev pub ExplainsAs : Format → TextForm → List ℕ → ReadError → Type 0
+ExplainsAs Lines form input e = e ≡ OutOfMemory
+ExplainsAs Tsv form input e = ExplainsLines false (first_number form.header) (lines_in form input) e
+ExplainsAs TsvRaw form input e = ExplainsLines true (first_number form.header) (lines_in form input) e
+ExplainsAs Csv form input e = ExplainsRecords form input e
+
+abbrev pub Explains : TextForm → List ℕ → ReadError → Type 0
+Explains form input e = ExplainsAs form.format form input e

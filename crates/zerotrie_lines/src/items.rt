@@ -12,7 +12,7 @@ ghost use Rattle.zerotrie_lines.specs.declared.reading.LineEnd.TheVariants.{CrLf
 
 use crate::lines::take_ended;
 use crate::numbers::parse_number;
-use crate::reading::{Format, Header, LineEnd, pair_text};
+use crate::reading::{Format, LineEnd, TextForm, pair_text};
 use memchr::{memchr, memchr3};
 use std::alloc::{AllocError, Global};
 use std::simd::prelude::*;
@@ -231,28 +231,26 @@ fn items_of_keys(
 /// returns the error.
 ///
 /// ```
-/// let (tsv, end) = (Format::Tsv, LineEnd::CrLf);
-/// let items = read_items(rt.alloc(), tsv, end, Header::Absent, b"ad\t22\nadef\t33\n")?;
+/// let form = TextForm { format: Format::Tsv, end: LineEnd::CrLf, header: Header::Absent };
+/// let items = read_items(rt.alloc(), form, b"ad\t22\nadef\t33\n")?;
 /// assert_eq!(rt; items.map(|items| items[1]), Some((b"adef".as_slice(), 33)));
 /// ```
 ///
 /// It allocates the list alone.
 pub fn read_items(
     alloc: Global,
-    format: Format,
-    end: LineEnd,
-    header: Header,
+    form: TextForm,
     input: &[u8],
 ) -> Result<Option<Vec<(&[u8], usize)>>, AllocError>
     ensures reads { IfOk result (λ items. IfSome items (λ items.
-        Reads format end header input.now (pairs_of items.items))) }
-    ensures none { IfOk result (λ items. IfNone items (HasNoItems format end header input.now)) }
+        Reads form input.now (pairs_of items.items))) }
+    ensures none { IfOk result (λ items. IfNone items (HasNoItems form input.now)) }
 {
-    let text = pair_text(header, input);
-    match format {
-        Format::Tsv => items_of_tsv(alloc, end, text),
-        Format::TsvRaw => items_of_raw(alloc, end, text),
-        Format::Lines => Ok(Some(items_of_keys(alloc, end, header.rows(), text)?)),
+    let text = pair_text(form.header, input);
+    match form.format {
+        Format::Tsv => items_of_tsv(alloc, form.end, text),
+        Format::TsvRaw => items_of_raw(alloc, form.end, text),
+        Format::Lines => Ok(Some(items_of_keys(alloc, form.end, form.header.rows(), text)?)),
         Format::Csv => Ok(None),
     }
 }

@@ -59,6 +59,17 @@ impl Header {
     }
 }
 
+/// How a text is pairs.
+#[derive(Clone, Copy, PartialEq, Eq, Debug)]
+pub struct TextForm {
+    /// What a line or record is.
+    pub format: Format,
+    /// What ends it.
+    pub end: LineEnd,
+    /// Whether a header is in front.
+    pub header: Header,
+}
+
 /// Returns the text of the lines that are to be pairs: without a byte order mark and the header.
 pub(crate) fn pair_text(header: Header, input: &[u8]) -> &[u8]
     ensures { (end : LineEnd) → ended_lines end result.now ≡ text_lines end header input.now }
@@ -122,13 +133,12 @@ fn read_keys(alloc: Global, end: LineEnd, before: usize, text: &[u8]) -> Result<
 /// letters of their keys become lower case.
 ///
 /// ```
-/// let (tsv, end) = (Format::Tsv, LineEnd::CrLf);
+/// let form = TextForm { format: Format::Tsv, end: LineEnd::CrLf, header: Header::Absent };
 /// let text = b"ad\t22\na\\td\t33\r\n";
-/// let table = read_pairs(rt.alloc(), tsv, end, Header::Absent, false, text);
-/// assert_eq!(rt; table.map(|t| t.len()), Ok(2));
-/// let table = read_pairs(rt.alloc(), tsv, end, Header::Present, false, text);
-/// assert_eq!(rt; table.map(|t| t.len()), Ok(1));
-/// let table = read_pairs(rt.alloc(), tsv, end, Header::Present, false, b"key\tvalue\nad 33\n");
+/// assert_eq!(rt; read_pairs(rt.alloc(), form, false, text).map(|t| t.len()), Ok(2));
+/// let form = TextForm { header: Header::Present, ..form };
+/// assert_eq!(rt; read_pairs(rt.alloc(), form, false, text).map(|t| t.len()), Ok(1));
+/// let table = read_pairs(rt.alloc(), form, false, b"key\tvalue\nad 33\n");
 /// assert_eq!(rt; table.map(|t| t.len()), Err(ReadError::Line(2, BadLine::NoTab)));
 /// ```
 ///
@@ -136,23 +146,21 @@ fn read_keys(alloc: Global, end: LineEnd, before: usize, text: &[u8]) -> Result<
 /// and why.
 pub fn read_pairs(
     alloc: Global,
-    format: Format,
-    end: LineEnd,
-    header: Header,
+    form: TextForm,
     lower_case: bool,
     input: &[u8],
 ) -> Result<Table, ReadError>
-    ensures ok { IfOk result (λ table. (pairs : Pairs) × Reads format end header input.now pairs
+    ensures ok { IfOk result (λ table. (pairs : Pairs) × Reads form input.now pairs
         × (table ≡ lowered lower_case pairs)) }
-    ensures err { IfErr result (λ e. Explains format end header input.now e) }
+    ensures err { IfErr result (Explains form input.now) }
 {
-    let before = header.rows();
-    let text = pair_text(header, input);
-    let mut table = match format {
-        Format::Lines => read_keys(alloc, end, before, text)?,
-        Format::Tsv => read_tsv(alloc, false, end, before, text)?,
-        Format::TsvRaw => read_tsv(alloc, true, end, before, text)?,
-        Format::Csv => read_records(alloc, end, header, input)?,
+    let before = form.header.rows();
+    let text = pair_text(form.header, input);
+    let mut table = match form.format {
+        Format::Lines => read_keys(alloc, form.end, before, text)?,
+        Format::Tsv => read_tsv(alloc, false, form.end, before, text)?,
+        Format::TsvRaw => read_tsv(alloc, true, form.end, before, text)?,
+        Format::Csv => read_records(alloc, form, input)?,
     };
     if lower_case {
         table.lower_case();

@@ -4,12 +4,11 @@ ghost use Rattle.std.specs.Prelude.{◌≡◌, ◌≢◌, length, ◌++◌, ◌�
 ghost use Rattle.csv.specs.Records.{fields_of};
 ghost use Rattle.zerotrie_lines.specs.Tables.{Pair};
 ghost use Rattle.zerotrie_lines.specs.Records.{IsPairRecord, config_of};
-ghost use Rattle.zerotrie_lines.specs.Reads.{IsRecordFault, Reads, Explains};
-ghost use Rattle.zerotrie_lines.specs.declared.reading.Format.TheVariants.{Csv};
+ghost use Rattle.zerotrie_lines.specs.Reads.{ExplainsRecords, IsRecordFault, ReadsRecords};
 
 use crate::fault::{BadLine, ReadError, at_line};
 use crate::numbers::parse_number;
-use crate::reading::{Header, LineEnd};
+use crate::reading::{LineEnd, TextForm};
 use crate::table::Table;
 use crate::values::bad_value;
 use csv::{ByteRecord, ReaderBuilder, Terminator};
@@ -63,17 +62,12 @@ fn terminator_of(end: LineEnd) -> Terminator
 }
 
 /// Returns the pairs that the records of an input are, behind the header.
-pub(crate) fn read_records(
-    alloc: Global,
-    end: LineEnd,
-    header: Header,
-    input: &[u8],
-) -> Result<Table, ReadError>
-    ensures ok { IfOk result (λ table. Reads Csv end header input.now table) }
-    ensures err { IfErr result (λ e. Explains Csv end header input.now e) }
+pub(crate) fn read_records(alloc: Global, form: TextForm, input: &[u8]) -> Result<Table, ReadError>
+    ensures ok { IfOk result (λ table. ReadsRecords form input.now table) }
+    ensures err { IfErr result (ExplainsRecords form input.now) }
 {
     let mut reader = ReaderBuilder::new()
-        .terminator(terminator_of(end))
+        .terminator(terminator_of(form.end))
         .has_headers(false)
         .flexible(true)
         .from_reader(alloc, input);
@@ -86,7 +80,7 @@ pub(crate) fn read_records(
         if !found {
             return Ok(table);
         }
-        if index < header.rows() {
+        if index < form.header.rows() {
             continue;
         }
         if let Some(bad) = read_record(alloc, &row, &mut table)? {

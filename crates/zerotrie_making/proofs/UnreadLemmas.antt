@@ -32,17 +32,17 @@ not_both input Gzip is none = none.1 is
 not_both input Sealed is none = none.2 is
 
 pub no_file : BadIsUnread → (source : Source) (input : List ℕ) (e : MakeError) (pairs : Pairs) → IsOther input None → NoPairs source input e → e ≢ OutOfMemory → IsPairs source input pairs → ⊥
-no_file bad (Text format end header) input (NotText other) pairs own h some p = not_both input other h own
+no_file bad (Text form) input (NotText other) pairs own h some p = not_both input other h own
 no_file bad Json input (NotText other) pairs own h some p = not_both input other h own
-no_file bad (Text format end header) input (Line number fault) pairs own h some p = bad format end header input number fault pairs h p
-no_file bad (Text format end header) input (NotJson line column) pairs own h some p = h
-no_file bad (Text format end header) input NotPairs pairs own h some p = h
-no_file bad (Text format end header) input (NotPair why) pairs own h some p = h
-no_file bad (Text format end header) input (Keys s) pairs own h some p = h
-no_file bad (Text format end header) input (SumTooLarge k) pairs own h some p = h
-no_file bad (Text format end header) input (Refused e) pairs own h some p = h
-no_file bad (Text format end header) input (IndexRefused e) pairs own h some p = h
-no_file bad (Text format end header) input OutOfMemory pairs own h some p = some refl
+no_file bad (Text form) input (Line number fault) pairs own h some p = bad form input number fault pairs h p
+no_file bad (Text form) input (NotJson line column) pairs own h some p = h
+no_file bad (Text form) input NotPairs pairs own h some p = h
+no_file bad (Text form) input (NotPair why) pairs own h some p = h
+no_file bad (Text form) input (Keys s) pairs own h some p = h
+no_file bad (Text form) input (SumTooLarge k) pairs own h some p = h
+no_file bad (Text form) input (Refused e) pairs own h some p = h
+no_file bad (Text form) input (IndexRefused e) pairs own h some p = h
+no_file bad (Text form) input OutOfMemory pairs own h some p = some refl
 no_file bad Json input (Line number fault) pairs own h some p = h
 no_file bad Json input (NotJson line column) pairs own h some p = absurd (cc (sym (h.0 p.1.0) ∙ p.1.1))
 no_file bad Json input NotPairs pairs own h some p = no_value input h.0 p.0 pairs h.1 p.1 h.2 p.2

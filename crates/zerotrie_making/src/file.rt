@@ -241,8 +241,9 @@ fn make_text(alloc: Global, plan: Plan, input: Vec<u8>) -> Result<Made, MakeErro
 /// Makes the file of the pairs of an input, and counts its keys.
 ///
 /// ```
+/// let tsv = TextForm { format: Format::Tsv, end: LineEnd::CrLf, header: Header::Absent };
 /// let read = ReadPlan {
-///     source: Source::Text(Format::Tsv, LineEnd::CrLf, Header::Absent),
+///     source: Source::Text(tsv),
 ///     lower_case: false,
 ///     duplicates: Duplicates::Refuse,
 /// };
@@ -255,12 +256,13 @@ fn make_text(alloc: Global, plan: Plan, input: Vec<u8>) -> Result<Made, MakeErro
 /// let input = Vec::from_slice(rt.alloc(), b"ad\t2\nadef\t33\nad\t20\n")?;
 /// let made = make(rt.alloc(), Plan { read: summed, file }, input).map_err(|_| "refused")?;
 /// assert_eq!(rt; made.file.as_slice(), b"\x00ad\x90\x06ef\x90\x11".as_slice());
-/// let source = Source::Text(Format::Csv, LineEnd::CrLf, Header::Present);
+/// let csv = TextForm { format: Format::Csv, header: Header::Present, ..tsv };
+/// let source = Source::Text(csv);
 /// let input = Vec::from_slice(rt.alloc(), b"key,value\nad,22\nadef,33\n")?;
 /// let plan = Plan { read: ReadPlan { source, ..read }, file };
 /// let made = make(rt.alloc(), plan, input).map_err(|_| "refused")?;
 /// assert_eq!(rt; made.file.as_slice(), b"\x00ad\x90\x06ef\x90\x11".as_slice());
-/// let source = Source::Text(Format::Lines, LineEnd::CrLf, Header::Absent);
+/// let source = Source::Text(TextForm { format: Format::Lines, ..tsv });
 /// let read = ReadPlan { source, ..read };
 /// let input = Vec::from_slice(rt.alloc(), b"\xFF\xFEa\0\n\0")?;
 /// let why = MakeError::NotText(OtherFile::Utf16);

@@ -23,9 +23,7 @@ pub(crate) fn items_in(
         × (pairs_of items.items ≡ lowered read.lower_case pairs))) }
 {
     match read.source {
-        Source::Text(format, end, header) if !read.lower_case => {
-            read_items(alloc, format, end, header, input)
-        }
+        Source::Text(form) if !read.lower_case => read_items(alloc, form, input),
         _ => Ok(None),
     }
 }
@@ -49,9 +47,7 @@ pub(crate) fn read_input(alloc: Global, read: ReadPlan, input: &[u8]) -> Result<
     ensures err { IfErr result (λ e. NoPairs read.source input.now e) }
 {
     match read.source {
-        Source::Text(format, end, header) => {
-            Ok(read_pairs(alloc, format, end, header, read.lower_case, input)?)
-        }
+        Source::Text(form) => Ok(read_pairs(alloc, form, read.lower_case, input)?),
         Source::Json => Ok(lowered(read.lower_case, read_json(alloc, input)?)),
         Source::JsonLines => Ok(lowered(read.lower_case, read_json_lines(alloc, input)?)),
     }

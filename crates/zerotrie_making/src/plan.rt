@@ -5,14 +5,14 @@ ghost use Rattle.zerotrie_making.specs.Sources.{rows_before};
 
 use crate::duplicates::Duplicates;
 use zerotrie_core::TrieKind;
-use zerotrie_lines::{Format, Header, LineEnd};
+use zerotrie_lines::TextForm;
 use zerotrie_sets::{Rule, Selection};
 
 /// How an input is pairs.
 #[derive(Clone, Copy, PartialEq, Eq, Debug)]
 pub enum Source {
-    /// Lines or records, one a pair, with what ends them, and whether a header is in front.
-    Text(Format, LineEnd, Header),
+    /// Lines or records of this form, one a pair.
+    Text(TextForm),
     /// A JSON value: an object from keys to numbers, or a list of pairs. A pair is a list of two, a
     /// key and a number, and a key is a text or a list of bytes. The pairs are in the order of the
     /// text; a name that comes twice is a key that two pairs have.
@@ -28,7 +28,7 @@ impl Source {
         ensures { result ≡ rows_before self }
     {
         match self {
-            Source::Text(_, _, header) => header.rows(),
+            Source::Text(form) => form.header.rows(),
             Source::Json | Source::JsonLines => 0,
         }
     }

@@ -8,6 +8,7 @@ use Rattle.zerotrie_core.specs.Faults.{rule_text}
 use Rattle.zerotrie_any.specs.declared.bytes.TagError.{TagError}
 use Rattle.zerotrie_any.specs.declared.bytes.TagError.TheVariants.{Empty, InvalidTag}
 use Rattle.zerotrie_lines.specs.Escapes.{escaped}
+use Rattle.zerotrie_lines.specs.declared.reading.Format.{Format}
 use Rattle.zerotrie_lines.specs.declared.reading.Format.TheVariants.{Lines, Tsv, TsvRaw, Csv}
 use Rattle.zerotrie_lines.specs.declared.fault.BadLine.{BadLine}
 use Rattle.zerotrie_lines.specs.declared.fault.BadLine.TheVariants as bad
@@ -79,12 +80,15 @@ line_on place words = (line_front place ++ words) ++ 10 ∷ []
 abbrev pub IsLineOn : List ℕ → List ℕ → Type 0
 IsLineOn place text = (words : List ℕ) × (text ≡ line_on place words)
 
--- what holds one pair of a source
+-- what holds one pair of a format, and of a source
+abbrev pub unit_of_format : Format → PairUnit
+unit_of_format Lines = unit.Line
+unit_of_format Tsv = unit.Line
+unit_of_format TsvRaw = unit.Line
+unit_of_format Csv = unit.Record
+
 abbrev pub unit_of : Source → PairUnit
-unit_of (source.Text Lines ended header) = unit.Line
-unit_of (source.Text Tsv ended header) = unit.Line
-unit_of (source.Text TsvRaw ended header) = unit.Line
-unit_of (source.Text Csv ended header) = unit.Record
+unit_of (source.Text form) = unit_of_format form.format
 unit_of source.Json = unit.Pair
 unit_of source.JsonLines = unit.Line
 

@@ -16,7 +16,7 @@ use std::process::Abort;
 use std::test::Fail;
 use zerotrie_core::TrieKind;
 use zerotrie_files::{Disk, Noted, Store};
-use zerotrie_lines::{Format, Header, LineEnd};
+use zerotrie_lines::{Format, Header, LineEnd, TextForm};
 use zerotrie_making::{Duplicates, FileForm, FilePlan, Plan, ReadPlan, Source};
 use zerotrie_queries::{
     Asked, Choice, Form, Language, ListQuery, Order, Query, ReportForm, Spelling, Style, View,
@@ -51,10 +51,17 @@ const TAGGED: FilePlan = FilePlan {
     form: FileForm::Tagged,
 };
 
+/// Lines of pairs, without a header.
+const TSV: TextForm = TextForm {
+    format: Format::Tsv,
+    end: LineEnd::CrLf,
+    header: Header::Absent,
+};
+
 /// The trie of any pairs.
 const PLAN: Plan = Plan {
     read: ReadPlan {
-        source: Source::Text(Format::Tsv, LineEnd::CrLf, Header::Absent),
+        source: Source::Text(TSV),
         lower_case: false,
         duplicates: Duplicates::Refuse,
     },
@@ -314,7 +321,10 @@ const MADE_AGAIN: [Row; 6] = [
         command: Command::Build(Build {
             plan: Plan {
                 read: ReadPlan {
-                    source: Source::Text(Format::Csv, LineEnd::CrLf, Header::Absent),
+                    source: Source::Text(TextForm {
+                        format: Format::Csv,
+                        ..TSV
+                    }),
                     ..READ
                 },
                 file: TAGGED,

@@ -134,10 +134,10 @@ MayHaveHeader input.JsonLines header = header ≡ Absent
 
 -- an input of a format is such pairs, by whether it is raw: only `tsv` is
 abbrev pub IsSourceOf : Input → Bool → LineEnd → Header → Source → Type 0
-IsSourceOf input.Tsv true end header source = source ≡ Text TsvRaw end header
-IsSourceOf input.Tsv false end header source = source ≡ Text Tsv end header
-IsSourceOf input.Csv raw end header source = (raw ≡ false) × (source ≡ Text Csv end header)
-IsSourceOf input.Lines raw end header source = (raw ≡ false) × (source ≡ Text Lines end header)
+IsSourceOf input.Tsv true end header source = source ≡ Text (record { format = TsvRaw; end = end; header = header })
+IsSourceOf input.Tsv false end header source = source ≡ Text (record { format = Tsv; end = end; header = header })
+IsSourceOf input.Csv raw end header source = (raw ≡ false) × (source ≡ Text (record { format = Csv; end = end; header = header }))
+IsSourceOf input.Lines raw end header source = (raw ≡ false) × (source ≡ Text (record { format = Lines; end = end; header = header }))
 IsSourceOf input.Json raw end header source = (raw ≡ false) × (source ≡ Json)
 IsSourceOf input.JsonLines raw end header source = (raw ≡ false) × (source ≡ JsonLines)
 

@@ -13,7 +13,7 @@ use crate::misuse::Misuse;
 use crate::names::{kind_of, place_of, source_of};
 use crate::options::{BuildOptions, MakeOptions};
 use zerotrie_core::TrieKind;
-use zerotrie_lines::{Format, Header, LineEnd};
+use zerotrie_lines::{Format, Header, LineEnd, TextForm};
 use zerotrie_making::{Duplicates, FileForm, FilePlan, Plan, ReadPlan, Source};
 use zerotrie_run::{Build, Place, Summary};
 
@@ -157,17 +157,22 @@ impl<'a> BuildOptions<'a> {
         let input = self.format()?;
         let end = self.end(input)?;
         let header = self.header(input)?;
-        match (input, self.raw) {
-            (Input::Tsv, true) => Ok(Source::Text(Format::TsvRaw, end, header)),
-            (Input::Tsv, false) => Ok(Source::Text(Format::Tsv, end, header)),
-            (Input::Csv, false) => Ok(Source::Text(Format::Csv, end, header)),
-            (Input::Lines, false) => Ok(Source::Text(Format::Lines, end, header)),
-            (Input::Json, false) => Ok(Source::Json),
-            (Input::JsonLines, false) => Ok(Source::JsonLines),
-            (Input::Csv | Input::Lines | Input::Json | Input::JsonLines, true) => Err(
-                Misuse::RawIsTsv,
-            ),
-        }
+        let format = match (input, self.raw) {
+            (Input::Tsv, true) => Format::TsvRaw,
+            (Input::Tsv, false) => Format::Tsv,
+            (Input::Csv, false) => Format::Csv,
+            (Input::Lines, false) => Format::Lines,
+            (Input::Json, false) => return Ok(Source::Json),
+            (Input::JsonLines, false) => return Ok(Source::JsonLines),
+            (Input::Csv | Input::Lines | Input::Json | Input::JsonLines, true) => {
+                return Err(Misuse::RawIsTsv);
+            }
+        };
+        Ok(Source::Text(TextForm {
+            format,
+            end,
+            header,
+        }))
     }
 
     /// Returns what becomes of a key that comes again.

@@ -27,8 +27,10 @@ impl PairUnit {
         ensures { result ≡ unit_of source }
     {
         match source {
-            Source::Text(Format::Csv, _, _) => PairUnit::Record,
-            Source::Text(Format::Tsv | Format::TsvRaw | Format::Lines, _, _) => PairUnit::Line,
+            Source::Text(form) => match form.format {
+                Format::Csv => PairUnit::Record,
+                Format::Tsv | Format::TsvRaw | Format::Lines => PairUnit::Line,
+            },
             Source::Json => PairUnit::Pair,
             Source::JsonLines => PairUnit::Line,
         }

@@ -1,10 +1,10 @@
 //! What builds make of texts, and why they refuse them.
 
 use crate::tests::{
-    ABSENT, BUILD, FILE, NAMES, OF_JSON_LINES, PAIRS, PLAN, READ, Row, TAGGED, TRIE, are_run,
+    ABSENT, BUILD, FILE, NAMES, OF_JSON_LINES, PAIRS, PLAN, READ, Row, TAGGED, TRIE, TSV, are_run,
 };
 use std::test::Fail;
-use zerotrie_lines::{Format, Header, LineEnd};
+use zerotrie_lines::{Format, TextForm};
 use zerotrie_making::{Duplicates, FileForm, FilePlan, Plan, ReadPlan, Source};
 use zerotrie_run::{Build, Check, Command, Keys, Place, Question, Status, Summary, TrieFile};
 
@@ -32,7 +32,10 @@ const INDEXING: Build<'static> = Build {
 const OF_LINES: Build<'static> = Build {
     plan: Plan {
         read: ReadPlan {
-            source: Source::Text(Format::Lines, LineEnd::CrLf, Header::Absent),
+            source: Source::Text(TextForm {
+                format: Format::Lines,
+                ..TSV
+            }),
             ..READ
         },
         ..PLAN
@@ -187,7 +190,7 @@ const REFUSED: [Row; 11] = [
         command: Command::Build(Build {
             plan: Plan {
                 read: ReadPlan {
-                    source: Source::Text(Format::Tsv, LineEnd::CrLf, Header::Absent),
+                    source: Source::Text(TSV),
                     lower_case: false,
                     duplicates: Duplicates::Sum,
                 },

@@ -1,11 +1,11 @@
 //! Files that are made again of their listings, and why others are not made.
 
 use crate::making::{makes, makes_again, parses_value};
-use crate::tests::{NAMES, PLAN, READ, TAGGED};
+use crate::tests::{NAMES, PLAN, READ, TAGGED, TSV};
 use std::alloc::{AllocError, Global};
 use std::test::Fail;
 use zerotrie_core::{TrieKind, ZeroTrieBuildError};
-use zerotrie_lines::{BadLine, Format, Header, LineEnd};
+use zerotrie_lines::BadLine;
 use zerotrie_making::{
     Duplicates, MakeError, NoPair, NumberedKey, OtherFile, Plan, ReadPlan, Shown, Source,
 };
@@ -54,18 +54,15 @@ struct Unread {
     why: MakeError,
 }
 
-/// Lines of pairs, without a header.
-const LINES: Source = Source::Text(Format::Tsv, LineEnd::CrLf, Header::Absent);
-
 /// An input for each error that says that it is no pairs.
 const UNREAD: [Unread; 5] = [
     Unread {
-        source: LINES,
+        source: Source::Text(TSV),
         input: b"\x1f\x8b\x08",
         why: MakeError::NotText(OtherFile::Gzip),
     },
     Unread {
-        source: LINES,
+        source: Source::Text(TSV),
         input: b"a\t1\nb\n",
         why: MakeError::Line(2, BadLine::NoTab),
     },

@@ -7,7 +7,7 @@ use Rattle.zerotrie_lines.specs.Records.{Fields, ArePairRecords, config_of}
 use Rattle.zerotrie_lines.proofs.records.read_records.Given as goal
 
 abbrev pub invariant-loop-index : goal.invariant-loop-index
-invariant-loop-index l = (l.reader.trim ≡ trim.None) × Ready l.reader × (l.reader.config ≡ config_of l.fn.end)
+invariant-loop-index l = (l.reader.trim ≡ trim.None) × Ready l.reader × (l.reader.config ≡ config_of l.fn.form.end)
     × (y : List ℕ) × (source_of (λ s. Some s.now) l.reader ≡ Some y)
-    × (rows : List Fields) × Reached (config_of l.fn.end) st.StartRecord (strip_bom l.fn.input) rows l.reader.state y
-    × ArePairRecords (behind l.fn.header rows) l.table × (length rows ≡ l.index)
+    × (rows : List Fields) × Reached (config_of l.fn.form.end) st.StartRecord (strip_bom l.fn.input) rows l.reader.state y
+    × ArePairRecords (behind l.fn.form.header rows) l.table × (length rows ≡ l.index)
