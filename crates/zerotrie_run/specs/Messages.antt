@@ -90,7 +90,7 @@ unit_of_format Csv = unit.Record
 abbrev pub unit_of : Source → PairUnit
 unit_of (source.Text form) = unit_of_format form.format
 unit_of source.Json = unit.Pair
-unit_of source.JsonLines = unit.Line
+unit_of (source.JsonLines names) = unit.Line
 
 -- the word before its number
 abbrev pub unit_word : PairUnit → List ℕ
@@ -155,7 +155,7 @@ no_pair_words (Item number) =
 no_pair_words (Line number) =
     codes "line "
     ++ (decimal number
-    ++ codes ": no JSON list [key, value], and no object {\"key\": key, \"value\": value}, whose value is written as a whole number below 2^64")
+    ++ codes ": no JSON list [key, value], and no object {\"key\": key, \"value\": value} or with the names of --key and --value, whose value is written as a whole number below 2^64")
 
 -- a value is none for no other reason that is known
 abbrev pub is_other : ValueFault → Bool
@@ -181,15 +181,23 @@ bad_hint unit number bad.Empty = []
 bad_hint unit number bad.NoTab = codes "; if the input has another form, name it by --format"
 bad_hint unit number bad.Escape = []
 bad_hint unit number (bad.Value v) = if number == 1 then header_hint unit v.fault else []
-bad_hint unit number bad.Fields = []
+bad_hint unit number (bad.Fields found wanted) = []
+bad_hint unit number (bad.NoColumn name) = []
+bad_hint unit number (bad.SameColumns name) = []
 
--- what a field begins with that is no value, in quotes
+-- a field or a name in quotes
+abbrev pub quoted_words : List ℕ → List ℕ
+quoted_words field = (codes ": \"" ++ escaped field) ++ codes "\""
+
+-- what a field begins with that is no value, the name of a column, or how many fields there are
 abbrev pub field_words : BadLine → List ℕ
 field_words bad.Empty = []
 field_words bad.NoTab = []
 field_words bad.Escape = []
-field_words (bad.Value v) = (codes ": \"" ++ escaped v.front.items) ++ codes "\""
-field_words bad.Fields = []
+field_words (bad.Value v) = quoted_words v.front.items
+field_words (bad.Fields found wanted) = codes ": " ++ (decimal found ++ (codes ", not " ++ decimal wanted))
+field_words (bad.NoColumn name) = quoted_words name.items
+field_words (bad.SameColumns name) = quoted_words name.items
 
 -- which line or record is no pair, and why
 abbrev pub bad_words : PairUnit → ℕ → BadLine → (why : List ℕ) → List ℕ

@@ -31,7 +31,7 @@ use zerotrie_queries::{Choice, Form, ListQuery, Order, Style, write_list};
 use zerotrie_search::KeyRange;
 
 /// Returns how a trie of this kind is made of lines, as bytes alone.
-fn plan_of(kind: TrieKind) -> Plan
+fn plan_of(kind: TrieKind) -> Plan<'static>
     ensures { result ≡ bare_plan kind }
 {
     Plan {
@@ -104,11 +104,11 @@ pub fn makes_again(alloc: Global, kind: TrieKind, lines: Vec<u8>) -> Result<(Mad
 
 /// Makes a file of an input. If the error says something of the input, the plan makes no file of it, and
 /// if it says that it is no pairs, no plan does that reads it so.
-pub fn makes(alloc: Global, plan: Plan, input: Vec<u8>) -> Result<Made, MakeError>
-    ensures made { IfOk result (IsMade plan input.items) }
+pub fn makes(alloc: Global, plan: Plan<'_>, input: Vec<u8>) -> Result<Made, MakeError>
+    ensures made { IfOk result (IsMade plan.entry input.items) }
     ensures none { IfErr result (λ e. e ≢ OutOfMemory → e ≢ Refused CouldNotSolvePerfectHash
-        → e ≢ IndexRefused Crowded → MakesNone plan input.items) }
-    ensures unread { IfErr result (λ e. SaysNoPairs e → NoPlanMakes plan.read.source input.items) }
+        → e ≢ IndexRefused Crowded → MakesNone plan.entry input.items) }
+    ensures unread { IfErr result (λ e. SaysNoPairs e → NoPlanMakes plan.entry.read.source input.items) }
 {
     refused_makes_no_file();
     unread_makes_no_file();

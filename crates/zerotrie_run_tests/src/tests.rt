@@ -16,7 +16,7 @@ use std::process::Abort;
 use std::test::Fail;
 use zerotrie_core::TrieKind;
 use zerotrie_files::{Disk, Noted, Store};
-use zerotrie_lines::{Format, Header, LineEnd, TextForm};
+use zerotrie_lines::{Format, Header, LineEnd, Names, TextForm};
 use zerotrie_making::{Duplicates, FileForm, FilePlan, Plan, ReadPlan, Source};
 use zerotrie_queries::{
     Asked, Choice, Form, Language, ListQuery, Order, Query, ReportForm, Spelling, Style, View,
@@ -51,15 +51,21 @@ const TAGGED: FilePlan = FilePlan {
     form: FileForm::Tagged,
 };
 
+/// The names of a pair in lines of JSON.
+const PAIR: Names<'static> = Names {
+    key: "key",
+    value: "value",
+};
+
 /// Lines of pairs, without a header.
-const TSV: TextForm = TextForm {
+const TSV: TextForm<'static> = TextForm {
     format: Format::Tsv,
     end: LineEnd::CrLf,
     header: Header::Absent,
 };
 
 /// The trie of any pairs.
-const PLAN: Plan = Plan {
+const PLAN: Plan<'static> = Plan {
     read: ReadPlan {
         source: Source::Text(TSV),
         lower_case: false,
@@ -81,7 +87,7 @@ const BUILD: Build<'static> = Build {
 const OF_JSON_LINES: Build<'static> = Build {
     plan: Plan {
         read: ReadPlan {
-            source: Source::JsonLines,
+            source: Source::JsonLines(PAIR),
             ..READ
         },
         ..PLAN
@@ -299,7 +305,7 @@ const QUOTED_CSV: &[u8] = b"\"a,b\",3\n";
 const QUOTED_JSON: &[u8] = b"{\"a,b\":3}\n";
 
 /// How pairs are read of it, if the form is named.
-const READ: ReadPlan = ReadPlan {
+const READ: ReadPlan<'static> = ReadPlan {
     source: Source::Json,
     lower_case: false,
     duplicates: Duplicates::Refuse,

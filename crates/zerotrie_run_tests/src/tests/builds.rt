@@ -208,7 +208,7 @@ const REFUSED: [Row; 11] = [
         command: Command::Build(OF_JSON_LINES),
         status: Status::BadInput,
         printed: b"",
-        told: b"zerotrie: names.tsv: line 2: no JSON list [key, value], and no object {\"key\": key, \"value\": value}, whose value is written as a whole number below 2^64\n",
+        told: b"zerotrie: names.tsv: line 2: no JSON list [key, value], and no object {\"key\": key, \"value\": value} or with the names of --key and --value, whose value is written as a whole number below 2^64\n",
         left: ("names.trie", TRIE),
     },
     Row {

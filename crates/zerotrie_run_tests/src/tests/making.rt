@@ -1,7 +1,7 @@
 //! Files that are made again of their listings, and why others are not made.
 
 use crate::making::{makes, makes_again, parses_value};
-use crate::tests::{NAMES, PLAN, READ, TAGGED, TSV};
+use crate::tests::{NAMES, PAIR, PLAN, READ, TAGGED, TSV};
 use std::alloc::{AllocError, Global};
 use std::test::Fail;
 use zerotrie_core::{TrieKind, ZeroTrieBuildError};
@@ -49,7 +49,7 @@ fn listings_are_made_again(rt: HostRuntime) -> Result<(), Fail> {
 /// How an input is read, and why it is no pairs.
 #[derive(Drop)]
 struct Unread {
-    source: Source,
+    source: Source<'static>,
     input: &'static [u8],
     why: MakeError,
 }
@@ -77,7 +77,7 @@ const UNREAD: [Unread; 5] = [
         why: MakeError::NotPairs,
     },
     Unread {
-        source: Source::JsonLines,
+        source: Source::JsonLines(PAIR),
         input: b"[\"a\",1]\n[\"b\"]\n",
         why: MakeError::NotPair(NoPair::Line(2)),
     },
@@ -86,7 +86,7 @@ const UNREAD: [Unread; 5] = [
 /// Returns whether an input makes no file, for this reason.
 fn is_unmade(
     alloc: Global,
-    read: ReadPlan,
+    read: ReadPlan<'_>,
     input: &[u8],
     why: &MakeError,
 ) -> Result<bool, AllocError> {
