@@ -51,8 +51,12 @@ pub enum BadLine {
     Escape,
     /// Its value is none.
     Value(BadValue),
-    /// The record has not two fields.
-    Fields,
+    /// The record has so many fields, and not as many as there are columns.
+    Fields(usize, usize),
+    /// No column of the header has this name.
+    NoColumn(Vec<u8>),
+    /// More than one column of the header has this name.
+    SameColumns(Vec<u8>),
 }
 
 impl ValueFault {
@@ -82,7 +86,9 @@ impl BadLine {
                 "a backslash that begins no escape; the escapes are \\t \\n \\r \\\\ \\xHH"
             }
             BadLine::Value(bad) => bad.fault.text(),
-            BadLine::Fields => "not two fields, a key and its value",
+            BadLine::Fields(_, _) => "wrong number of fields",
+            BadLine::NoColumn(_) => "no column has this name",
+            BadLine::SameColumns(_) => "more than one column has this name",
         }
     }
 }
@@ -96,7 +102,8 @@ impl fmt::Display for BadLine {
 /// Why an input is no pairs.
 #[derive(PartialEq, Eq, Debug, Drop)]
 pub enum ReadError {
-    /// The line, or record of comma-separated fields, with this number is no pair, and why.
+    /// The line, or record of comma-separated fields, with this number is no pair, or no header with
+    /// the columns that are named, and why.
     Line(usize, BadLine),
     /// An allocation failed.
     OutOfMemory,

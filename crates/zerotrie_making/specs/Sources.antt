@@ -7,6 +7,7 @@ use Rattle.zerotrie_lines.specs.Tables.{Pairs}
 use Rattle.zerotrie_lines.specs.Lines.{header_rows}
 use Rattle.zerotrie_lines.specs.Reads.{Reads}
 use Rattle.zerotrie_lines.specs.Reads as reads
+use Rattle.zerotrie_lines.specs.declared.reading.Names.{Names}
 use Rattle.zerotrie_lines.specs.declared.reading.TextForm.{TextForm}
 use Rattle.zerotrie_lines.specs.declared.fault.ReadError.TheVariants as fault
 use Rattle.zerotrie_making.specs.Unread.{IsFirst}
@@ -44,7 +45,7 @@ IsNotJson text e = (line column : ℕ) × (e ≡ NotJson line column) × IsPlace
 abbrev pub rows_before : Source → ℕ
 rows_before (Text form) = header_rows form.header
 rows_before Json = 0
-rows_before JsonLines = 0
+rows_before (JsonLines names) = 0
 
 -- the number of a pair in a source, by its number among the pairs: the header is counted
 abbrev pub number_in_source : Source → ℕ → ℕ
@@ -54,7 +55,7 @@ number_in_source source n = rows_before source + n
 abbrev pub IsPairs : Source → List ℕ → Pairs → Type 0
 IsPairs (Text form) input pairs = Reads form input pairs
 IsPairs Json input pairs = (j : Value) × IsJson input j × (pairs_in j ≡ Some pairs)
-IsPairs JsonLines input pairs = pairs_in_lines (json_lines input) ≡ Some pairs
+IsPairs (JsonLines names) input pairs = pairs_in_lines names (json_lines input) ≡ Some pairs
 
 -- why an input is no text of pairs: it is another file, this line or record is none, or an allocation failed
 abbrev pub NoText : TextForm → List ℕ → MakeError → Type 0
@@ -88,20 +89,20 @@ NoJson input (IndexRefused e) = ⊥
 NoJson input OutOfMemory = Unit {0}
 
 -- why an input is no lines of JSON with a pair in each: it is another file, or this line has none, or an allocation failed
-abbrev pub NoJsonLines : List ℕ → MakeError → Type 0
-NoJsonLines input (NotText other) = IsOther input (Some other)
-NoJsonLines input (Line number bad) = ⊥
-NoJsonLines input (NotJson line column) = ⊥
-NoJsonLines input NotPairs = IsUnreadLine input None
-NoJsonLines input (NotPair bad) = IsUnreadLine input (Some bad)
-NoJsonLines input (Keys s) = ⊥
-NoJsonLines input (SumTooLarge k) = ⊥
-NoJsonLines input (Refused e) = ⊥
-NoJsonLines input (IndexRefused e) = ⊥
-NoJsonLines input OutOfMemory = Unit {0}
+abbrev pub NoJsonLines : Names → List ℕ → MakeError → Type 0
+NoJsonLines names input (NotText other) = IsOther input (Some other)
+NoJsonLines names input (Line number bad) = ⊥
+NoJsonLines names input (NotJson line column) = ⊥
+NoJsonLines names input NotPairs = IsUnreadLine names input None
+NoJsonLines names input (NotPair bad) = IsUnreadLine names input (Some bad)
+NoJsonLines names input (Keys s) = ⊥
+NoJsonLines names input (SumTooLarge k) = ⊥
+NoJsonLines names input (Refused e) = ⊥
+NoJsonLines names input (IndexRefused e) = ⊥
+NoJsonLines names input OutOfMemory = Unit {0}
 
 -- why an input is no pairs
 abbrev pub NoPairs : Source → List ℕ → MakeError → Type 0
 NoPairs (Text form) input e = NoText form input e
 NoPairs Json input e = NoJson input e
-NoPairs JsonLines input e = NoJsonLines input e
+NoPairs (JsonLines names) input e = NoJsonLines names input e

@@ -64,6 +64,8 @@ pub record AreBuildOptions (matches : ArgMatches) (o : BuildOptions) : Type 0 wh
   pub format : IsWord matches (codes "format") o.format
   pub raw : IsGiven matches (codes "raw") o.raw
   pub header : IsGiven matches (codes "header") o.header
+  pub key : IsWord matches (codes "key") o.key
+  pub value : IsWord matches (codes "value") o.value
   pub eol : IsWord matches (codes "eol") o.eol
   pub duplicates : IsWord matches (codes "duplicates") o.duplicates
   pub lower_case : IsGiven matches (codes "lower-case") o.lower_case

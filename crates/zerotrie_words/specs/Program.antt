@@ -103,6 +103,8 @@ build = command (codes "build") (place (codes "IN")
     ∷ one_of inputs (option (codes "format") (letter (codes "f")))
     ∷ flag (codes "raw") (letter (codes "r"))
     ∷ flag (codes "header") None
+    ∷ option (codes "key") None
+    ∷ option (codes "value") None
     ∷ one_of (codes "crlf" ∷ codes "lf" ∷ []) (option (codes "eol") None)
     ∷ as_default (codes "refuse") (one_of choices (option (codes "duplicates") (letter (codes "d"))))
     ∷ flag (codes "lower-case") (letter (codes "l"))

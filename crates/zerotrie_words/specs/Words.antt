@@ -18,8 +18,9 @@ use Rattle.zerotrie_core.specs.Kinds.{kind_name}
 use Rattle.zerotrie_core.specs.declared.TrieKind.{TrieKind}
 use Rattle.zerotrie_lines.specs.declared.reading.Format.TheVariants.{Tsv, TsvRaw, Csv, Lines}
 use Rattle.zerotrie_lines.specs.declared.reading.Header.{Header}
-use Rattle.zerotrie_lines.specs.declared.reading.Header.TheVariants.{Absent, Present}
+use Rattle.zerotrie_lines.specs.declared.reading.Header.TheVariants.{Absent, Present, Named}
 use Rattle.zerotrie_lines.specs.declared.reading.LineEnd.{LineEnd}
+use Rattle.zerotrie_lines.specs.declared.reading.Names.{Names}
 use Rattle.zerotrie_lines.specs.declared.reading.LineEnd.TheVariants.{CrLf, Lf}
 use Rattle.zerotrie_queries.specs.declared.code.Language.{Language}
 use Rattle.zerotrie_queries.specs.declared.code.Language.TheVariants as lang
@@ -119,27 +120,49 @@ MayNameEnd input.Lines word = Unit {0}
 MayNameEnd input.Json word = word ≡ None
 MayNameEnd input.JsonLines word = word ≡ None
 
--- whether a header is in front, by its flag
-abbrev pub has_header : Header → Bool
-has_header Absent = false
-has_header Present = true
+-- a format may have names: of columns, or of members
+abbrev pub MayHaveNames : Input → Option Names → Type 0
+MayHaveNames input.Tsv names = Unit {0}
+MayHaveNames input.Csv names = Unit {0}
+MayHaveNames input.Lines names = names ≡ None
+MayHaveNames input.Json names = names ≡ None
+MayHaveNames input.JsonLines names = Unit {0}
 
--- a format may have a header: `tsv` and `csv`, whose pairs are columns
-abbrev pub MayHaveHeader : Input → Header → Type 0
-MayHaveHeader input.Tsv header = Unit {0}
-MayHaveHeader input.Csv header = Unit {0}
-MayHaveHeader input.Lines header = header ≡ Absent
-MayHaveHeader input.Json header = header ≡ Absent
-MayHaveHeader input.JsonLines header = header ≡ Absent
+-- the names by two words, or none without them
+abbrev pub AreNames : Input → Option (List ℕ) → Option (List ℕ) → Option Names → Type 0
+AreNames format key value None = (key ≡ None) × (value ≡ None)
+AreNames format key value (Some names) = (key ≡ Some names.key.now) × (value ≡ Some names.value.now) × MayHaveNames format (Some names)
+
+-- the header of columns, by its flag and by their names
+abbrev pub header_by : Bool → Option Names → Header
+header_by flag (Some names) = Named names
+header_by true None = Present
+header_by false None = Absent
+
+-- the header of an input: only `tsv` and `csv` have columns
+abbrev pub IsHeader : Input → Bool → Option Names → Header → Type 0
+IsHeader input.Tsv flag names header = header ≡ header_by flag names
+IsHeader input.Csv flag names header = header ≡ header_by flag names
+IsHeader input.Lines flag names header = (flag ≡ false) × (header ≡ Absent)
+IsHeader input.Json flag names header = (flag ≡ false) × (header ≡ Absent)
+IsHeader input.JsonLines flag names header = (flag ≡ false) × (header ≡ Absent)
+
+-- the members of a pair in a line of JSON: those with these names, or else `key` and `value`
+abbrev pub AreMembers : Option Names → Names → Type 0
+AreMembers (Some names) members = members ≡ names
+AreMembers None members = (members.key.now ≡ codes "key") × (members.value.now ≡ codes "value")
+
+abbrev pub IsOfMembers : Option Names → Source → Type 0
+IsOfMembers names source = (members : Names) × AreMembers names members × (source ≡ JsonLines members)
 
 -- an input of a format is such pairs, by whether it is raw: only `tsv` is
-abbrev pub IsSourceOf : Input → Bool → LineEnd → Header → Source → Type 0
-IsSourceOf input.Tsv true end header source = source ≡ Text (record { format = TsvRaw; end = end; header = header })
-IsSourceOf input.Tsv false end header source = source ≡ Text (record { format = Tsv; end = end; header = header })
-IsSourceOf input.Csv raw end header source = (raw ≡ false) × (source ≡ Text (record { format = Csv; end = end; header = header }))
-IsSourceOf input.Lines raw end header source = (raw ≡ false) × (source ≡ Text (record { format = Lines; end = end; header = header }))
-IsSourceOf input.Json raw end header source = (raw ≡ false) × (source ≡ Json)
-IsSourceOf input.JsonLines raw end header source = (raw ≡ false) × (source ≡ JsonLines)
+abbrev pub IsSourceOf : Input → Bool → LineEnd → Header → Option Names → Source → Type 0
+IsSourceOf input.Tsv true end header names source = source ≡ Text (record { format = TsvRaw; end = end; header = header })
+IsSourceOf input.Tsv false end header names source = source ≡ Text (record { format = Tsv; end = end; header = header })
+IsSourceOf input.Csv raw end header names source = (raw ≡ false) × (source ≡ Text (record { format = Csv; end = end; header = header }))
+IsSourceOf input.Lines raw end header names source = (raw ≡ false) × (source ≡ Text (record { format = Lines; end = end; header = header }))
+IsSourceOf input.Json raw end header names source = (raw ≡ false) × (source ≡ Json)
+IsSourceOf input.JsonLines raw end header names source = (raw ≡ false) × IsOfMembers names source
 
 -- what becomes of a key that comes again, by its word
 abbrev pub duplicates_word : Duplicates → List ℕ

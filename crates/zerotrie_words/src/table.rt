@@ -281,6 +281,16 @@ const LOOK_UPS: &[Subcommand] = &[
                 help: "Leave out the first line or record of tsv or csv, which is a header",
             },
             Argument {
+                name: "key",
+                form: Form::Text("NAME", None, Otherwise::Nothing),
+                help: "The column of keys by its name in the header; of jsonl the member, else key",
+            },
+            Argument {
+                name: "value",
+                form: Form::Text("NAME", None, Otherwise::Nothing),
+                help: "The column of values by its name in the header; of jsonl the member, else value",
+            },
+            Argument {
                 name: "eol",
                 form: Form::OneOf("E", None, ENDS, Otherwise::Nothing),
                 help: "What ends a line, else crlf: lf keeps carriage returns",

@@ -120,7 +120,7 @@ pub enum Summary {
 pub struct Build<'a> {
     pub from: Place<'a>,
     pub to: Place<'a>,
-    pub plan: Plan,
+    pub plan: Plan<'a>,
     /// Whether a file that is there already is left as it is, and the build refused.
     pub no_clobber: bool,
     /// When it is reported at the end what was made.

@@ -38,6 +38,10 @@ pub enum Misuse {
     EndOfJson,
     /// `--header` is given for a format without columns.
     HeaderIsOfColumns,
+    /// Only one of `--key` and `--value` is given.
+    OneName,
+    /// `--key` and `--value` are given for a format without columns and members.
+    NamesAreOfColumns,
     /// `--tagged` and `--bare` are both given.
     TaggedAndBare,
     /// `--index` is given with `--tagged` or `--bare`.
@@ -117,6 +121,8 @@ impl Misuse {
             }
             Misuse::EndOfJson => "--eol is for lines and records: leave it out for json and jsonl",
             Misuse::HeaderIsOfColumns => "--header is for tsv and csv",
+            Misuse::OneName => "--key and --value go together",
+            Misuse::NamesAreOfColumns => "--key and --value are for tsv, csv and jsonl",
             Misuse::TaggedAndBare => "--tagged and --bare exclude each other",
             Misuse::IndexExcludes => "--index excludes --tagged and --bare",
             Misuse::IndexHasNoKind => "an index has no kind: leave out --kind or --index",

@@ -33,7 +33,8 @@ pub const NOTES: &[(&str, &str)] = &[
         "A byte order mark at the front is left out, and a line may end in CR LF; with --eol lf, which JSON does not take, the carriage return belongs to the \
             line. UTF-16, gzip and sealed tries are errors. All this holds for lines of keys, texts and values, without --eol. In csv an unclosed quote continues \
             to the end of the input, what follows a closing quote belongs to the field, and an empty line is no record. Messages count the line or record that \
-            --header skips. In lines an empty line is the empty key. In tsv an empty line is an error. JSON may nest 127 deep. LC_ALL=C sort brings lines that are \
+            --header skips. --key and --value name columns by the fields of the first line or record, as they are there, which is a header then, also without \
+            --header; each name is there once, and each line or record has a field for each column. In lines an empty line is the empty key. In tsv an empty line is an error. JSON may nest 127 deep. LC_ALL=C sort brings lines that are \
             keys into the order that --sorted asks for, and lines of tsv if no key has an escape or a byte below the tab.\n\n\
             The kinds hash and ext need a hashed table for each place at which 16 bytes or more may follow. For text one is found; for digests there may be none, \
             and the build is an error, as it is if keys were chosen to crowd a bucket of an index.",

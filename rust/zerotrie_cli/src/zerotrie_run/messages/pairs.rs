@@ -22,12 +22,14 @@ pub enum PairUnit {
 
 impl PairUnit {
     /// Returns what holds one pair of a source.
-    pub fn of(source: Source) -> Self {
+    pub fn of(source: Source<'_>) -> Self {
         match source {
-            Source::Text(Format::Csv, _, _) => PairUnit::Record,
-            Source::Text(Format::Tsv | Format::TsvRaw | Format::Lines, _, _) => PairUnit::Line,
+            Source::Text(form) => match form.format {
+                Format::Csv => PairUnit::Record,
+                Format::Tsv | Format::TsvRaw | Format::Lines => PairUnit::Line,
+            },
             Source::Json => PairUnit::Pair,
-            Source::JsonLines => PairUnit::Line,
+            Source::JsonLines(_) => PairUnit::Line,
         }
     }
 
@@ -60,20 +62,36 @@ fn bad_hint(unit: PairUnit, number: usize, bad: &BadLine) -> &'static str {
             if number == 1 && unit != PairUnit::Pair && value.fault == ValueFault::Other => {
             "; if it is a header, say so by --header"
         }
-        BadLine::Empty | BadLine::Escape | BadLine::Value(_) | BadLine::Fields => "",
+        BadLine::Empty
+        | BadLine::Escape
+        | BadLine::Value(_)
+        | BadLine::Fields(_, _)
+        | BadLine::NoColumn(_)
+        | BadLine::SameColumns(_) => "",
     }
 }
 
-/// Returns what a field begins with that is no value, in quotes.
+/// Returns a field or a name in quotes.
+fn quoted_words(alloc: Global, field: &[u8]) -> Result<Vec<u8>, AllocError> {
+    let mut words = Vec::from_slice(alloc, b": \"")?;
+    write_escaped(&mut words, field)?;
+    words.push(b'"')?;
+    Ok(words)
+}
+
+/// Returns what a field begins with that is no value, the name of a column, or how many fields there
+/// are.
 fn field_words(alloc: Global, bad: &BadLine) -> Result<Vec<u8>, AllocError> {
     match bad {
-        BadLine::Value(value) => {
-            let mut words = Vec::from_slice(alloc, b": \"")?;
-            write_escaped(&mut words, value.front.as_slice())?;
-            words.push(b'"')?;
-            Ok(words)
+        BadLine::Value(value) => quoted_words(alloc, value.front.as_slice()),
+        BadLine::NoColumn(name) | BadLine::SameColumns(name) => {
+            quoted_words(alloc, name.as_slice())
         }
-        BadLine::Empty | BadLine::NoTab | BadLine::Escape | BadLine::Fields => Ok(Vec::new(alloc)),
+        BadLine::Fields(found, wanted) => {
+            let words = format!(": {found}, not {wanted}");
+            Vec::from_slice(alloc, words.as_bytes())
+        }
+        BadLine::Empty | BadLine::NoTab | BadLine::Escape => Ok(Vec::new(alloc)),
     }
 }
 
@@ -123,7 +141,7 @@ fn no_pair_words(alloc: Global, bad: &NoPair) -> Result<Vec<u8>, AllocError> {
             Vec::from_slice(alloc, words.as_bytes())
         }
         NoPair::Line(number) => {
-            let words = format!("line {number}: no JSON list [key, value], and no object {{\"key\": key, \"value\": value}}, whose value is written as a whole number below 2^64"
+            let words = format!("line {number}: no JSON list [key, value], and no object {{\"key\": key, \"value\": value}} or with the names of --key and --value, whose value is written as a whole number below 2^64"
             );
             Vec::from_slice(alloc, words.as_bytes())
         }

@@ -4,7 +4,7 @@ use Rattle.zerotrie_lines.specs.Reads.{tabbed}
 use Rattle.zerotrie_lines.proofs.LineLemmas.{after_shorter, is_nil, not_nil}
 use Rattle.zerotrie_lines.proofs.EndLemmas.{first_ended, none_ended}
 use Rattle.zerotrie_lines.proofs.ReadLemmas.{ReadTo, read_more, read_all, read_bad, good_more, tabbed_pair}
-use Rattle.zerotrie_lines.proofs.reading.read_tsv.Goals as goal
+use Rattle.zerotrie_lines.proofs.reading.read_two.Goals as goal
 
 pub returns-in-Some-clause-err : goal.returns-in-Some-clause-err
 returns-in-Some-clause-err c =

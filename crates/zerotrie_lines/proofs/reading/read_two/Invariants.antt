@@ -2,7 +2,7 @@ use Rattle.std.proofs.Common.{◌+◌, ◌≤◌, length}
 use Rattle.zerotrie_lines.specs.Lines.{ended_lines}
 use Rattle.zerotrie_lines.specs.Reads.{tabbed}
 use Rattle.zerotrie_lines.proofs.ReadLemmas.{ReadTo, GoodTo}
-use Rattle.zerotrie_lines.proofs.reading.read_tsv.Given as goal
+use Rattle.zerotrie_lines.proofs.reading.read_two.Given as goal
 
 abbrev pub invariant-loop-rest : goal.invariant-loop-rest
 invariant-loop-rest l = record {
