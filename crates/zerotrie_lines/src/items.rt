@@ -257,8 +257,7 @@ fn items_of_keys(
 /// `read_pairs` then copies the keys, or returns the error.
 ///
 /// ```
-/// let form = TextForm { format: Format::Tsv, end: LineEnd::CrLf, header: Header::Absent };
-/// let items = read_items(rt.alloc(), form, b"ad\t22\nadef\t33\n")?;
+/// let items = read_items(rt.alloc(), TSV, b"ad\t22\nadef\t33\n")?;
 /// assert_eq!(rt; items.map(|items| items[1]), Some((b"adef".as_slice(), 33)));
 /// ```
 ///

@@ -241,9 +241,8 @@ fn make_text(alloc: Global, plan: Plan<'_>, input: Vec<u8>) -> Result<Made, Make
 /// Makes the file of the pairs of an input, and counts its keys.
 ///
 /// ```
-/// let tsv = TextForm { format: Format::Tsv, end: LineEnd::CrLf, header: Header::Absent };
 /// let read = ReadPlan {
-///     source: Source::Text(tsv),
+///     source: Source::Text(TSV),
 ///     lower_case: false,
 ///     duplicates: Duplicates::Refuse,
 /// };
@@ -256,13 +255,13 @@ fn make_text(alloc: Global, plan: Plan<'_>, input: Vec<u8>) -> Result<Made, Make
 /// let input = Vec::from_slice(rt.alloc(), b"ad\t2\nadef\t33\nad\t20\n")?;
 /// let made = make(rt.alloc(), Plan { read: summed, file }, input).map_err(|_| "refused")?;
 /// assert_eq!(rt; made.file.as_slice(), b"\x00ad\x90\x06ef\x90\x11".as_slice());
-/// let csv = TextForm { format: Format::Csv, header: Header::Present, ..tsv };
+/// let csv = TextForm { format: Format::Csv, header: Header::Present, ..TSV };
 /// let source = Source::Text(csv);
 /// let input = Vec::from_slice(rt.alloc(), b"key,value\nad,22\nadef,33\n")?;
 /// let plan = Plan { read: ReadPlan { source, ..read }, file };
 /// let made = make(rt.alloc(), plan, input).map_err(|_| "refused")?;
 /// assert_eq!(rt; made.file.as_slice(), b"\x00ad\x90\x06ef\x90\x11".as_slice());
-/// let source = Source::Text(TextForm { format: Format::Lines, ..tsv });
+/// let source = Source::Text(TextForm { format: Format::Lines, ..TSV });
 /// let read = ReadPlan { source, ..read };
 /// let input = Vec::from_slice(rt.alloc(), b"\xFF\xFEa\0\n\0")?;
 /// let why = MakeError::NotText(OtherFile::Utf16);

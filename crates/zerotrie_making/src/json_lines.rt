@@ -36,11 +36,7 @@ fn named_pair_of(
 }
 
 /// Returns the pair in the value of a line: a list of two, or such an object.
-fn row_of(
-    alloc: Global,
-    names: Names<'_>,
-    value: &Value<'_>,
-) -> Result<(Vec<u8>, usize), JsonError>
+fn row_of(alloc: Global, names: Names<'_>, value: &Value<'_>) -> Result<(Vec<u8>, usize), JsonError>
     ensures { IsReading (λ e. (e.0.items, e.1)) (row_in names.entry (value_view value.now)) result }
 {
     match pair_of(alloc, value) {
@@ -51,11 +47,7 @@ fn row_of(
 }
 
 /// Returns the pair in a line.
-fn pair_of_line(
-    alloc: Global,
-    names: Names<'_>,
-    line: &[u8],
-) -> Result<(Vec<u8>, usize), JsonError>
+fn pair_of_line(alloc: Global, names: Names<'_>, line: &[u8]) -> Result<(Vec<u8>, usize), JsonError>
     ensures { IsReading (λ e. (e.0.items, e.1)) (pair_in_line names.entry line.now) result }
 {
     let Ok(text) = str::from_utf8(line) else {
@@ -70,11 +62,7 @@ fn pair_of_line(
 }
 
 /// Returns the pairs in lines.
-fn pairs_of_lines(
-    alloc: Global,
-    names: Names<'_>,
-    lines: &[&[u8]],
-) -> Result<Table, JsonError>
+fn pairs_of_lines(alloc: Global, names: Names<'_>, lines: &[&[u8]]) -> Result<Table, JsonError>
     ensures { IsReading (λ table. table)
         (pairs_in_lines names.entry (map (λ line. line.now) lines.now)) result }
 {

@@ -20,7 +20,7 @@ use std::ops::Bound;
 use zerotrie_core::{TrieKind, TrieRef};
 use zerotrie_files::Noted;
 use zerotrie_lines::laws::{bad_is_unread, lines_read_back};
-use zerotrie_lines::{Format, Header, LineEnd, TextForm, parse_number};
+use zerotrie_lines::{TSV, parse_number};
 use zerotrie_making::laws::{
     listed_is_made_again, refused_makes_no_file, unread_makes_no_file, whole_is_number,
 };
@@ -36,11 +36,7 @@ fn plan_of(kind: TrieKind) -> Plan<'static>
 {
     Plan {
         read: ReadPlan {
-            source: Source::Text(TextForm {
-                format: Format::Tsv,
-                end: LineEnd::CrLf,
-                header: Header::Absent,
-            }),
+            source: Source::Text(TSV),
             lower_case: false,
             duplicates: Duplicates::Refuse,
         },

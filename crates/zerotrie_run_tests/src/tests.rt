@@ -16,7 +16,7 @@ use std::process::Abort;
 use std::test::Fail;
 use zerotrie_core::TrieKind;
 use zerotrie_files::{Disk, Noted, Store};
-use zerotrie_lines::{Format, Header, LineEnd, Names, TextForm};
+use zerotrie_lines::{Format, Names, TSV, TextForm};
 use zerotrie_making::{Duplicates, FileForm, FilePlan, Plan, ReadPlan, Source};
 use zerotrie_queries::{
     Asked, Choice, Form, Language, ListQuery, Order, Query, ReportForm, Spelling, Style, View,
@@ -55,13 +55,6 @@ const TAGGED: FilePlan = FilePlan {
 const PAIR: Names<'static> = Names {
     key: "key",
     value: "value",
-};
-
-/// Lines of pairs, without a header.
-const TSV: TextForm<'static> = TextForm {
-    format: Format::Tsv,
-    end: LineEnd::CrLf,
-    header: Header::Absent,
 };
 
 /// The trie of any pairs.

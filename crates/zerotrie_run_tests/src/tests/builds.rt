@@ -1,10 +1,10 @@
 //! What builds make of texts, and why they refuse them.
 
 use crate::tests::{
-    ABSENT, BUILD, FILE, NAMES, OF_JSON_LINES, PAIRS, PLAN, READ, Row, TAGGED, TRIE, TSV, are_run,
+    ABSENT, BUILD, FILE, NAMES, OF_JSON_LINES, PAIRS, PLAN, READ, Row, TAGGED, TRIE, are_run,
 };
 use std::test::Fail;
-use zerotrie_lines::{Format, TextForm};
+use zerotrie_lines::{Format, TSV, TextForm};
 use zerotrie_making::{Duplicates, FileForm, FilePlan, Plan, ReadPlan, Source};
 use zerotrie_run::{Build, Check, Command, Keys, Place, Question, Status, Summary, TrieFile};
 

@@ -1,11 +1,11 @@
 //! Files that are made again of their listings, and why others are not made.
 
 use crate::making::{makes, makes_again, parses_value};
-use crate::tests::{NAMES, PAIR, PLAN, READ, TAGGED, TSV};
+use crate::tests::{NAMES, PAIR, PLAN, READ, TAGGED};
 use std::alloc::{AllocError, Global};
 use std::test::Fail;
 use zerotrie_core::{TrieKind, ZeroTrieBuildError};
-use zerotrie_lines::BadLine;
+use zerotrie_lines::{BadLine, TSV};
 use zerotrie_making::{
     Duplicates, MakeError, NoPair, NumberedKey, OtherFile, Plan, ReadPlan, Shown, Source,
 };

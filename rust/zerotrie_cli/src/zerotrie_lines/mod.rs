@@ -35,6 +35,6 @@ pub use fault::{BadLine, BadValue, ReadError, ValueFault};
 pub use items::{read_items, take_plain};
 pub use lines::{read_lines, take_line, write_pair};
 pub use numbers::{parse_number, write_number};
-pub use reading::{Format, Header, LineEnd, Names, TextForm, read_pairs};
+pub use reading::{Format, Header, LineEnd, Names, TSV, TextForm, read_pairs};
 pub use strings::write_quoted;
 pub use table::Table;

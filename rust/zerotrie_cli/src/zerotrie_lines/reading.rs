@@ -73,6 +73,13 @@ pub struct TextForm<'a> {
     pub header: Header<'a>,
 }
 
+/// Lines as they are written, without a header.
+pub const TSV: TextForm<'static> = TextForm {
+    format: Format::Tsv,
+    end: LineEnd::CrLf,
+    header: Header::Absent,
+};
+
 /// Returns the text of the lines that are to be pairs: without a byte order mark and the header.
 pub(in crate::zerotrie_lines) fn pair_text<'a>(header: Header<'_>, input: &'a [u8]) -> &'a [u8] {
     let mut rest = without_mark(input);
@@ -135,17 +142,17 @@ fn read_keys(alloc: Global, end: LineEnd, before: usize, text: &[u8]) -> Result<
 /// letters of their keys become lower case.
 ///
 /// ```
-/// let form = TextForm { format: Format::Tsv, end: LineEnd::CrLf, header: Header::Absent };
 /// let text = b"ad\t22\na\\td\t33\r\n";
-/// assert_eq!(rt; read_pairs(rt.alloc(), form, false, text).map(|t| t.len()), Ok(2));
-/// let form = TextForm { header: Header::Present, ..form };
+/// assert_eq!(rt; read_pairs(rt.alloc(), TSV, false, text).map(|t| t.len()), Ok(2));
+/// let form = TextForm { header: Header::Present, ..TSV };
 /// assert_eq!(rt; read_pairs(rt.alloc(), form, false, text).map(|t| t.len()), Ok(1));
 /// let table = read_pairs(rt.alloc(), form, false, b"key\tvalue\nad 33\n");
 /// assert_eq!(rt; table.map(|t| t.len()), Err(ReadError::Line(2, BadLine::NoTab)));
 /// let header = Header::Named(Names { key: "name", value: "id" });
 /// let form = TextForm { header, ..form };
-/// let table = read_pairs(rt.alloc(), form, false, b"id\tage\tname\n22\t9\tad\n")?;
-/// assert_eq!(rt; table.items(rt.alloc())?.as_slice(), [(b"ad".as_slice(), 22)].as_slice());
+/// let table = read_pairs(rt.alloc(), form, false, b"id\tage\tname\n22\t9\tad\n");
+/// let table = table.map_err(|_| "no pairs")?;
+/// assert_eq!(rt; table.items(rt.alloc())?[0], (b"ad".as_slice(), 22));
 /// ```
 ///
 /// It allocates nothing for a line alone. Input without a line or record has no header. An error names the first line or record that is no pair,

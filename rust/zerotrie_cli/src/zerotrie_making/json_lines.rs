@@ -29,11 +29,7 @@ fn named_pair_of(
 }
 
 /// Returns the pair in the value of a line: a list of two, or such an object.
-fn row_of(
-    alloc: Global,
-    names: Names<'_>,
-    value: &Value<'_>,
-) -> Result<(Vec<u8>, usize), JsonError> {
+fn row_of(alloc: Global, names: Names<'_>, value: &Value<'_>) -> Result<(Vec<u8>, usize), JsonError> {
     match pair_of(alloc, value) {
         Ok(pair) => Ok(pair),
         Err(JsonError::Shape) => named_pair_of(alloc, names, value),
@@ -42,11 +38,7 @@ fn row_of(
 }
 
 /// Returns the pair in a line.
-fn pair_of_line(
-    alloc: Global,
-    names: Names<'_>,
-    line: &[u8],
-) -> Result<(Vec<u8>, usize), JsonError> {
+fn pair_of_line(alloc: Global, names: Names<'_>, line: &[u8]) -> Result<(Vec<u8>, usize), JsonError> {
     let Ok(text) = crate::rstd::str::from_utf8(line) else {
         return Err(JsonError::Shape);
     };
@@ -59,11 +51,7 @@ fn pair_of_line(
 }
 
 /// Returns the pairs in lines.
-fn pairs_of_lines(
-    alloc: Global,
-    names: Names<'_>,
-    lines: &[&[u8]],
-) -> Result<Table, JsonError> {
+fn pairs_of_lines(alloc: Global, names: Names<'_>, lines: &[&[u8]]) -> Result<Table, JsonError> {
     let mut table = Table::new(alloc);
     for line in lines {
         let (key, value) = pair_of_line(alloc, names, line)?;
