@@ -65,6 +65,7 @@ fn listing_of(alloc: Global, kind: TrieKind, bytes: &[u8]) -> Result<Vec<u8>, Ma
             sought: None,
         },
         order: Order::Stored,
+        top: None,
         limit: None,
     };
     let trie = TrieRef { kind, bytes };

@@ -128,6 +128,7 @@ const ALL: Choice<'static> = Choice {
 const LISTED: ListQuery<'static> = ListQuery {
     choice: ALL,
     order: Order::Stored,
+    top: None,
     limit: None,
 };
 

@@ -30,6 +30,7 @@ pub record AreListOptions (matches : ArgMatches) (o : ListOptions) : Type 0 wher
   pub to : IsWord matches (codes "to") o.to
   pub format : IsWord matches (codes "format") o.format
   pub raw : IsGiven matches (codes "raw") o.raw
+  pub top : IsWord matches (codes "top") o.top
   pub limit : IsWord matches (codes "limit") o.limit
   pub count : IsGiven matches (codes "count") o.count
   pub quiet : IsGiven matches (codes "quiet") o.quiet

@@ -192,6 +192,11 @@ IsFormOf false true word f = IsTsv word × (f ≡ form.Lines style.TsvRaw)
 IsFormOf false false None f = f ≡ form.Lines style.Tsv
 IsFormOf false false (Some word) f = Some word ≡ form_word f
 
+-- how pairs are printed: if none is to be, as their number, which any key allows
+abbrev pub form_shown : (quiet : Bool) → Form → Form
+form_shown true named = form.Count
+form_shown false named = named
+
 -- the order of a list: that of the bytes by a flag, but not if it is only to be counted
 abbrev pub order_by : Bool → Bool → Order
 order_by true sorted = order.Stored

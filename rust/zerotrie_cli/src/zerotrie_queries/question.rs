@@ -187,6 +187,9 @@ pub struct ListQuery<'a> {
     pub choice: Choice<'a>,
     /// Their order.
     pub order: Order,
+    /// If it is not `None`, only those that have the greatest values, at most this many, the greatest first, and
+    /// those of one value in their order.
+    pub top: Option<usize>,
     /// At most how many of them, the first ones. If `None`, all.
     pub limit: Option<usize>,
 }

@@ -54,6 +54,8 @@ pub enum Misuse {
     NoBorder,
     /// `--all` and `--at` are both given.
     AllAndAt,
+    /// `--top` and `--limit` are both given.
+    TopAndLimit,
     /// `--limit` is given for a dump.
     LimitOfDump,
     /// `--alone` is given for another language than C.
@@ -126,6 +128,7 @@ impl Misuse {
                 "- reads standard input only if no other key, text or value is given; the key - is \\x2d with --escaped",
             Misuse::NoBorder => "--at asks for one byte",
             Misuse::AllAndAt => "--all and --at exclude each other",
+            Misuse::TopAndLimit => "--top and --limit exclude each other",
             Misuse::LimitOfDump => "--limit is for inspect dot",
             Misuse::AloneIsC => "--alone is for --lang c",
             Misuse::BadName => "--name asks for ASCII letters, digits and _, and no digit in front",

@@ -116,6 +116,12 @@ const LIMIT: Argument = Argument {
     help: "At most this many pairs",
 };
 
+const TOP: Argument = Argument {
+    name: "top",
+    form: Form::Number("N", None, GREATEST),
+    help: "Only this many pairs of the greatest values, the greatest first",
+};
+
 const COUNT: Argument = Argument {
     name: "count",
     form: Form::Flag(Some('c')),
@@ -380,7 +386,7 @@ const LISTINGS: &[Subcommand] = &[
             The order is that of the trie, but with --from, --below and --to that of bytes.\n\
             Status: 1 if no key is listed, 2 if FILE is no trie.",
         arguments: &[
-            FILE, PREFIX, FROM, BELOW, TO, FORMAT, RAW, LIMIT, COUNT, SORTED, ONLY_ASK, BARE_KIND,
+            FILE, PREFIX, FROM, BELOW, TO, FORMAT, RAW, TOP, LIMIT, COUNT, SORTED, ONLY_ASK, BARE_KIND,
             NO_CHECK,
         ],
     },
@@ -450,6 +456,7 @@ const LISTINGS: &[Subcommand] = &[
             TO,
             FORMAT,
             RAW,
+            TOP,
             LIMIT,
             COUNT,
             ONLY_ASK,
