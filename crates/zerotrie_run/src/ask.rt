@@ -176,7 +176,7 @@ fn answer_by_trie<R: Read, W: Write + Drop>(
         (Asked::KeyOf, Keys::Lines) => answer_by_table(alloc, trie, query, input, output),
         (Asked::KeyOf, Keys::Words(_))
         | (
-            Asked::Value | Asked::Pair | Asked::Longest | Asked::LongestAt(_) | Asked::Prefixes,
+            Asked::Value | Asked::Pair | Asked::Longest | Asked::LongestAt(_) | Asked::Prefixes(_),
             Keys::Words(_) | Keys::Lines,
         ) => {
             let finder = Finder::Trie(*trie);

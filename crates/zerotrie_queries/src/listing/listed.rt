@@ -565,7 +565,7 @@ fn topped<'t, 'q>(
     top: Option<usize>,
 ) -> Result<ChosenPairs<'t, 'q>, AllocError>
     ensures { IfOk result (λ s. (pick : Pairs → Pairs) (kind : TrieKind) (bytes : List ℕ)
-        → Gives AreChosenValid left_of_chosen pick kind bytes pairs
+        → Gives AreChosenValid left_of_chosen pick kind bytes pairs.entry
         → Gives AreChosenValid left_of_chosen (λ all. topped top (pick all)) kind bytes s) }
 {
     let Some(most) = top else {
