@@ -212,10 +212,6 @@ fn obey_for(rt: &HostRuntime, request: &Request<'_>, name: &str, file: usize) ->
     if let Some(path) = device_in(rt, &command) {
         return refuse_device(rt, path);
     }
-    if let Some(name) = request.heading(file) {
-        // if this can't be written, what is printed next can't, and says so
-        let _ = println!(rt; "{name}:");
-    }
     run_here(rt, request, command)
 }
 

@@ -1,5 +1,5 @@
 -- Two files that are compared.
-use Rattle.std.proofs.Common.{◌≡◌, ◌⊎◌, ◌++◌, ◌∙◌, ℕ, List, Option, Bool, false, Result, Ok, Err, refl, sym, ap, subst, inl, inr}
+use Rattle.std.proofs.Common.{◌≡◌, ◌⊎◌, ◌++◌, ◌∙◌, ℕ, List, Option, None, Bool, false, Result, Ok, Err, refl, sym, ap, subst, inl, inr}
 use Rattle.std.specs.Prelude.{IfOk}
 use Rattle.std.specs.Io.KnownBytes.{Keeps}
 use Rattle.std.proofs.KnownBytes.{Appends-kept, Appends-trans}
@@ -154,7 +154,7 @@ reason_uncompared diff input files held other a b e r s (inr h) = (h.0, reason_u
 
 -- a question that an index does not answer
 abbrev pub a_report : Question
-a_report = Report Lines
+a_report = Report Lines None
 
 no_index_asked : (file : TrieFile) (held : List ℕ) (why : OpenError) → IsUnasked file a_report held why → IsUnopened file held why
 no_index_asked file held why (inl none) = none

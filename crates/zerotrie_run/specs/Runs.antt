@@ -1,5 +1,6 @@
 -- What each command prints, what it leaves in files, and how it ends.
 use Rattle.std.specs.Prelude.{◌≡◌, ◌≢◌, ◌⊎◌, ◌<◌, ℕ, suc, List, [], ◌∷◌, Option, Some, None, IfSome, Result, Ok, Err, Bool, true, false, is_none, map, codes}
+use Rattle.std.specs.Option.{option_map}
 use Rattle.std.specs.Io.KnownBytes.{Appends, Keeps}
 use Rattle.std.specs.Io.Buffered.{writer_buffer}
 use Rattle.std.specs.declared.io.buffered.BufWriter.{BufWriter}
@@ -151,7 +152,7 @@ abbrev pub of_lines : Question → Bool
 of_lines (LookUp query keys) = are_lines keys
 of_lines (Listing form s) = false
 of_lines (Code language name) = false
-of_lines (Report form) = false
+of_lines (Report form name) = false
 of_lines Verify = false
 of_lines (View view) = false
 
@@ -170,7 +171,7 @@ abbrev pub asks_index : Question → Bool
 asks_index (LookUp query keys) = asks_keys query.asked
 asks_index (Listing form s) = false
 asks_index (Code language name) = false
-asks_index (Report form) = false
+asks_index (Report form name) = false
 asks_index Verify = true
 asks_index (View view) = false
 
@@ -196,7 +197,7 @@ asks_places (LookUp query (Words words)) = asks_keys query.asked
 asks_places (LookUp query Lines) = false
 asks_places (Listing form s) = false
 asks_places (Code language name) = false
-asks_places (Report form) = false
+asks_places (Report form name) = false
 asks_places Verify = false
 asks_places (View view) = false
 
@@ -271,7 +272,7 @@ Answers (LookUp query keys) input kind bytes old new all = KeysAnswered query ke
 Answers (Listing form s) input kind bytes old new all = AreFound s kind bytes all × AreListed form s kind bytes old new
 Answers (Code language name) input kind bytes old new all = (all ≡ true) × Appends old new (whole_code language kind name.now bytes)
 Answers Verify input kind bytes old new all = (all ≡ true) × Keeps old new
-Answers (Report form) input kind bytes old new all = (all ≡ true) × Appends old new (reported form (report_of kind bytes))
+Answers (Report form name) input kind bytes old new all = (all ≡ true) × Appends old new (reported form (option_map (λ n. n.now) name) (report_of kind bytes))
 Answers (View view) input kind bytes old new all = (all ≡ true) × Appends old new (shown view kind bytes)
 
 -- the same of the bytes of an index; nothing is printed if it is only tested
@@ -280,7 +281,7 @@ IndexAnswers (LookUp query keys) input bytes old new all = KeysAnswered query ke
 IndexAnswers (Listing form s) input bytes old new all = (all ≡ true) × Keeps old new
 IndexAnswers (Code language name) input bytes old new all = (all ≡ true) × Keeps old new
 IndexAnswers Verify input bytes old new all = (all ≡ true) × Keeps old new
-IndexAnswers (Report form) input bytes old new all = (all ≡ true) × Keeps old new
+IndexAnswers (Report form name) input bytes old new all = (all ≡ true) × Keeps old new
 IndexAnswers (View view) input bytes old new all = (all ≡ true) × Keeps old new
 
 -- the same of what a file has: in right blocks, of each index that has them
@@ -299,7 +300,7 @@ AnswersInPart (LookUp query keys) input kind bytes old new = KeysAnsweredInPart 
 AnswersInPart (Listing form s) input kind bytes old new = AreListedInPart form s kind bytes old new
 AnswersInPart (Code language name) input kind bytes old new = AppendsPart old new (whole_code language kind name.now bytes)
 AnswersInPart Verify input kind bytes old new = Keeps old new
-AnswersInPart (Report form) input kind bytes old new = AppendsPart old new (reported form (report_of kind bytes))
+AnswersInPart (Report form name) input kind bytes old new = AppendsPart old new (reported form (option_map (λ n. n.now) name) (report_of kind bytes))
 AnswersInPart (View view) input kind bytes old new = AppendsPart old new (shown view kind bytes)
 
 -- the same of the bytes of an index
@@ -308,7 +309,7 @@ IndexAnswersInPart (LookUp query keys) input bytes old new = KeysAnsweredInPart 
 IndexAnswersInPart (Listing form s) input bytes old new = Keeps old new
 IndexAnswersInPart (Code language name) input bytes old new = Keeps old new
 IndexAnswersInPart Verify input bytes old new = Keeps old new
-IndexAnswersInPart (Report form) input bytes old new = Keeps old new
+IndexAnswersInPart (Report form name) input bytes old new = Keeps old new
 IndexAnswersInPart (View view) input bytes old new = Keeps old new
 
 -- the same of what a file has
@@ -323,7 +324,7 @@ IsUnprintable (LookUp query keys) kind bytes form key = ⊥
 IsUnprintable (Listing asked s) kind bytes form key = (asked ≡ form) × AreUnprintable form s kind bytes key
 IsUnprintable (Code language name) kind bytes form key = ⊥
 IsUnprintable Verify kind bytes form key = ⊥
-IsUnprintable (Report asked) kind bytes form key = ⊥
+IsUnprintable (Report asked name) kind bytes form key = ⊥
 IsUnprintable (View view) kind bytes form key = ⊥
 
 -- the keys of a question are to be lines of standard input, which is this other file
@@ -332,7 +333,7 @@ HasNoLines (LookUp query keys) input other = AreNoLines keys input other
 HasNoLines (Listing form s) input other = ⊥
 HasNoLines (Code language name) input other = ⊥
 HasNoLines Verify input other = ⊥
-HasNoLines (Report form) input other = ⊥
+HasNoLines (Report form name) input other = ⊥
 HasNoLines (View view) input other = ⊥
 
 -- how a run ends if keys are not answered; none if something failed
@@ -352,7 +353,7 @@ HasNoKeys (LookUp query keys) input old new e = AreNoKeys keys input old new e
 HasNoKeys (Listing form s) input old new e = answer_refusal e ≡ None
 HasNoKeys (Code language name) input old new e = answer_refusal e ≡ None
 HasNoKeys Verify input old new e = answer_refusal e ≡ None
-HasNoKeys (Report form) input old new e = answer_refusal e ≡ None
+HasNoKeys (Report form name) input old new e = answer_refusal e ≡ None
 HasNoKeys (View view) input old new e = answer_refusal e ≡ None
 
 -- why there is no answer, or not all of it: the pairs can't be printed so, and nothing was; or something failed, and a beginning of

@@ -220,8 +220,8 @@ fn answer<R: Read, W: Write + Drop>(
             Ok(true)
         }
         Question::Verify => Ok(true),
-        Question::Report(form) => {
-            write_trie_report(alloc, trie, form, output)?;
+        Question::Report(form, name) => {
+            write_trie_report(alloc, trie, form, name, output)?;
             Ok(true)
         }
         Question::View(view) => {
@@ -263,7 +263,7 @@ fn answer_of_index<R: Read, W: Write + Drop>(
         Question::List(_, _)
         | Question::Code(_, _)
         | Question::Verify
-        | Question::Report(_)
+        | Question::Report(_, _)
         | Question::View(_) => Ok(true),
     }
 }

@@ -276,7 +276,7 @@ const SHOWN: [Row; 6] = [
     },
     Row {
         files: &[("names.trie", b"\x00a\x85")],
-        command: Command::Ask(FILE, Question::Report(ReportForm::Lines)),
+        command: Command::Ask(FILE, Question::Report(ReportForm::Lines, None)),
         status: Status::Done,
         printed: b"kind\tsimple\nbytes\t2\npairs\t1\ngreatest value\t5\nbytes a key\t2.00\n\
             depth\t0\nnodes\t2\nliterals\t1\nspans\t0\nbranches\t0\n",
@@ -376,7 +376,7 @@ const OF_BYTES_JSON: &[u8] = b"[[255,254],3]\n";
 const UNANSWERED: [Row; 6] = [
     Row {
         files: &[("names.trie", b"\x00a")],
-        command: Command::Ask(FILE, Question::Report(ReportForm::Lines)),
+        command: Command::Ask(FILE, Question::Report(ReportForm::Lines, None)),
         status: Status::BadInput,
         printed: b"",
         told: b"zerotrie: names.trie: no trie of kind simple: the bytes end where a key has to go on, at byte 1 of the trie in it\n",

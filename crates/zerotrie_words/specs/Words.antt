@@ -1,5 +1,5 @@
 -- The words of a command line, and what they ask for.
-use Rattle.std.specs.Prelude.{◌≡◌, ◌≢◌, ◌⊎◌, ℕ, ◌-◌, List, [], ◌∷◌, Option, Some, None, Bool, true, false, Vec, codes, drop, eqb, length, map, min, unwrap_or}
+use Rattle.std.specs.Prelude.{◌≡◌, ◌≢◌, ◌⊎◌, ℕ, ◌-◌, List, [], ◌∷◌, Option, Some, None, Bool, true, false, Vec, codes, drop, eqb, length, map, min, nat_lt, unwrap_or, if◌then◌else◌}
 use Rattle.std.specs.Char.{to_ascii_lowercase}
 use Rattle.std.specs.Global.{Global}
 use Rattle.std.specs.Borrow.{Bor}
@@ -238,10 +238,9 @@ IsBorder word (Some byte) = word ≡ Some (byte ∷ [])
 
 -- what is asked of texts: the longest key, at a byte or anywhere, or all of them
 abbrev pub IsLongestOf : Bool → Option ℕ → Asked → Type 0
+IsLongestOf true border a = a ≡ asked.Prefixes border
 IsLongestOf false None a = a ≡ asked.Longest
-IsLongestOf true None a = a ≡ asked.Prefixes
 IsLongestOf false (Some byte) a = a ≡ asked.LongestAt byte
-IsLongestOf true (Some byte) a = ⊥
 
 abbrev pub IsLongest : ArgMatches → Asked → Type 0
 IsLongest matches a = (all : Bool) × (border : Option ℕ) × IsFlag (flag_of matches (codes "all")) all × IsBorder (word_of matches (codes "at")) border × IsLongestOf all border a
@@ -376,6 +375,10 @@ IsCheck topic.Code word by = IsChecked word by
 -- the words of files that are asked one after the other
 abbrev pub files_of : ArgMatches → List (List ℕ)
 files_of matches = unwrap_or (words_of matches (codes "FILE")) []
+
+-- the name of the file with this number, if a report has to say it: of several files
+abbrev pub name_told : List (List ℕ) → ℕ → Option (List ℕ)
+name_told files n = if nat_lt 1 (length files) then slice_get files n else None
 
 -- the word of the file with this number that a topic is asked of: `verify` and `stats` have several
 abbrev pub file_word : ArgMatches → Topic → ℕ → Option (List ℕ)

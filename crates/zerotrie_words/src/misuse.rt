@@ -53,8 +53,6 @@ pub enum Misuse {
     HyphenAmongKeys,
     /// The word of `--at` is not one byte.
     NoBorder,
-    /// `--all` and `--at` are both given.
-    AllAndAt,
     /// `--top` and `--limit` are both given.
     TopAndLimit,
     /// `--limit` is given for a dump.
@@ -132,7 +130,6 @@ impl Misuse {
             Misuse::HyphenAmongKeys =>
                 "- reads standard input only if no other key, text or value is given; the key - is \\x2d with --escaped",
             Misuse::NoBorder => "--at asks for one byte",
-            Misuse::AllAndAt => "--all and --at exclude each other",
             Misuse::TopAndLimit => "--top and --limit exclude each other",
             Misuse::LimitOfDump => "--limit is for inspect dot",
             Misuse::AloneIsC => "--alone is for --lang c",
