@@ -104,7 +104,7 @@ def misused(words, why, tip=None):
     tips = re.findall(r'^  tip: (.*)$', ran.stderr.decode(), re.M)
     said(f'{words}: status {ran.returncode}, {ran.stdout!r}, {ran.stderr!r}', (ran.returncode, ran.stdout) == (2, b'')
          and ran.stderr.startswith(b'zerotrie: ' + why)
-         and len(tips) <= 1 and tip == next((it for it in tips if ' is an option of ' in it), None)
+         and len(tips) <= 1 and tip == next((it for it in tips if ' is an option of ' in it or it.startswith('search prints ')), None)
          and ran.stderr.decode().endswith('\n' + last) and ran.stderr.count(b' --help shows ') == 1)
 
 
@@ -132,6 +132,9 @@ def test_tips():
             (['build', '-', '-o', 'x', '--values', 'sum'], '--values', 'union'), (['verify', path, '--no-check'], '--no-check', 'get'),
             (['man', '--lang', 'c'], '--lang', 'code'), (['minus', path, '-o', 'x', '--lower-case'], '--lower-case', 'build')]:
         misused(words, f"unexpected argument '{option}' found".encode(), f'{option} is an option of {command}')
+    for option in ['--sorted', '-S']:
+        misused(['search', path, '-g', 'a*', option], f"unexpected argument '{option}' found".encode(),
+                "search prints in the order of the keys' bytes without it")
     # none of a letter, of what no command has, of an option that the command has, and behind `--`
     for words, why in [(['list', path, '-g', 'a*'], b"unexpected argument '-g' found"),
                        (['list', path, '--fuzy', 'a'], b"unexpected argument '--fuzy' found"),

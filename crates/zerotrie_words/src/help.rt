@@ -161,6 +161,23 @@ fn add_tip(
     text.push_str(" for a text that begins with a hyphen\n")
 }
 
+/// Adds what helps with an option that a command lacks: the command that has it, or that it is not needed.
+fn add_option_tip(
+    text: &mut String,
+    rows: &[&'static [Subcommand]],
+    row: &Subcommand,
+    words: &[String],
+) -> Result<(), AllocError> {
+    let asks_order = |word: &String| matches!(word.as_str(), "-S" | "--sorted");
+    if row.name == "search" && words.iter().any(asks_order) {
+        return text.push_str("  tip: search prints in the order of the keys' bytes without it\n");
+    }
+    match option_elsewhere(rows, row, words) {
+        Some((option, name)) => write!(text, "  tip: {option} is an option of {name}\n"),
+        None => Ok(()),
+    }
+}
+
 /// Adds what helps with words that are no command: a tip, if clap gave none and there is one, and where
 /// help is.
 fn add_help(
@@ -177,9 +194,7 @@ fn add_help(
     if let Some((option, word)) = text_apart(row, words) {
         add_tip(text, option, word, bytes)?;
     } else if !has_tip {
-        if let Some((option, name)) = option_elsewhere(rows, row, words) {
-            write!(text, "  tip: {option} is an option of {name}\n")?;
-        }
+        add_option_tip(text, rows, row, words)?;
     }
     write!(text, "zerotrie {command} --help shows the options\n")
 }
