@@ -39,7 +39,7 @@ fn add_in_form(
     report: &Report,
 ) -> Result<(), AllocError>
     ensures { OnOk result (text.new.items
-        ≡ text.old.items ++ reported form (option_map (λ n. n.now) name) report.now) }
+        ≡ text.old.items ++ reported form (option_map (λ n. n.now) name.entry) report.now) }
 {
     match form {
         ReportForm::Lines => {
@@ -60,10 +60,10 @@ pub fn write_trie_report<W: Write>(
     output: &mut Noted<W>,
 ) -> io::Result<()>
     ensures all { OnOk result (Appends (W.contents output.old.inner) (W.contents output.new.inner)
-        (reported form (option_map (λ n. n.now) name) (report_of trie.now.kind trie.now.bytes.now))) }
+        (reported form (option_map (λ n. n.now) name.entry) (report_of trie.now.kind trie.now.bytes.now))) }
     ensures part { OnErr result (AppendsPart (W.contents output.old.inner)
         (W.contents output.new.inner)
-        (reported form (option_map (λ n. n.now) name) (report_of trie.now.kind trie.now.bytes.now))) }
+        (reported form (option_map (λ n. n.now) name.entry) (report_of trie.now.kind trie.now.bytes.now))) }
     ensures noted { IsNoted result output.old.failed output.new.failed }
 {
     let report = Report::of(alloc, trie)?;

@@ -164,7 +164,7 @@ fn add_nodes(lines: &mut Vec<u8>, report: &Report) -> Result<(), AllocError>
 /// Adds the line of the name of a file, if one is given.
 pub(crate) fn add_heading(lines: &mut Vec<u8>, name: Option<&str>) -> Result<(), AllocError>
     ensures { OnOk result (lines.new.items
-        ≡ lines.old.items ++ heading (option_map (λ n. n.now) name)) }
+        ≡ lines.old.items ++ heading (option_map (λ n. n.now) name.entry)) }
 {
     if let Some(name) = name {
         write_escaped(lines, name.as_bytes())?;

@@ -102,7 +102,7 @@ fn add_cell_objects(text: &mut Vec<u8>, cells: &[usize; 64]) -> Result<(), Alloc
 /// Adds the beginning of the object, with the name of a file if one is given.
 fn add_front(text: &mut Vec<u8>, name: Option<&str>) -> Result<(), AllocError>
     ensures { OnOk result (text.new.items
-        ≡ text.old.items ++ object_front (option_map (λ n. n.now) name)) }
+        ≡ text.old.items ++ object_front (option_map (λ n. n.now) name.entry)) }
 {
     let Some(name) = name else {
         return add_text(text, "{");
@@ -154,7 +154,7 @@ pub(crate) fn add_report_object(
     report: &Report,
 ) -> Result<(), AllocError>
     ensures { OnOk result (text.new.items
-        ≡ text.old.items ++ report_object (option_map (λ n. n.now) name) report.now) }
+        ≡ text.old.items ++ report_object (option_map (λ n. n.now) name.entry) report.now) }
 {
     add_front(text, name)?;
     add_size_members(text, report)?;
