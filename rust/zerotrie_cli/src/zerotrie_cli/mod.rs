@@ -194,9 +194,17 @@ fn refusal_here<'a>(rt: &HostRuntime, command: &Command<'a>) -> Option<Reply<'a>
     }
 }
 
-/// Says why the words of the command of this name are refused, and where its help is.
-fn refuse_words(rt: &HostRuntime, name: &str, reply: &Reply<'_>) -> Status {
+/// Says why the words of a request of the command of this name are refused, and where its help is.
+fn refuse_words(
+    rt: &HostRuntime,
+    request: &Request<'_>,
+    name: &str,
+    reply: &Reply<'_>,
+) -> Status {
     let status = say(rt, reply);
+    if let Ok(Some(fault)) = request.pattern_fault(rt.alloc()) {
+        let _ = crate::rstd::eprintln!("zerotrie: {fault}");
+    }
     let _ = crate::rstd::eprintln!("zerotrie {name} --help shows the options");
     status
 }
@@ -205,17 +213,13 @@ fn refuse_words(rt: &HostRuntime, name: &str, reply: &Reply<'_>) -> Status {
 fn obey_for(rt: &HostRuntime, request: &Request<'_>, name: &str, file: usize) -> Status {
     let command = match request.command(file, rt.stderr().is_terminal()) {
         Ok(command) => command,
-        Err(reply) => return refuse_words(rt, name, &reply),
+        Err(reply) => return refuse_words(rt, request, name, &reply),
     };
     if let Some(reply) = refusal_here(rt, &command) {
         return say(rt, &reply);
     }
     if let Some(path) = device_in(rt, &command) {
         return refuse_device(rt, path);
-    }
-    if let Some(name) = request.heading(file) {
-        // if this can't be written, what is printed next can't, and says so
-        let _ = crate::rstd::println!("{name}:");
     }
     run_here(rt, request, command)
 }

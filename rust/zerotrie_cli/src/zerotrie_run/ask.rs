@@ -111,7 +111,7 @@ fn answer_by_trie<R: Read, W: Write>(
         (Asked::KeyOf, Keys::Lines) => answer_by_table(alloc, trie, query, input, output),
         (Asked::KeyOf, Keys::Words(_))
         | (
-            Asked::Value | Asked::Pair | Asked::Longest | Asked::LongestAt(_) | Asked::Prefixes,
+            Asked::Value | Asked::Pair | Asked::Longest | Asked::LongestAt(_) | Asked::Prefixes(_),
             Keys::Words(_) | Keys::Lines,
         ) => {
             let finder = Finder::Trie(*trie);
@@ -145,8 +145,8 @@ fn answer<R: Read, W: Write>(
             Ok(true)
         }
         Question::Verify => Ok(true),
-        Question::Report(form) => {
-            write_trie_report(alloc, trie, form, output)?;
+        Question::Report(form, name) => {
+            write_trie_report(alloc, trie, form, name, output)?;
             Ok(true)
         }
         Question::View(view) => {
@@ -173,7 +173,7 @@ fn answer_of_index<R: Read, W: Write>(
         Question::List(_, _)
         | Question::Code(_, _)
         | Question::Verify
-        | Question::Report(_)
+        | Question::Report(_, _)
         | Question::View(_) => Ok(true),
     }
 }

@@ -75,7 +75,7 @@ pub enum Question<'a> {
     /// Nothing: whether the file has a trie.
     Verify,
     /// What the trie is made of.
-    Report(ReportForm),
+    Report(ReportForm, Option<&'a str>),
     /// Its nodes.
     View(View),
 }
@@ -171,7 +171,7 @@ fn reads_lines(question: Question<'_>) -> bool {
         | Question::List(_, _)
         | Question::Code(_, _)
         | Question::Verify
-        | Question::Report(_)
+        | Question::Report(_, _)
         | Question::View(_) => false,
     }
 }

@@ -143,7 +143,7 @@ fn option_elsewhere<'a>(
 }
 
 /// Adds a text with escapes, as a word in it may have bytes that steer a terminal.
-fn add_escaped(text: &mut String, words: &str, bytes: &mut Vec<u8>) -> Result<(), AllocError> {
+pub fn add_escaped(text: &mut String, words: &str, bytes: &mut Vec<u8>) -> Result<(), AllocError> {
     bytes.clear();
     write_escaped(bytes, words.as_bytes())?;
     // escapes of a text are one
@@ -163,6 +163,23 @@ fn add_tip(
     text.try_push_str(" for a text that begins with a hyphen\n")
 }
 
+/// Adds what helps with an option that a command lacks: the command that has it, or that it is not needed.
+fn add_option_tip(
+    text: &mut String,
+    rows: &[&'static [Subcommand]],
+    row: &Subcommand,
+    words: &[String],
+) -> Result<(), AllocError> {
+    let asks_order = |word: &String| matches!(word.as_str(), "-S" | "--sorted");
+    if row.name == "search" && words.iter().any(asks_order) {
+        return text.try_push_str("  tip: search prints in the order of the keys' bytes without it\n");
+    }
+    match option_elsewhere(rows, row, words) {
+        Some((option, name)) => write!(text, "  tip: {option} is an option of {name}\n"),
+        None => Ok(()),
+    }
+}
+
 /// Adds what helps with words that are no command: a tip, if clap gave none and there is one, and where
 /// help is.
 fn add_help(
@@ -179,9 +196,7 @@ fn add_help(
     if let Some((option, word)) = text_apart(row, words) {
         add_tip(text, option, word, bytes)?;
     } else if !has_tip {
-        if let Some((option, name)) = option_elsewhere(rows, row, words) {
-            write!(text, "  tip: {option} is an option of {name}\n")?;
-        }
+        add_option_tip(text, rows, row, words)?;
     }
     write!(text, "zerotrie {command} --help shows the options\n")
 }

@@ -52,8 +52,6 @@ pub enum Misuse {
     HyphenAmongKeys,
     /// The word of `--at` is not one byte.
     NoBorder,
-    /// `--all` and `--at` are both given.
-    AllAndAt,
     /// `--top` and `--limit` are both given.
     TopAndLimit,
     /// `--limit` is given for a dump.
@@ -78,7 +76,7 @@ pub enum Misuse {
 fn word_text(by: SearchBy, error: WordError) -> &'static str {
     match (by, error) {
         (SearchBy::Glob | SearchBy::GlobChars, WordError::Malformed) => {
-            "--glob and --not ask for a pattern: a class or braces lack their end, a class its letters, braces their beginning, braces are inside braces, a range ends before it begins, or a backslash escapes nothing"
+            "--glob and --not ask for a pattern"
         }
         (SearchBy::Glob | SearchBy::GlobChars, _) => {
             "--glob and --not ask for a pattern of at most 63 parts"
@@ -127,7 +125,6 @@ impl Misuse {
             Misuse::HyphenAmongKeys =>
                 "- reads standard input only if no other key, text or value is given; the key - is \\x2d with --escaped",
             Misuse::NoBorder => "--at asks for one byte",
-            Misuse::AllAndAt => "--all and --at exclude each other",
             Misuse::TopAndLimit => "--top and --limit exclude each other",
             Misuse::LimitOfDump => "--limit is for inspect dot",
             Misuse::AloneIsC => "--alone is for --lang c",

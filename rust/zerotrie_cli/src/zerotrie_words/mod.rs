@@ -21,6 +21,7 @@ mod misuse;
 mod names;
 mod notes;
 mod options;
+mod pattern;
 mod question;
 mod reply;
 mod request;

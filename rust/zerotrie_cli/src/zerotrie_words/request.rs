@@ -6,11 +6,13 @@ use crate::zerotrie_words::arguments::program;
 use crate::zerotrie_words::combine::places_in;
 use crate::zerotrie_words::completions::script_for;
 use crate::zerotrie_words::diff::diff_in;
+use crate::zerotrie_words::help::add_escaped;
 use crate::zerotrie_words::keys::words_in;
 use crate::zerotrie_words::manual::manual;
 use crate::zerotrie_words::misuse::Misuse;
 use crate::zerotrie_words::options::{BuildOptions, MakeOptions};
-use crate::zerotrie_words::question::{ask_in, file_count, heading_in};
+use crate::zerotrie_words::pattern::fault_in;
+use crate::zerotrie_words::question::{ask_in, file_count};
 use crate::zerotrie_words::reply::{Reply, reply_to};
 use crate::zerotrie_words::table::commands;
 use crate::zerotrie_words::task::{Task, Topic, task_in};
@@ -104,20 +106,28 @@ impl<'a> Request<'a> {
         }
     }
 
+    /// Returns where a pattern among the words is malformed, and why. `None` if none is.
+    pub fn pattern_fault(&self, alloc: Global) -> Result<Option<String>, AllocError> {
+        let Task::Ask(Topic::Search) = self.task else {
+            return Ok(None);
+        };
+        for name in ["glob", "not"] {
+            let pattern = self.matches.get_str(name).unwrap_or("");
+            if let Some((place, why)) = fault_in(pattern) {
+                let mut text = crate::rstd::string::new(alloc);
+                add_escaped(&mut text, pattern, &mut Vec::new(alloc))?;
+                write!(text, ": character {place}: {why}")?;
+                return Ok(Some(text));
+            }
+        }
+        Ok(None)
+    }
+
     /// Returns how many files the command is for, one after the other.
     pub fn files(&self) -> usize {
         match self.task {
             Task::Ask(Topic::Verify | Topic::Stats) => file_count(&self.matches),
             Task::Build | Task::Ask(_) | Task::Diff | Task::Combine(_) => 1,
-        }
-    }
-
-    /// Returns the name of the file with this number, if it has to stand in front of what is printed of
-    /// it: in front of the lines of a report on one of several files.
-    pub fn heading(&self, file: usize) -> Option<&'a str> {
-        match self.task {
-            Task::Ask(Topic::Stats) => heading_in(&self.matches, file),
-            Task::Build | Task::Ask(_) | Task::Diff | Task::Combine(_) => None,
         }
     }
 
