@@ -1,10 +1,8 @@
 -- The keys that a text begins with, printed one after another.
-use Rattle.std.proofs.Common.{◌≡◌, ℕ, zero, suc, ◌+◌, List, [], ◌∷◌, ◌++◌, drop, length, Option, Some, None, Bool, true, false, cond, refl, sym, ◌∙◌, ap, subst, append_assoc, append-nil, arith}
-use Rattle.std.specs.Prelude.{◌==◌, ◌||◌, nat_lt, codes}
+use Rattle.std.proofs.Common.{◌≡◌, ℕ, suc, ◌+◌, List, [], ◌∷◌, ◌++◌, length, Option, Some, None, Bool, true, false, cond, refl, sym, ◌∙◌, ap, subst, append_assoc, append-nil, arith}
+use Rattle.std.specs.Prelude.{◌||◌, nat_lt, codes}
 use Rattle.std.proofs.lemmas.Bool.{lt-ltb}
-use Rattle.std.specs.List.{slice_get}
-use Rattle.std.specs.Option.{option_map, option_map_or, option_to_list}
-use Rattle.zerotrie_core.specs.Borders.{is_end}
+use Rattle.std.specs.Option.{option_map, option_to_list}
 use Rattle.zerotrie_core.specs.Kind.{Kind}
 use Rattle.zerotrie_core.specs.Kinds.{kind_of}
 use Rattle.zerotrie_core.specs.declared.TrieKind.{TrieKind}
@@ -17,16 +15,16 @@ use Rattle.zerotrie_queries.specs.Answers.{AddsAnswer, AddsFronts, as_is, ends_a
 use Rattle.zerotrie_queries.specs.Finders.{dictionary_of}
 use Rattle.zerotrie_queries.specs.declared.question.Asked.TheVariants.{Prefixes}
 
--- a place is an end of a text by the byte that is there
 or_false : (b : Bool) → (b || false) ≡ b
 or_false true = refl
 or_false false = refl
 
-pub end_by_next : (delimiter : ℕ) (text : List ℕ) (len : ℕ) → is_end (delimiter ∷ []) (drop len text) ≡ option_map_or (λ b. delimiter == b) (slice_get text len) true
-end_by_next delimiter [] zero = refl
-end_by_next delimiter [] (suc len) = refl
-end_by_next delimiter (b ∷ text) zero = or_false (delimiter == b)
-end_by_next delimiter (b ∷ text) (suc len) = end_by_next delimiter text len
+or_true : (b : Bool) → (b || true) ≡ true
+or_true true = refl
+or_true false = refl
+
+some_key : (f : ℕ × ℕ) (keys : List (ℕ × ℕ)) → nat_lt 0 (length (f ∷ keys)) ≡ true
+some_key f keys = lt-ltb 0 (suc (length keys)) (omega arith)
 
 -- what was printed of the keys, and whether one was, belong to those to come and to all
 abbrev pub Prints : (border : Option ℕ) → (text lines first : List ℕ) → (found : Bool) → (before now : Along) → Type 0
@@ -37,10 +35,6 @@ Prints border text lines first found before now = (pairs : Pairs) → Leaves bef
 -- none yet
 pub prints_none : (border : Option ℕ) (text lines : List ℕ) (before : Along) → Prints border text lines lines false before before
 prints_none border text lines before pairs leaves = (pairs, leaves, refl, refl)
-
-or_true : (b : Bool) → (b || true) ≡ true
-or_true true = refl
-or_true false = refl
 
 -- one key more, that counts
 pub prints_next : (border : Option ℕ) (text lines added first : List ℕ) (found : Bool) (f : ℕ × ℕ) (before now next : Along) → Prints border text lines first found before now → NextFront now (Some f) next
@@ -53,7 +47,7 @@ prints_next border text lines added first found f before now next h moves ends i
       y.0,
       y.1,
       ap (λ l. l ++ front_lines text left) is ∙ append_assoc lines (front_line text f) (front_lines text left) ∙ ap (λ k. lines ++ front_lines text k) (sym keys) ∙ x.2,
-      sym (or_true found) ∙ ap (λ k. found || nat_lt 0 (length k)) (sym keys) ∙ x.3,
+      sym (or_true found) ∙ ap (λ b. found || b) (sym (some_key f left)) ∙ ap (λ k. found || nat_lt 0 (length k)) (sym keys) ∙ x.3,
     )
 
 -- one that does not
@@ -99,7 +93,7 @@ adds_fronts border kind bytes text old new found before m is h means =
 
 text_none : (text : List ℕ) (keys : List (ℕ × ℕ)) → false ≡ nat_lt 0 (length keys) → (front_lines text keys ≡ []) × (codes "none\n" ≡ fronts_text text keys)
 text_none text [] is = (refl, refl)
-text_none text (r ∷ keys) is = absurd (let more : nat_lt 0 (length (r ∷ keys)) ≡ true = lt-ltb 0 (suc (length keys)) (omega arith) in cc (is, more))
+text_none text (r ∷ keys) is = absurd (let more = some_key r keys in cc)
 
 text_some : (text : List ℕ) (keys : List (ℕ × ℕ)) → true ≡ nat_lt 0 (length keys) → front_lines text keys ≡ fronts_text text keys
 text_some text [] is = absurd (cc)

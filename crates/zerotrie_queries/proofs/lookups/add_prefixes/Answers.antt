@@ -13,8 +13,8 @@ returns-in_ok-extend_from_slice c =
     let is : c.extend_from_slice.new.self.items ≡ lines ++ codes "none\n" = search rules in
     rw found (added_none c.args.border trie.kind trie.bytes.now c.args.asked.now c.args.text.now.items lines c.extend_from_slice.new.self.items fronts c.common_prefixes-fronts.ensures adds is)
 
-pub returns : goal.returns
-returns c =
+pub returns-else-not-found : goal.returns-else-not-found
+returns-else-not-found c =
     let trie = c.args.trie.now in
     let lines = c.add_fronts.new.lines.items in
     let fronts = c.common_prefixes-fronts.result in
