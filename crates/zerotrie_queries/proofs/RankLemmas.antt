@@ -160,7 +160,7 @@ module _ {X : Type 0} (number : X → ℕ) where
           let here : has (number x) x ≡ true = eq-eqb (number x) (number x) refl in
           let there : has (number x) y ≡ true = eq-eqb (number y) (number x) (sym e) in
           let firsts : x ∷ filter (has (number x)) xs ≡ y ∷ filter (has (number x)) ys = subst (λ b. x ∷ filter (has (number x)) xs ≡ cond b (y ∷ filter (has (number x)) ys) (filter (has (number x)) ys)) there
-              (subst (λ b. cond b (x ∷ filter (has (number x)) xs) (filter (has (number x)) xs) ≡ filter (has (number x)) (y ∷ ys)) here (same x)) in
+          (subst (λ b. cond b (x ∷ filter (has (number x)) xs) (filter (has (number x)) xs) ≡ filter (has (number x)) (y ∷ ys)) here (same x)) in
           let is : x ≡ y = first_same x y _ _ firsts in
           let rest : (z : X) → filter (has (number z)) xs ≡ filter (has (number z)) ys = λ z. tails z (number x == number z) refl in
           rw is (ap (λ l. y ∷ l) (more rest))
@@ -169,7 +169,7 @@ module _ {X : Type 0} (number : X → ℕ) where
           tails z true is =
               let same_y : has (number z) y ≡ true = subst (λ n. (n == number z) ≡ true) e is in
               let firsts : x ∷ filter (has (number z)) xs ≡ y ∷ filter (has (number z)) ys = subst (λ b. x ∷ filter (has (number z)) xs ≡ cond b (y ∷ filter (has (number z)) ys) (filter (has (number z)) ys)) same_y
-                  (subst (λ b. cond b (x ∷ filter (has (number z)) xs) (filter (has (number z)) xs) ≡ filter (has (number z)) (y ∷ ys)) is (same z)) in
+              (subst (λ b. cond b (x ∷ filter (has (number z)) xs) (filter (has (number z)) xs) ≡ filter (has (number z)) (y ∷ ys)) is (same z)) in
               rest_same x y _ _ firsts
           tails z false other =
               let other_y : has (number z) y ≡ false = subst (λ n. (n == number z) ≡ false) e other in
