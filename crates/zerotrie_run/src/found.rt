@@ -18,7 +18,10 @@ fn finds_pair(alloc: Global, trie: &TrieRef<'_>, selection: ListQuery<'_>) -> io
     ensures found { IfOk result (AreFound selection.entry trie.now.kind trie.now.bytes.now) }
     ensures memory { IfErr result IsOutOfMemory }
 {
-    if selection.top == Some(0) || selection.limit == Some(0) {
+    if selection.top == Some(0) {
+        return Ok(false);
+    }
+    if selection.limit == Some(0) {
         return Ok(false);
     }
     let mut lines = Noted::new(Vec::new(alloc));

@@ -48,7 +48,7 @@ IsLimitMisuse limit why = IsUnknown (HasNoNumber 64 (text_of limit)) why
 
 -- how many pairs of the greatest values are listed, if only these are; then there is no limit
 abbrev pub IsTop : ListOptions → Option ℕ → Type 0
-IsTop o top = IsLimit (text_of o.top) top × (o.top ≢ None → o.limit ≡ None)
+IsTop o top = IsLimit (text_of o.top) top × ((o.top ≡ None) ⊎ (o.limit ≡ None))
 
 abbrev pub IsTopMisuse : ListOptions → Misuse → Type 0
 IsTopMisuse o why = ((o.top ≢ None) × (o.limit ≢ None) × (why ≡ misuse.TopAndLimit)) ⊎ IsLimitMisuse o.top why

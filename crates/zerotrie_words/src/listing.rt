@@ -103,10 +103,11 @@ impl<'a> ListOptions<'a> {
         ensures top { IfOk result (IsTop self.now) }
         ensures refused { IfErr result (IsTopMisuse self.now) }
     {
-        if self.top.is_some() && self.limit.is_some() {
-            return Err(Misuse::TopAndLimit);
+        match (self.top, self.limit) {
+            (None, _) => Ok(None),
+            (Some(_), None) => limit_of(self.top),
+            (Some(_), Some(_)) => Err(Misuse::TopAndLimit),
         }
-        limit_of(self.top)
     }
 
     /// Returns how many pairs are listed at most.

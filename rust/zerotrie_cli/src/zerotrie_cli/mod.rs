@@ -195,12 +195,7 @@ fn refusal_here<'a>(rt: &HostRuntime, command: &Command<'a>) -> Option<Reply<'a>
 }
 
 /// Says why the words of a request of the command of this name are refused, and where its help is.
-fn refuse_words(
-    rt: &HostRuntime,
-    request: &Request<'_>,
-    name: &str,
-    reply: &Reply<'_>,
-) -> Status {
+fn refuse_words(rt: &HostRuntime, request: &Request<'_>, name: &str, reply: &Reply<'_>) -> Status {
     let status = say(rt, reply);
     if let Ok(Some(fault)) = request.pattern_fault(rt.alloc()) {
         let _ = crate::rstd::eprintln!("zerotrie: {fault}");

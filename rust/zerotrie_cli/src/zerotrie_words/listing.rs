@@ -77,10 +77,11 @@ impl<'a> ListOptions<'a> {
     /// Returns how many pairs of the greatest values are listed, if only these are. It is an error if there is
     /// a limit, too.
     pub fn top(&self) -> Result<Option<usize>, Misuse> {
-        if self.top.is_some() && self.limit.is_some() {
-            return Err(Misuse::TopAndLimit);
+        match (self.top, self.limit) {
+            (None, _) => Ok(None),
+            (Some(_), None) => limit_of(self.top),
+            (Some(_), Some(_)) => Err(Misuse::TopAndLimit),
         }
-        limit_of(self.top)
     }
 
     /// Returns how many pairs are listed at most.

@@ -43,7 +43,12 @@ struct Scan {
 
 impl Scan {
     /// Reads a character of the class that is open.
-    fn take_in(&mut self, mut class: Class, letter: char, is_escaped: bool) -> Option<&'static str> {
+    fn take_in(
+        &mut self,
+        mut class: Class,
+        letter: char,
+        is_escaped: bool,
+    ) -> Option<&'static str> {
         let negates = class.is_new && matches!(letter, '!' | '^');
         class.is_new = false;
         let fault = match (letter, is_escaped) {

@@ -62,6 +62,18 @@ fn kept_apart<'a>(build: Build<'a>) -> Result<Build<'a>, Reply<'a>> {
     }
 }
 
+/// Returns where a pattern is malformed, and why. `None` if it is not, or there is none.
+fn fault_of(alloc: Global, pattern: Option<&str>) -> Result<Option<String>, AllocError> {
+    let pattern = pattern.unwrap_or("");
+    let Some((place, why)) = fault_in(pattern) else {
+        return Ok(None);
+    };
+    let mut text = crate::rstd::string::new(alloc);
+    add_escaped(&mut text, pattern, &mut Vec::new(alloc))?;
+    write!(text, ": character {place}: {why}")?;
+    Ok(Some(text))
+}
+
 impl<'a> Request<'a> {
     /// Reads the words of a command line, of which the first is the name of the program. It is an
     /// error if they are wrong, if they ask for help, the version, the man page or completions, or
@@ -111,16 +123,10 @@ impl<'a> Request<'a> {
         let Task::Ask(Topic::Search) = self.task else {
             return Ok(None);
         };
-        for name in ["glob", "not"] {
-            let pattern = self.matches.get_str(name).unwrap_or("");
-            if let Some((place, why)) = fault_in(pattern) {
-                let mut text = crate::rstd::string::new(alloc);
-                add_escaped(&mut text, pattern, &mut Vec::new(alloc))?;
-                write!(text, ": character {place}: {why}")?;
-                return Ok(Some(text));
-            }
+        match fault_of(alloc, self.matches.get_str("glob"))? {
+            Some(text) => Ok(Some(text)),
+            None => fault_of(alloc, self.matches.get_str("not")),
         }
-        Ok(None)
     }
 
     /// Returns how many files the command is for, one after the other.

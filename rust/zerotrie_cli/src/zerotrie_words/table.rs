@@ -386,8 +386,8 @@ const LISTINGS: &[Subcommand] = &[
             The order is that of the trie, but with --from, --below and --to that of bytes.\n\
             Status: 1 if no key is listed, 2 if FILE is no trie.",
         arguments: &[
-            FILE, PREFIX, FROM, BELOW, TO, FORMAT, RAW, TOP, LIMIT, COUNT, SORTED, ONLY_ASK, BARE_KIND,
-            NO_CHECK,
+            FILE, PREFIX, FROM, BELOW, TO, FORMAT, RAW, TOP, LIMIT, COUNT, SORTED, ONLY_ASK,
+            BARE_KIND, NO_CHECK,
         ],
     },
     Subcommand {
