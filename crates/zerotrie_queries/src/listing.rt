@@ -1,6 +1,6 @@
 //! The pairs of a trie, printed as they come.
 
-ghost use Rattle.std.specs.Prelude.{◌≡◌, ℕ, List, true, false, IfOk, IfErr, IfSome, IfNone, OnOk, OnErr};
+ghost use Rattle.std.specs.Prelude.{◌≡◌, IfOk, IfErr, IfSome, IfNone, OnOk, OnErr};
 ghost use Rattle.zerotrie_core.specs.Maps.{Pairs};
 ghost use Rattle.zerotrie_core.specs.Texts.{Lists};
 ghost use Rattle.zerotrie_core.specs.Kinds.{kind_of};

@@ -22,7 +22,7 @@ use Rattle.zerotrie_run.specs.declared.command.TrieFile.{TrieFile}
 use Rattle.zerotrie_words.specs.Options.{AreCodeOptions, AreListOptions, AreSearchOptions, IsGiven, text_of}
 use Rattle.zerotrie_words.specs.Refusals.{HasNoNumber, IsNoBorder, IsNoKind, IsUnknown}
 use Rattle.zerotrie_words.specs.Searches.{IsList, IsListMisuse, IsSearch, IsSearchMisuse}
-use Rattle.zerotrie_words.specs.Words.{AreKeysOf, HasNoHyphen, IsFile, IsFlag, IsFree, IsGet, IsLongest, IsReportForm, IsSpelling, IsView, files_of, flag_of, is_alone, language_word, name_told, word_of}
+use Rattle.zerotrie_words.specs.Words.{AreKeysOf, HasNoHyphen, IsFile, IsFree, IsGet, IsLongest, IsReportForm, IsSpelling, IsView, files_of, flag_of, is_alone, language_word, name_told, word_of}
 use Rattle.zerotrie_words.specs.declared.misuse.Misuse.{Misuse}
 use Rattle.zerotrie_words.specs.declared.misuse.Misuse.TheVariants as misuse
 use Rattle.zerotrie_words.specs.declared.options.CodeOptions.{CodeOptions}

@@ -1,11 +1,8 @@
 -- The command that the words of a command line ask for.
-use Rattle.std.specs.Prelude.{◌≡◌, ◌≢◌, ℕ, List, [], Option, Some, None, Bool, false, codes, length, nat_lt, if◌then◌else◌}
+use Rattle.std.specs.Prelude.{◌≡◌, ◌≢◌, ℕ, List, [], Option, Some, None, Bool, false, codes, length}
 use Rattle.std.specs.Borrow.{Bor}
-use Rattle.std.specs.List.{AllZip, slice_get}
-use Rattle.std.specs.Option.{option_map}
+use Rattle.std.specs.List.{AllZip}
 use Rattle.clap.specs.declared.parser.matches.ArgMatches.{ArgMatches}
-use Rattle.zerotrie_queries.specs.declared.reports.ReportForm.{ReportForm}
-use Rattle.zerotrie_queries.specs.declared.reports.ReportForm.TheVariants as report
 use Rattle.zerotrie_run.specs.declared.command.Build.{Build}
 use Rattle.zerotrie_run.specs.declared.command.Combine.{Combine}
 use Rattle.zerotrie_run.specs.declared.command.Command.{Command}
@@ -18,7 +15,7 @@ use Rattle.zerotrie_words.specs.Diffs.{IsDiff}
 use Rattle.zerotrie_words.specs.Options.{AreBuildOptions, AreMakeOptions}
 use Rattle.zerotrie_words.specs.Questions.{IsAsk, IsAskMisuse}
 use Rattle.zerotrie_words.specs.Refusals.{IsNoKind, IsUnknown}
-use Rattle.zerotrie_words.specs.Words.{IsFlag, IsReportForm, IsSource, files_of, flag_of, given_words, word_of}
+use Rattle.zerotrie_words.specs.Words.{IsFlag, IsSource, files_of, flag_of, given_words, word_of}
 use Rattle.zerotrie_words.specs.declared.misuse.Misuse.{Misuse}
 use Rattle.zerotrie_words.specs.declared.options.BuildOptions.{BuildOptions}
 use Rattle.zerotrie_words.specs.declared.options.MakeOptions.{MakeOptions}

@@ -1,6 +1,6 @@
 //! The pairs of a trie as one JSON object, printed as they come.
 
-ghost use Rattle.std.specs.Prelude.{◌++◌, ◌∷◌, [], false, OnOk, OnErr};
+ghost use Rattle.std.specs.Prelude.{false, OnOk, OnErr};
 ghost use Rattle.std.specs.Io.KnownBytes.{Appends};
 ghost use Rattle.zerotrie_queries.specs.Json.{object_line, member_texts};
 ghost use Rattle.zerotrie_files.specs.Faults.{IsNoted};

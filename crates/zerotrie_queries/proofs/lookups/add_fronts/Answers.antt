@@ -1,4 +1,4 @@
-use Rattle.std.proofs.Common.{rules, ◌≡◌, ◌++◌, ◌∙◌, None, true, false, sym}
+use Rattle.std.proofs.Common.{rules, ◌≡◌, ◌++◌, ◌∙◌, None, true, false}
 use Rattle.zerotrie_queries.specs.Answers.{ends_at}
 use Rattle.zerotrie_queries.specs.Printed.{front_line}
 use Rattle.zerotrie_queries.proofs.FrontLemmas.{prints_none, prints_next, prints_same, prints_all}
