@@ -21,7 +21,7 @@ use crate::messages::build::tell_removed;
 use crate::messages::combine::{combined_text, file_of};
 use crate::messages::line::tell;
 use crate::open::open_in_full;
-use crate::place::{read_place, write_place};
+use crate::place::{open_place, read_opened, write_place};
 use crate::status::Status;
 use std::alloc::{AllocError, AllocFailed, Global};
 use std::io;
@@ -88,19 +88,40 @@ impl<T: Drop> From<AllocFailed<T>> for CombineError {
     }
 }
 
-/// Returns the number of the first file whose first bytes show that it has no trie, and why.
-fn refused_in<D: Disk>(from: &[Place<'_>], disk: &D) -> Option<(usize, OpenError, Hint)>
-    ensures { IfSome result (λ r. IsRefusedIn from.now (D.story disk.now) r.0 r.1 r.2) }
+/// Reads a file with this number, unless its first bytes show that it has no trie.
+fn read_one<D: Disk, R: Read>(
+    alloc: Global,
+    number: usize,
+    place: Place<'_>,
+    files: &mut Store<D>,
+    input: &mut Noted<R>,
+) -> Result<Vec<u8>, CombineError>
+    ensures read { IfOk result (λ bytes. IsRead place.entry (R.remaining input.old.inner)
+        (D.story files.old.disk) bytes.items) }
+    ensures err { IfErr result (IsUnreadAt number place.entry (D.story files.old.disk)) }
+    ensures failed { IfErr result (CombineFailed (ReadFailed input.new files.new) ⊥) }
+    ensures same { files.new.disk ≡ files.old.disk }
+    ensures once { files.new.opened ≤ files.old.opened + 1 }
+    ensures untouched { (place.entry ≡ Stream) ⊎ (input.new ≡ input.old) }
+    ensures unwritten { files.new.unwritten ≡ files.old.unwritten }
+    ensures noted { combine_fails result ≡ false
+        → SameReads input.old input.new files.old files.new }
 {
-    for number in 0..from.len() {
-        if let Some((why, hint)) = refused_by_front(file_of(from[number]), false, disk) {
-            return Some((number, why, hint));
-        }
+    let opened = match open_place(place, files) {
+        Ok(opened) => opened,
+        Err(error) => return Err(CombineError::Unopened(number, error)),
+    };
+    if let Some((why, hint)) = refused_by_front(file_of(place), false, &opened) {
+        return Err(CombineError::NoTrie(number, why, hint));
     }
-    None
+    match read_opened(alloc, opened, files, input) {
+        Ok(bytes) => Ok(bytes),
+        Err(error) => Err(CombineError::Unopened(number, error)),
+    }
 }
 
-/// Reads all files, of which at most one is standard input.
+/// Reads all files, of which at most one is standard input, up to the first whose first bytes show that it
+/// has no trie.
 fn read_all<D: Disk, R: Read>(
     alloc: Global,
     places: &[Place<'_>],
@@ -119,9 +140,9 @@ fn read_all<D: Disk, R: Read>(
 {
     let mut held = Vec::with_capacity(alloc, places.len())?;
     for number in 0..places.len() {
-        match read_place(alloc, places[number], files, input) {
+        match read_one(alloc, number, places[number], files, input) {
             Ok(bytes) => held.push(bytes)?,
-            Err(error) => return Err(CombineError::Unopened(number, error)),
+            Err(error) => return Err(error),
         }
     }
     Ok(held)
@@ -220,9 +241,6 @@ pub fn combine<D: Disk, R: Read, W: Write + Drop, M: Write>(
     ensures unread { AreAllFiles combine.entry.from.now → input.new ≡ input.old }
 {
     spare(combine.to, combine.no_clobber, files)?;
-    if let Some((number, why, hint)) = refused_in(combine.from, files.disk()) {
-        return Err(CombineError::NoTrie(number, why, hint));
-    }
     let held = read_all(alloc, combine.from, files, input)?;
     let (made, several) = combine_held(alloc, combine, held.as_slice())?;
     let done = combined_text(alloc, combine, several, &made)?;
