@@ -9,7 +9,7 @@ use crate::zerotrie_run::messages::build::tell_removed;
 use crate::zerotrie_run::messages::combine::{combined_text, file_of};
 use crate::zerotrie_run::messages::line::tell;
 use crate::zerotrie_run::open::open_in_full;
-use crate::zerotrie_run::place::{read_place, write_place};
+use crate::zerotrie_run::place::{open_place, read_opened, write_place};
 use crate::zerotrie_run::status::Status;
 use crate::rstd::alloc::{AllocError, AllocFailed, Global};
 use crate::rstd::io;
@@ -68,17 +68,29 @@ impl<T> From<AllocFailed<T>> for CombineError {
     }
 }
 
-/// Returns the number of the first file whose first bytes show that it has no trie, and why.
-fn refused_in<D: Disk>(from: &[Place<'_>], disk: &D) -> Option<(usize, OpenError, Hint)> {
-    for number in 0..from.len() {
-        if let Some((why, hint)) = refused_by_front(file_of(from[number]), false, disk) {
-            return Some((number, why, hint));
-        }
+/// Reads a file with this number, unless its first bytes show that it has no trie.
+fn read_one<D: Disk, R: Read>(
+    alloc: Global,
+    number: usize,
+    place: Place<'_>,
+    files: &mut Store<D>,
+    input: &mut Noted<R>,
+) -> Result<Vec<u8>, CombineError> {
+    let opened = match open_place(place, files) {
+        Ok(opened) => opened,
+        Err(error) => return Err(CombineError::Unopened(number, error)),
+    };
+    if let Some((why, hint)) = refused_by_front(file_of(place), false, &opened) {
+        return Err(CombineError::NoTrie(number, why, hint));
     }
-    None
+    match read_opened(alloc, opened, files, input) {
+        Ok(bytes) => Ok(bytes),
+        Err(error) => Err(CombineError::Unopened(number, error)),
+    }
 }
 
-/// Reads all files, of which at most one is standard input.
+/// Reads all files, of which at most one is standard input, up to the first whose first bytes show that it
+/// has no trie.
 fn read_all<D: Disk, R: Read>(
     alloc: Global,
     places: &[Place<'_>],
@@ -87,9 +99,9 @@ fn read_all<D: Disk, R: Read>(
 ) -> Result<Vec<Vec<u8>>, CombineError> {
     let mut held = Vec::with_capacity(alloc, places.len())?;
     for number in 0..places.len() {
-        match read_place(alloc, places[number], files, input) {
+        match read_one(alloc, number, places[number], files, input) {
             Ok(bytes) => held.push(bytes)?,
-            Err(error) => return Err(CombineError::Unopened(number, error)),
+            Err(error) => return Err(error),
         }
     }
     Ok(held)
@@ -150,9 +162,6 @@ pub fn combine<D: Disk, R: Read, W: Write, M: Write>(
     messages: &mut Noted<M>,
 ) -> Result<(), CombineError> {
     spare(combine.to, combine.no_clobber, files)?;
-    if let Some((number, why, hint)) = refused_in(combine.from, files.disk()) {
-        return Err(CombineError::NoTrie(number, why, hint));
-    }
     let held = read_all(alloc, combine.from, files, input)?;
     let (made, several) = combine_held(alloc, combine, held.as_slice())?;
     let done = combined_text(alloc, combine, several, &made)?;
