@@ -16,9 +16,9 @@ use Rattle.zerotrie_making.specs.declared.error.CombinationError.TheVariants as 
 use Rattle.zerotrie_making.specs.declared.error.MakeError.{MakeError}
 use Rattle.zerotrie_making.specs.declared.error.MakeError.TheVariants as made
 use Rattle.zerotrie_making.specs.declared.plan.Made.{Made}
-use Rattle.zerotrie_run.specs.Runs.{world, HasNoTrie, IsRead, IsRefusedUnread, OpensBy}
+use Rattle.zerotrie_run.specs.Runs.{world, HasNoTrie, IsRead, OpensBy}
 use Rattle.zerotrie_run.specs.declared.front.Hint.{Hint}
-use Rattle.zerotrie_run.specs.Combined.{AreRead, AreUnopened, EndsCombine, HasCombineCause, HasMap, HasNoTrieAt, IsMadeSo, IsNumbered, IsRefusedIn, IsUncombined, IsUnopenedAt, OfHeld, are_several, combine_refusal, file_of}
+use Rattle.zerotrie_run.specs.Combined.{AreRead, AreUnopened, EndsCombine, HasCombineCause, HasMap, HasNoTrieAt, IsMadeSo, IsNumbered, IsUncombined, IsUnopenedAt, IsUnread, IsUnreadAt, OfHeld, are_several, combine_refusal, file_of}
 use Rattle.zerotrie_run.specs.declared.build.BuildError.TheVariants as build
 use Rattle.zerotrie_run.specs.declared.combine.CombineError.{CombineError}
 use Rattle.zerotrie_run.specs.declared.combine.CombineError.TheVariants.{Unopened, NoTrie, NoValue, NotBuilt}
@@ -53,12 +53,6 @@ zip_at R (z ∷ xs) (w ∷ ys) (suc k) y a is = zip_at R xs ys k y a.1 is
 -- one of a list
 any_of : {A : Type 0} (P : A → Type 0) (xs : List A) (k : ℕ) (x : A) → slice_get xs k ≡ Some x → P x → Any P xs
 any_of P xs k x is h = (k, x, slice_get_within xs k x is, get_or_from_slice_get xs k x x is, h)
-
--- a number below theirs is that of a file
-pub numbered_at : (places : List Place) (i : ℕ) → i < length places → (place : Place) × IsNumbered places i place
-numbered_at [] i inside = absurd (omega (arith, inside))
-numbered_at (p ∷ places) zero inside = (p, refl)
-numbered_at (p ∷ places) (suc i) inside = numbered_at places i (omega (arith, inside))
 
 -- it is one of the files
 pub file_there : (P : Place → Type 0) (places : List Place) (number : ℕ) (place : Place) → IsNumbered places number place → P place → Any P places
@@ -196,29 +190,36 @@ one_has_none c i files held number why t read h =
     let at = zip_at (λ place b. IsRead place i files b) c.from.now held number h.0 read h.1 in
     any_of (λ place. HasNoTrie (file_of place) i files) c.from.now number at.0 at.1 (h.0, at.2, why, h.2)
 
--- one of the files is refused by its front
 number_is : (places : List Place) (i : ℕ) (d : Place) → i < length places → IsNumbered places i (get_or places i d)
 number_is [] i d inside = absurd (omega (arith, inside))
 number_is (p ∷ places) zero d inside = refl
 number_is (p ∷ places) (suc i) d inside = number_is places i d (omega (arith, inside))
 
-pub refused_at : (places : List Place) (number : ℕ) (d : Place) (files : Option Story) (why : OpenError) (hint : Hint) → number < length places
-    → IsRefusedUnread (file_of (get_or places number d)) false files why hint → IsRefusedIn places files number why hint
-refused_at places number d files why hint inside h = (get_or places number d, number_is places number d inside, h)
+-- one of the files is not read, and so not all are
+pub unread_in : (places : List Place) (number : ℕ) (d : Place) (files : Option Story) (e : CombineError) → number < length places → IsUnreadAt number (get_or places number d) files e → IsUnread places files e
+unread_in places number d files (Unopened other e) inside h = (get_or places number d, subst (λ n. IsNumbered places n (get_or places number d)) (sym h) (number_is places number d inside))
+unread_in places number d files (NoTrie other why t) inside h = (get_or places number d, subst (λ n. IsNumbered places n (get_or places number d)) (sym h.0) (number_is places number d inside), h.1)
+unread_in places number d files (NoValue why key) inside h = absurd h
+unread_in places number d files (NotBuilt e) inside h = absurd h
 
--- a file is refused by its front, and so the command ends, for this reason
-pub refused_ends : (c : Combine) (i : Option (List ℕ)) (files : Option Story) (printed : Option (List ℕ)) (number : ℕ) (why : OpenError) (hint : Hint) → IsRefusedIn c.from.now files number why hint
-    → EndsCombine c i (world files printed) (world files printed) (combine_refusal (NoTrie number why hint))
-refused_ends c i files printed number (unopened.BadTag why) t h =
-    let r = h.2 i in (any_of (λ place. HasNoTrie (file_of place) i files) c.from.now number h.0 h.1 (r.0, r.1, unopened.BadTag why, r.2.0), (refl, refl))
-refused_ends c i files printed number (unopened.Damaged why) t h =
-    let r = h.2 i in (any_of (λ place. HasNoTrie (file_of place) i files) c.from.now number h.0 h.1 (r.0, r.1, unopened.Damaged why, r.2.0), (refl, refl))
-refused_ends c i files printed number (unopened.NotWellFormed k f) t h = absurd (h.2 i).2.0
-refused_ends c i files printed number unopened.OutOfMemory t h = inl (refl, refl)
+-- so the command ends
+pub unread_ends : (c : Combine) (i : Option (List ℕ)) (files left : Option Story) (printed : Option (List ℕ)) (e : CombineError) → left ≡ files → IsUnread c.from.now files e
+    → EndsCombine c i (world files printed) (world left printed) (combine_refusal e)
+unread_ends c i files left printed (Unopened number e) same h = inl (refl, same)
+unread_ends c i files left printed (NoTrie number (unopened.BadTag why) t) same h =
+    let r = h.2 i in (any_of (λ place. HasNoTrie (file_of place) i files) c.from.now number h.0 h.1 (r.0, r.1, unopened.BadTag why, r.2.0), (refl, same))
+unread_ends c i files left printed (NoTrie number (unopened.Damaged why) t) same h =
+    let r = h.2 i in (any_of (λ place. HasNoTrie (file_of place) i files) c.from.now number h.0 h.1 (r.0, r.1, unopened.Damaged why, r.2.0), (refl, same))
+unread_ends c i files left printed (NoTrie number (unopened.NotWellFormed k f) t) same h = absurd (h.2 i).2.0
+unread_ends c i files left printed (NoTrie number unopened.OutOfMemory t) same h = inl (refl, same)
+unread_ends c i files left printed (NoValue why key) same h = absurd h
+unread_ends c i files left printed (NotBuilt e) same h = rw h (inl (refl, same))
 
-pub refused_cause : (c : Combine) (i : Option (List ℕ)) (files : Option Story) (number : ℕ) (why : OpenError) (hint : Hint) → IsRefusedIn c.from.now files number why hint
-    → HasCombineCause c i files (NoTrie number why hint)
-refused_cause c i files number why t h = let r = h.2 i in (h.0, h.1, r.0, r.1, unknown_by (file_of h.0).check None r.0 why r.2.0, r.3)
+pub unread_cause : (c : Combine) (i : Option (List ℕ)) (files : Option Story) (e : CombineError) → IsUnread c.from.now files e → HasCombineCause c i files e
+unread_cause c i files (Unopened number e) h = h
+unread_cause c i files (NoTrie number why t) h = let r = h.2 i in (h.0, h.1, r.0, r.1, unknown_by (file_of h.0).check None r.0 why r.2.0, r.3)
+unread_cause c i files (NoValue why key) h = absurd h
+unread_cause c i files (NotBuilt e) h = rw h (inl refl)
 
 -- nothing is made of what was read, and so the command ends
 pub uncombined_ends : (c : Combine) (i : Option (List ℕ)) (files left : Option Story) (printed : Option (List ℕ)) (held : List (List ℕ)) (e : CombineError) → AreRead c.from.now i files held → left ≡ files

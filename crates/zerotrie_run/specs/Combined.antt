@@ -130,16 +130,19 @@ IsNumbered places number place = slice_get places number ≡ Some place
 abbrev pub IsNoMemory : BuildError → Type 0
 IsNoMemory e = e ≡ build.NotMade made.OutOfMemory
 
--- why files are not read: one of them can't be
-abbrev pub IsUnread : List Place → CombineError → Type 0
-IsUnread places (Unopened number e) = (place : Place) × IsNumbered places number place
-IsUnread places (NoTrie number why hint) = ⊥
-IsUnread places (NoValue why key) = ⊥
-IsUnread places (NotBuilt e) = IsNoMemory e
+-- why the file with this number, at this place, is not read: it can't be, or it is refused by its front, as all of it has no trie
+abbrev pub IsUnreadAt : ℕ → Place → Option Story → CombineError → Type 0
+IsUnreadAt number place files (Unopened other e) = other ≡ number
+IsUnreadAt number place files (NoTrie other why hint) = (other ≡ number) × IsRefusedUnread (file_of place) false files why hint
+IsUnreadAt number place files (NoValue why key) = ⊥
+IsUnreadAt number place files (NotBuilt e) = ⊥
 
--- the file with this number is refused by its front: all of it has no trie
-abbrev pub IsRefusedIn : List Place → Option Story → ℕ → OpenError → Hint → Type 0
-IsRefusedIn places files number why hint = (place : Place) × IsNumbered places number place × IsRefusedUnread (file_of place) false files why hint
+-- why files are not read: one of them is not, or an allocation failed
+abbrev pub IsUnread : List Place → Option Story → CombineError → Type 0
+IsUnread places files (Unopened number e) = (place : Place) × IsNumbered places number place
+IsUnread places files (NoTrie number why hint) = (place : Place) × IsNumbered places number place × IsRefusedUnread (file_of place) false files why hint
+IsUnread places files (NoValue why key) = ⊥
+IsUnread places files (NotBuilt e) = IsNoMemory e
 
 -- the file with this number holds these bytes, which are no trie
 abbrev pub IsUnopenedAt : ℕ → List ℕ → CombineError → Type 0

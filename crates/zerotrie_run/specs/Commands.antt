@@ -1,5 +1,5 @@
 -- What each command does with its input, prints and leaves in files, and how it ends.
-use Rattle.std.specs.Prelude.{◌≡◌, ◌⊎◌, ℕ, List, Option, Some, None, Bool, true, false, Result, Ok, Err, is_none, unwrap_or}
+use Rattle.std.specs.Prelude.{◌≡◌, ◌⊎◌, ℕ, List, length, Option, Some, None, Bool, true, false, Result, Ok, Err, is_none, unwrap_or}
 use Rattle.zerotrie_files.specs.Disks.{Story}
 use Rattle.zerotrie_run.specs.Runs.{World, AreAllFiles, AreFiles, AreOneStream, HaveTwoStreams, IsDoubtful, LeavesInputOf, RunsAsk, RunsBuild, ask_refusal, build_refusal, of_lines}
 use Rattle.zerotrie_run.specs.Diffs.{IsEitherDoubtful, RunsDiff}
@@ -27,6 +27,13 @@ ReadsTwice (commands.Build build) = ⊥
 ReadsTwice (commands.Ask file question) = (file.place ≡ Stream) × (of_lines question ≡ true)
 ReadsTwice (commands.Diff diff) = AreOneStream diff.old diff.new
 ReadsTwice (commands.Combine c) = HaveTwoStreams c.from.now
+
+-- how many files and streams a command reads
+abbrev pub inputs : Command → ℕ
+inputs (commands.Build build) = 1
+inputs (commands.Ask file question) = 1
+inputs (commands.Diff diff) = 2
+inputs (commands.Combine c) = length c.from.now
 
 -- a command that is refused so, or is not, doesn't read standard input
 abbrev pub LeavesInputBy : Command → Option Status → Type 0

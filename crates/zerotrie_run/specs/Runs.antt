@@ -33,7 +33,7 @@ use Rattle.zerotrie_queries.specs.code.Code.{whole_code}
 use Rattle.zerotrie_queries.specs.views.Views.{shown}
 use Rattle.zerotrie_queries.specs.reports.Reports.{report_of}
 use Rattle.zerotrie_queries.specs.reports.Forms.{reported}
-use Rattle.zerotrie_files.specs.Disks.{Story, Known}
+use Rattle.zerotrie_files.specs.Disks.{Story, Known, IsOpen}
 use Rattle.zerotrie_files.specs.Stores.{WasReplaced, WasKept}
 use Rattle.zerotrie_making.specs.Made.{IsFile}
 use Rattle.zerotrie_making.specs.Made as made
@@ -45,6 +45,8 @@ use Rattle.zerotrie_run.specs.declared.status.Status.{Status}
 use Rattle.zerotrie_run.specs.declared.status.Status.TheVariants.{Done, Absent, Refused, Taken, BadUsage, BadInput, BadKeys, Unread, Unwritten, OutOfMemory, Closed}
 use Rattle.zerotrie_run.specs.declared.command.Place.{Place}
 use Rattle.zerotrie_run.specs.declared.command.Place.TheVariants.{File, Stream}
+use Rattle.zerotrie_run.specs.declared.place.Opened.{Opened}
+use Rattle.zerotrie_run.specs.declared.place.Opened.TheVariants as opened
 use Rattle.zerotrie_run.specs.declared.command.Keys.{Keys}
 use Rattle.zerotrie_run.specs.declared.command.Keys.TheVariants.{Words, Lines}
 use Rattle.zerotrie_run.specs.declared.command.Question.{Question}
@@ -82,6 +84,13 @@ Untouched before after = (after.printed ≡ before.printed) × (after.files ≡ 
 abbrev pub IsNamed : List ℕ → Place → Type 0
 IsNamed word (File path) = (path.now ≡ word) × (word ≢ codes "-")
 IsNamed word Stream = word ≡ codes "-"
+
+-- a place was opened: the file of its path, or standard input
+abbrev pub IsOpened : {F : Type 0} → (held : F → Option (List ℕ)) → Place → Option Story → Opened F → Type 0
+IsOpened held (File path) files (opened.File file) = IfSome files (IsOpen path.now (held file))
+IsOpened held (File path) files opened.Stream = ⊥
+IsOpened held Stream files (opened.File file) = ⊥
+IsOpened held Stream files opened.Stream = Unit {0}
 
 -- the bytes of a place: what its file holds, or all of standard input
 abbrev pub IsRead : Place → Option (List ℕ) → Option Story → List ℕ → Type 0
@@ -411,11 +420,6 @@ IsUnanswered file question input held old new (ask.Unread e) = ⊥
 IsUnanswered file question input held old new (ask.NoTrie why hint) = IsUnopenedFor file question held why × IsHint held hint × (new ≡ old)
 IsUnanswered file question input held old new (ask.Unprintable form key) = (kind : TrieKind) × (bytes : List ℕ) × Opens file held kind bytes × IsUnprintable question kind bytes form key.items × (new ≡ old)
 IsUnanswered file question input held old new (ask.Unanswered e) = (content : Content) × OpensFor file question held content × ContentAnswersInPart content question input old new × HasNoKeys question input old new e
-
--- what the file of a path holds, if that is known
-abbrev pub held_at : Option Story → List ℕ → Option (List ℕ)
-held_at None path = None
-held_at (Some known) path = known.now path
 
 -- this is what is printed of keys, and whether all was found, by each index that has the right blocks behind the front of a file that holds
 -- this

@@ -1,6 +1,6 @@
 //! A file that is made of pairs.
 
-ghost use Rattle.std.specs.Prelude.{◌≡◌, false, true, IfErr, OnOk};
+ghost use Rattle.std.specs.Prelude.{◌≡◌, ◌≤◌, ◌+◌, false, true, IfErr, OnOk};
 ghost use Rattle.zerotrie_files.specs.Notes.{NothingFailed};
 ghost use Rattle.zerotrie_run.specs.Failures.{BuildFailed, ReadFailed, WriteFailed};
 ghost use Rattle.zerotrie_run.specs.Runs.{world, IsFreshAt, IsMade, IsNotBegun, EndsBuild, HandsOn, build_fails, build_refusal};
@@ -79,6 +79,7 @@ pub fn spare<D: Disk>(
     ensures unchanged { OnOk result (files.new ≡ files.old) }
     ensures err { IfErr result (IsNotBegun to.entry no_clobber (D.story files.old.disk)) }
     ensures same { files.new.disk ≡ files.old.disk }
+    ensures once { files.new.opened ≡ files.old.opened }
     ensures unwritten { files.new.unwritten ≡ files.old.unwritten }
     ensures noted { build_fails result ≡ false → files.new.unread ≡ files.old.unread }
     ensures failed { IfErr result (BuildFailed (files.new.unread ≡ true) ⊥) }
@@ -123,6 +124,7 @@ pub fn build<D: Disk, R: Read, W: Write + Drop, M: Write>(
     ensures tells { messages.new.failed ≡ false
         → TellsMore (M.contents messages.old.inner) (M.contents messages.new.inner) }
     ensures quiet { may_tell build.entry.summary ≡ false → messages.new ≡ messages.old }
+    ensures once { files.new.opened ≤ files.old.opened + 1 }
     ensures noted { build_fails result ≡ false
         → NothingFailed input.old input.new output.old output.new files.old files.new }
     ensures failed { IfErr result (BuildFailed (ReadFailed input.new files.new)

@@ -1,18 +1,19 @@
 //! A file that is made of the tries of others.
 
-ghost use Rattle.std.specs.Prelude.{◌≡◌, ◌<◌, false, IfErr, IfOk, None, OnErr, OnOk, map, IfSome};
+ghost use Rattle.std.specs.Prelude.{◌≡◌, ◌≤◌, ◌<◌, ◌⊎◌, ◌+◌, false, length, IfErr, IfOk, None, OnErr, OnOk, map};
 ghost use Rattle.std.specs.Io.Buffered.{writer_contents};
 ghost use Rattle.std.specs.List.{AllZip};
 ghost use Rattle.zerotrie_files.specs.Notes.{NothingFailed, SameReads};
 ghost use Rattle.zerotrie_making.specs.declared.error.MakeError.TheVariants.{OutOfMemory};
 ghost use Rattle.zerotrie_run.specs.Failures.{CombineFailed, ReadFailed, WriteFailed};
 ghost use Rattle.zerotrie_run.specs.Commands.{may_tell};
-ghost use Rattle.zerotrie_run.specs.Combined.{AreRead, AreUnopened, EndsCombine, HasCombineCause, IsCombination, IsMadeSo, IsRefusedIn, IsUncombined, IsUnopenedAt, IsUnread, OfHeld, are_several, combine_fails, combine_refusal};
-ghost use Rattle.zerotrie_run.specs.Runs.{world, AreAllFiles, HandsOn, HaveTwoStreams, IsFreshAt, OpensBy};
+ghost use Rattle.zerotrie_run.specs.Combined.{AreRead, AreUnopened, EndsCombine, HasCombineCause, IsCombination, IsMadeSo, IsUncombined, IsUnopenedAt, IsUnread, IsUnreadAt, OfHeld, are_several, combine_fails, combine_refusal};
+ghost use Rattle.zerotrie_run.specs.Runs.{world, AreAllFiles, HandsOn, HaveTwoStreams, IsFreshAt, IsRead, OpensBy};
 ghost use Rattle.zerotrie_run.specs.Told.{TellsCombined};
 ghost use Rattle.zerotrie_run.specs.declared.build.BuildError.TheVariants.{NotMade};
 ghost use Rattle.zerotrie_run.specs.declared.combine.CombineError.TheVariants.{NotBuilt};
 ghost use Rattle.zerotrie_run.specs.declared.command.Check.TheVariants.{Full};
+ghost use Rattle.zerotrie_run.specs.declared.command.Place.TheVariants.{Stream};
 
 use crate::build::{BuildError, spare};
 use crate::command::{Combine, Place};
@@ -131,11 +132,13 @@ fn read_all<D: Disk, R: Read>(
     requires { HaveTwoStreams places.now → ⊥ }
     ensures read { IfOk result (λ held. AreRead places.now (R.remaining input.old.inner)
         (D.story files.old.disk) (map (λ bytes. bytes.items) held.items)) }
-    ensures err { IfErr result (IsUnread places.now) }
+    ensures err { IfErr result (IsUnread places.now (D.story files.old.disk)) }
     ensures failed { IfErr result (CombineFailed (ReadFailed input.new files.new) ⊥) }
     ensures same { files.new.disk ≡ files.old.disk }
     ensures unwritten { files.new.unwritten ≡ files.old.unwritten }
-    ensures noted { OnOk result (SameReads input.old input.new files.old files.new) }
+    ensures once { files.new.opened ≤ files.old.opened + length places.now }
+    ensures noted { combine_fails result ≡ false
+        → SameReads input.old input.new files.old files.new }
     ensures unread { AreAllFiles places.now → input.new ≡ input.old }
 {
     let mut held = Vec::with_capacity(alloc, places.len())?;
@@ -234,6 +237,7 @@ pub fn combine<D: Disk, R: Read, W: Write + Drop, M: Write>(
         (M.contents messages.old.inner) (M.contents messages.new.inner)) }
     ensures untold { OnErr result (messages.new ≡ messages.old) }
     ensures quiet { may_tell combine.entry.summary ≡ false → messages.new ≡ messages.old }
+    ensures once { files.new.opened ≤ files.old.opened + length combine.entry.from.now }
     ensures noted { combine_fails result ≡ false
         → NothingFailed input.old input.new output.old output.new files.old files.new }
     ensures failed { IfErr result (CombineFailed (ReadFailed input.new files.new)

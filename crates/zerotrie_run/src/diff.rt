@@ -1,13 +1,13 @@
 //! A comparison of the tries of two files.
 
-ghost use Rattle.std.specs.Prelude.{◌≡◌, ◌<◌, ◌⊎◌, true, false, Ok, Err, IfOk, IfErr, OnOk, IfSome};
+ghost use Rattle.std.specs.Prelude.{◌≡◌, ◌≤◌, ◌⊎◌, ◌+◌, true, false, Ok, Err, IfOk, IfErr};
 ghost use Rattle.std.specs.Io.Buffered.{writer_contents};
 ghost use Rattle.zerotrie_core.specs.Kinds.{kind_of};
 ghost use Rattle.zerotrie_core.specs.WellFormed.{IsWellFormed};
 ghost use Rattle.zerotrie_files.specs.Notes.{NothingFailed, SameReads};
 ghost use Rattle.zerotrie_run.specs.Failures.{AskFailed, ReadFailed, WriteFailed};
-ghost use Rattle.zerotrie_run.specs.Diffs.{old_file, new_file, IsEitherDoubtful, IsDiffed, EndsDiff, diff_fails, TellsIfDoubtful, NotesNumbers, IsFileOf, IsUnread, HasNoTrieIn, AreHeldCompared, AreUncompared};
-ghost use Rattle.zerotrie_run.specs.Runs.{AreFiles, AreOneStream, HandsOn, IsDoubtful, IsRead, IsRefusedUnread, Opens, ask_refusal};
+ghost use Rattle.zerotrie_run.specs.Diffs.{old_file, new_file, IsEitherDoubtful, IsDiffed, EndsDiff, diff_fails, TellsIfDoubtful, NotesNumbers, IsUnread, HasNoTrieIn, AreHeldCompared, AreUncompared};
+ghost use Rattle.zerotrie_run.specs.Runs.{AreFiles, AreOneStream, HandsOn, IsDoubtful, IsRead, Opens, ask_refusal};
 ghost use Rattle.zerotrie_run.specs.Told.{HasDiffReason, TellsMore};
 ghost use Rattle.zerotrie_run.specs.declared.command.Check.TheVariants.{Full};
 ghost use Rattle.zerotrie_run.specs.declared.command.Place.TheVariants.{Stream};
@@ -66,11 +66,14 @@ fn read_file<'a, D: Disk, R: Read, M: Write>(
 ) -> Result<Vec<u8>, DiffError<'a>>
     ensures read { IfOk result (λ held. IsRead file.entry.place (R.remaining input.old.inner)
         (D.story files.old.disk) held.items) }
-    ensures err { IfErr result (λ e. (e.file ≡ file.entry) × IsUnread e.error) }
+    ensures err { IfErr result (λ e. (e.file ≡ file.entry)
+        × IsUnread file.entry (D.story files.old.disk) e.error) }
     ensures failed { IfErr result (λ e. AskFailed (ReadFailed input.new files.new) ⊥ e.error) }
     ensures same { files.new.disk ≡ files.old.disk }
     ensures untouched { (file.entry.place ≡ Stream) ⊎ (input.new ≡ input.old) }
-    ensures noted { OnOk result (SameReads input.old input.new files.old files.new) }
+    ensures once { files.new.opened ≤ files.old.opened + 1 }
+    ensures noted { diff_fails result ≡ false
+        → SameReads input.old input.new files.old files.new }
     ensures unwritten { files.new.unwritten ≡ files.old.unwritten }
     ensures notes { IfOk result (λ held. messages.new.failed ≡ false
         → TellsIfDoubtful file.entry held.items
@@ -217,6 +220,7 @@ pub fn compare<'a, D: Disk, R: Read, W: Write + Drop, M: Write>(
         × TellsMore (M.contents messages.old.inner) (M.contents messages.new.inner) }
     ensures quiet { (IsEitherDoubtful diff.entry (R.remaining input.old.inner)
         (D.story files.old.disk) → ⊥) → messages.new ≡ messages.old }
+    ensures once { files.new.opened ≤ files.old.opened + 2 }
     ensures noted { diff_fails result ≡ false
         → NothingFailed input.old input.new output.old output.new files.old files.new }
     ensures failed { IfErr result (λ e. AskFailed (ReadFailed input.new files.new)

@@ -1,12 +1,12 @@
 //! The program over files and streams.
 
-ghost use Rattle.std.specs.Prelude.{◌≡◌, ◌<◌, ◌⊎◌, false, true, unwrap_or, IfErr, IfOk};
+ghost use Rattle.std.specs.Prelude.{◌≡◌, ◌≤◌, ◌<◌, ◌⊎◌, ◌+◌, false, true, unwrap_or, IfErr, IfOk};
 ghost use Rattle.std.specs.Io.KnownBytes.{Appends};
 ghost use Rattle.std.specs.Io.Buffered.{writer_contents};
 ghost use Rattle.zerotrie_files.specs.Notes.{NothingFailed};
 ghost use Rattle.zerotrie_run.specs.Runs.{HandsOn, world};
 ghost use Rattle.zerotrie_run.specs.Failures.{ReadFailed, WasClosed, WriteFailed};
-ghost use Rattle.zerotrie_run.specs.Commands.{Ends, LeavesInput, LeavesInputBy, ReadsTwice, Runs, TellsNumber, command_fails, command_refusal, found, refusal_of, tells_made};
+ghost use Rattle.zerotrie_run.specs.Commands.{Ends, LeavesInput, LeavesInputBy, ReadsTwice, Runs, TellsNumber, command_fails, command_refusal, found, inputs, refusal_of, tells_made};
 ghost use Rattle.zerotrie_run.specs.Statuses.{failure_of, number_of};
 ghost use Rattle.zerotrie_run.specs.Told.{HasCommandCause, IsTold, Notes, TellsMore, ended, last_text};
 ghost use Rattle.zerotrie_run.specs.declared.status.Status.TheVariants.{Done, Absent, BadUsage, Unread, Unwritten, Closed};
@@ -115,6 +115,7 @@ fn carry_out<'a, D: Disk, R: Read, W: Write + Drop, M: Write>(
     ensures quiet { IfOk result (λ _. tells_made command.entry ≡ false
         → (TellsNumber command.entry (R.remaining input.old.inner) (D.story files.old.disk) → ⊥)
         → messages.new ≡ messages.old) }
+    ensures once { files.new.opened ≤ files.old.opened + inputs command.entry }
     ensures noted { command_fails result ≡ false
         → NothingFailed input.old input.new output.old output.new files.old files.new }
     ensures unread { LeavesInputBy command.entry (refusal_of result) → input.new ≡ input.old }
@@ -151,7 +152,8 @@ fn carry_out<'a, D: Disk, R: Read, W: Write + Drop, M: Write>(
 /// `Closed` only if a replacement of a file or a write to the output did: in `Closed` if it failed
 /// because the reader has closed the pipe. If nothing failed, it ends by itself or in `OutOfMemory`.
 /// If one of these did, its number is 3 or 4: otherwise nothing failed that the files and streams
-/// note. A message that can't be written changes nothing.
+/// note. A message that can't be written changes nothing. It opens no more
+/// files to read than the command names.
 ///
 /// After success, or if a key is absent, no pair is listed or pairs differ, the buffer is flushed if it
 /// was empty before. The only messages are then what a build or a combination made, as its summary says,
@@ -179,6 +181,7 @@ pub fn run<D: Disk, R: Read, W: Write + Drop, M: Write>(
     ensures not_closed { result ≡ Unwritten → WasClosed output.new files.new → ⊥ }
     ensures failed { number_of result < 3
         → NothingFailed input.old input.new output.old output.new files.old files.new }
+    ensures once { files.new.opened ≤ files.old.opened + inputs command.entry }
     ensures handed { (result ≡ Done) ⊎ (result ≡ Absent)
         → HandsOn output.old.inner output.new.inner }
     ensures told { messages.new.failed ≡ false

@@ -3,11 +3,11 @@ use Rattle.std.proofs.lemmas.Result.{err_from_is_err_and}
 use Rattle.std.specs.Io.Buffered.{writer_contents}
 use Rattle.std.proofs.KnownBytes.{Appends-trans}
 use Rattle.std.specs.Io.KnownBytes.{Appends}
-use Rattle.zerotrie_run.specs.Combined.{AreRead, EndsCombine, IsRefusedIn, unopened_refusal}
+use Rattle.zerotrie_run.specs.Combined.{AreRead}
 use Rattle.zerotrie_run.specs.Messages.{target_name}
 use Rattle.zerotrie_run.specs.Runs.{IsKept, IsWritten, world}
 use Rattle.zerotrie_run.specs.Told.{told_left}
-use Rattle.zerotrie_run.proofs.CombinedLemmas.{refused_cause, refused_ends, uncombined_cause, uncombined_ends}
+use Rattle.zerotrie_run.proofs.CombinedLemmas.{uncombined_cause, uncombined_ends, unread_cause, unread_ends}
 use Rattle.zerotrie_run.proofs.combine.combine.Goals as goal
 
 pub returns-in_err-made-clause-err : goal.returns-in_err-made-clause-err
@@ -82,17 +82,17 @@ returns-clause-err g c =
           (subst (λ b. IsKept to b (world (story c.read_all.new.files.disk) old) after) c.as_slice-2.ensures.value c.in-Err.ensures.err);
     })
 
-pub returns-in-Some-clause-err : goal.returns-in-Some-clause-err
-returns-in-Some-clause-err g c =
-    let files = g.D.Disk.story c.args.files.now.disk in
-    let refused = subst (λ disk. IsRefusedIn c.args.combine.from.now (g.D.Disk.story disk) c.in-Some.number c.in-Some.why c.in-Some.hint) (c.disk.ensures ∙ c.spare.ensures.same) c.in-Some.ensures in
+pub returns-in_err-held-clause-err : goal.returns-in_err-held-clause-err
+returns-in_err-held-clause-err g c =
+    let story = g.D.Disk.story in
     let input = g.R.Read.remaining c.args.input.now.inner in
     let printed = writer_contents g.W.Write.contents c.args.output.now.inner in
-    subst (λ disk. EndsCombine c.args.combine input (world files printed) (world (g.D.Disk.story disk) printed) (unopened_refusal c.in-Some.why)) (sym c.spare.ensures.same)
-    (refused_ends c.args.combine input files printed c.in-Some.number c.in-Some.why c.in-Some.hint refused)
+    let unread = rw c.spare.ensures.same at c.in_err-held.ensures.err in
+    let same = err_from_is_err_and c.from_residual-in_err-held.result c.from_residual-in_err-held.ensures.1 in
+    rw (same.1, same.2) (unread_ends c.args.combine input (story c.args.files.now.disk) (story c.read_all.new.files.disk) printed c.in_err-held.field-0.0 (ap story (c.in_err-held.ensures.same ∙ c.spare.ensures.same)) unread)
 
-pub returns-in-Some-clause-why : goal.returns-in-Some-clause-why
-returns-in-Some-clause-why g c =
-    let files = g.D.Disk.story c.args.files.now.disk in
-    let refused = subst (λ disk. IsRefusedIn c.args.combine.from.now (g.D.Disk.story disk) c.in-Some.number c.in-Some.why c.in-Some.hint) (c.disk.ensures ∙ c.spare.ensures.same) c.in-Some.ensures in
-    refused_cause c.args.combine (g.R.Read.remaining c.args.input.now.inner) files c.in-Some.number c.in-Some.why c.in-Some.hint refused
+pub returns-in_err-held-clause-why : goal.returns-in_err-held-clause-why
+returns-in_err-held-clause-why g c =
+    let unread = rw c.spare.ensures.same at c.in_err-held.ensures.err in
+    let same = err_from_is_err_and c.from_residual-in_err-held.result c.from_residual-in_err-held.ensures.1 in
+    rw (same.1, same.2) (unread_cause c.args.combine (g.R.Read.remaining c.args.input.now.inner) (g.D.Disk.story c.args.files.now.disk) c.in_err-held.field-0.0 unread)

@@ -1,8 +1,7 @@
 use Rattle.std.proofs.Common.{false, refl, subst}
 use Rattle.std.proofs.lemmas.Result.{IfOk-weaker, IfErr-weaker}
 use Rattle.std.specs.Io.Buffered.{writer_contents}
-use Rattle.zerotrie_run.specs.Runs.{IsRefusedUnread}
-use Rattle.zerotrie_run.proofs.DiffLemmas.{are_diffed, both_read, ends_refused, ends_uncompared, numbers_noted, of_any, quiet_twice, reason_refused, reason_uncompared, told_twice}
+use Rattle.zerotrie_run.proofs.DiffLemmas.{are_diffed, both_read, ends_uncompared, numbers_noted, of_any, quiet_twice, reason_uncompared, told_twice}
 use Rattle.zerotrie_run.proofs.diff.compare.Goals as goal
 
 pub returns-in_err-other-clause-tells : goal.returns-in_err-other-clause-tells
@@ -88,17 +87,3 @@ returns-clause-quiet g c =
     quiet_twice c.args.diff c.old_file.result c.new_file.result g.R.Read.remaining c.args.input.now c.read_file.new.input g.D.Disk.story c.args.files.now.disk c.read_file.new.files.disk
     c.args.messages.now c.read_file.new.messages c.read_file-2.new.messages
     c.requires c.old_file.ensures c.new_file.ensures c.read_file.ensures.same c.read_file.ensures.untouched c.read_file.ensures.quiet c.read_file-2.ensures.quiet
-
-pub returns-in-Some-clause-err : goal.returns-in-Some-clause-err
-returns-in-Some-clause-err g c =
-    let files = g.D.Disk.story c.args.files.now.disk in
-    let file = c.in-Some.file in
-    let refused = subst (λ disk. IsRefusedUnread file false (g.D.Disk.story disk) c.in-Some.why c.in-Some.hint) c.disk.ensures c.in-Some.ensures.1 in
-    ends_refused c.args.diff file (g.R.Read.remaining c.args.input.now.inner) files (writer_contents g.W.Write.contents c.args.output.now.inner) c.in-Some.why c.in-Some.hint c.in-Some.ensures.0 refused
-
-pub returns-in-Some-clause-why : goal.returns-in-Some-clause-why
-returns-in-Some-clause-why g c =
-    let files = g.D.Disk.story c.args.files.now.disk in
-    let file = c.in-Some.file in
-    let refused = subst (λ disk. IsRefusedUnread file false (g.D.Disk.story disk) c.in-Some.why c.in-Some.hint) c.disk.ensures c.in-Some.ensures.1 in
-    (c.in-Some.ensures.0, reason_refused file (g.R.Read.remaining c.args.input.now.inner) files c.in-Some.why c.in-Some.hint refused)
