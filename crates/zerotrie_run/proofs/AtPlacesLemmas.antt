@@ -11,7 +11,7 @@ use Rattle.zerotrie_queries.specs.Answers.{AreAddedAt, Belongs}
 use Rattle.zerotrie_queries.specs.Finders.{Dictionary, IndexFinds, asks_keys}
 use Rattle.zerotrie_queries.specs.declared.question.Asked.{Asked}
 use Rattle.zerotrie_queries.specs.declared.question.Query.{Query}
-use Rattle.zerotrie_run.specs.Runs.{AreLookedUp, IsAnswerText, IsOpened, IsRead}
+use Rattle.zerotrie_run.specs.Runs.{AreLookedUp, IsAnswerText, IsOpenAt, IsRead}
 use Rattle.zerotrie_run.specs.Runs.Content.{of_index, in_blocks}
 use Rattle.zerotrie_run.specs.declared.command.Check.TheVariants as check
 use Rattle.zerotrie_run.specs.declared.command.Keys.TheVariants.{Words}
@@ -39,11 +39,11 @@ finds_none asked d has = no_index has.1 has.2
 -- ---- what was looked up answers the question
 
 pub answer_text : {F : Type 0} (shown : F → Option (List ℕ)) (f : F) (file : TrieFile) (query : Query) (keys : Bor (List (Bor (List ℕ)))) (files : Option Story) (text : List ℕ) (all : Bool)
-    → file.bare ≡ None → file.check ≢ check.Full → asks_keys query.asked ≡ true → IsOpened shown file.place files (opened.File f)
+    → file.bare ≡ None → file.check ≢ check.Full → asks_keys query.asked ≡ true → IsOpenAt shown file.place files (opened.File f)
     → AreLookedUp query (nows keys.now) (shown f) text all → IsAnswerText file (LookUp query (Words keys)) files text all
 answer_text {F} shown f file query keys files text all plain some asks is looked = by file.place files refl is
   where
-    by : (place : Place) (story : Option Story) → file.place ≡ place → IsOpened shown place story (opened.File f) → IsAnswerText file (LookUp query (Words keys)) story text all
+    by : (place : Place) (story : Option Story) → file.place ≡ place → IsOpenAt shown place story (opened.File f) → IsAnswerText file (LookUp query (Words keys)) story text all
     by (File path) None at h = λ input old new. (
       λ appends. record {
         held = a_file;

@@ -121,11 +121,15 @@ ends_unread diff file input files a (ask.NoTrie why t) of h = ends_refused diff 
 ends_unread diff file input files a (ask.Unprintable form key) of h = absurd h
 ends_unread diff file input files a (ask.Unanswered e) of h = absurd h
 
-pub reason_unread : (file : TrieFile) (input : Option (List ℕ)) (files : Option Story) (e : AskError) → IsUnread file files e → HasReason (IsUnopened file) file Verify input files e
-reason_unread file input files (ask.Unread e) h = tt
-reason_unread file input files (ask.NoTrie why t) h = reason_refused file input files why t h
-reason_unread file input files (ask.Unprintable form key) h = absurd h
-reason_unread file input files (ask.Unanswered e) h = absurd h
+unread_reason : (file : TrieFile) (input : Option (List ℕ)) (files : Option Story) (e : AskError) → IsUnread file files e → HasReason (IsUnopened file) file Verify input files e
+unread_reason file input files (ask.Unread e) h = tt
+unread_reason file input files (ask.NoTrie why t) h = reason_refused file input files why t h
+unread_reason file input files (ask.Unprintable form key) h = absurd h
+unread_reason file input files (ask.Unanswered e) h = absurd h
+
+pub reason_unread : (diff : Diff) (file : TrieFile) (input : Option (List ℕ)) (files : Option Story) (e : DiffError) → IsFileOf diff file → (e.file ≡ file) × IsUnread file files e.error → HasDiffReason diff input files e
+reason_unread diff file input files e of h =
+    (subst (IsFileOf diff) (sym h.0) of, subst (λ f. HasReason (IsUnopened f) f Verify input files e.error) (sym h.0) (unread_reason file input files e.error h.1))
 
 -- a beginning was printed, and so it ends
 ends_begun : (diff : Diff) (input : Option (List ℕ)) (files : Option Story) (a b : Option (List ℕ)) (e : AskError) → IsUnanswered e → IsDiffedInPart diff input files a b → EndsDiff diff input files a b (ask_refusal e)

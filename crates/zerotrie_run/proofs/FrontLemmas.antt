@@ -23,7 +23,7 @@ use Rattle.zerotrie_queries.specs.Texts.{looks_like_text}
 use Rattle.zerotrie_queries.specs.declared.file.OpenError.{OpenError}
 use Rattle.zerotrie_queries.specs.declared.file.OpenError.TheVariants.{BadTag, Damaged, NotWellFormed, OutOfMemory}
 use Rattle.zerotrie_run.specs.Fronts.{HasNothing, IsHint, IsSettled, begins_as_text, front_len, is_cut_text}
-use Rattle.zerotrie_run.specs.Runs.{EndsAsk, IsOpened, IsRead, IsRefusedUnread, IsUnasked, IsUnopenedBy, IsUnopenedFor, ask_refusal, asks_index}
+use Rattle.zerotrie_run.specs.Runs.{EndsAsk, IsOpenAt, IsRead, IsRefusedUnread, IsUnasked, IsUnopenedBy, IsUnopenedFor, ask_refusal, asks_index}
 use Rattle.zerotrie_run.specs.Told.{HasReason}
 use Rattle.zerotrie_run.specs.declared.ask.AskError.TheVariants.{NoTrie}
 use Rattle.zerotrie_run.specs.declared.command.Place.{Place}
@@ -175,11 +175,11 @@ same_hint front more Nothing long h = (same_front front more None long h.0, same
 -- ---- a file of which the front was read
 
 pub refused_unread : {F : Type 0} (shown : F → Option (List ℕ)) (f : F) (file : TrieFile) (takes : Bool) (files : Option Story) (front : List ℕ) (why : OpenError) (hint : Hint) → 65537 ≤ length front
-    → ((more : List ℕ) → HasNothing file.bare takes (front ++ more) why) → IsHint front hint → IfSome (shown f) (IsPartFrom 0 front) → IsOpened shown file.place files (opened.File f)
+    → ((more : List ℕ) → HasNothing file.bare takes (front ++ more) why) → IsHint front hint → IfSome (shown f) (IsPartFrom 0 front) → IsOpenAt shown file.place files (opened.File f)
     → IsRefusedUnread file takes files why hint
 refused_unread {F} shown f file takes files front why hint long nothing looks part is = by file.place files refl is
   where
-    by : (place : Place) (story : Option Story) → file.place ≡ place → IsOpened shown place story (opened.File f) → IsRefusedUnread file takes story why hint
+    by : (place : Place) (story : Option Story) → file.place ≡ place → IsOpenAt shown place story (opened.File f) → IsRefusedUnread file takes story why hint
     by (File path) None at h = λ input.
         (front ++ [], subst (λ p. IsRead p input None (front ++ [])) (sym at) tt, nothing [], same_hint front [] hint long looks)
     by (File path) (Some known) at h = λ input.

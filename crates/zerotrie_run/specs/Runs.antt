@@ -86,11 +86,11 @@ IsNamed word (File path) = (path.now ≡ word) × (word ≢ codes "-")
 IsNamed word Stream = word ≡ codes "-"
 
 -- a place was opened: the file of its path, or standard input
-abbrev pub IsOpened : {F : Type 0} → (held : F → Option (List ℕ)) → Place → Option Story → Opened F → Type 0
-IsOpened held (File path) files (opened.File file) = IfSome files (IsOpen path.now (held file))
-IsOpened held (File path) files opened.Stream = ⊥
-IsOpened held Stream files (opened.File file) = ⊥
-IsOpened held Stream files opened.Stream = Unit {0}
+abbrev pub IsOpenAt : {F : Type 0} → (held : F → Option (List ℕ)) → Place → Option Story → Opened F → Type 0
+IsOpenAt held (File path) files (opened.File file) = IfSome files (IsOpen path.now (held file))
+IsOpenAt held (File path) files opened.Stream = ⊥
+IsOpenAt held Stream files (opened.File file) = ⊥
+IsOpenAt held Stream files opened.Stream = Unit {0}
 
 -- the bytes of a place: what its file holds, or all of standard input
 abbrev pub IsRead : Place → Option (List ℕ) → Option Story → List ℕ → Type 0

@@ -2,7 +2,7 @@
 
 ghost use Rattle.std.specs.Prelude.{◌≡◌, None, Option, IfOk, IfSome, map};
 ghost use Rattle.zerotrie_files.specs.Disks.{Story};
-ghost use Rattle.zerotrie_run.specs.Runs.{AreLookedUp, IsAnswerText, IsOpened};
+ghost use Rattle.zerotrie_run.specs.Runs.{AreLookedUp, IsAnswerText, IsOpenAt};
 
 use crate::command::{Check, Keys, Question, TrieFile};
 use crate::place::Opened;
@@ -66,7 +66,7 @@ pub fn answer_at_places<F: OpenFile>(
     opened: &Opened<F>,
 ) -> Option<(Vec<u8>, bool)>
     ensures text { IfSome result (λ r. (story : Option Story)
-        → IsOpened F.held file.entry.place story opened.now
+        → IsOpenAt F.held file.entry.place story opened.now
         → IsAnswerText file.entry question.entry story r.0.items r.1) }
     ensures named { IfSome result (λ _. file.entry.bare ≡ None) }
 {

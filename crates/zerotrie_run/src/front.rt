@@ -3,7 +3,7 @@
 ghost use Rattle.std.specs.Prelude.{◌≡◌, ◌≤◌, ◌++◌, ℕ, List, Option, true, length, take, IfSome};
 ghost use Rattle.zerotrie_files.specs.Disks.{Story};
 ghost use Rattle.zerotrie_run.specs.Fronts.{HasNothing, IsHint, IsSettled, begins_as_text, front_len, is_cut_text};
-ghost use Rattle.zerotrie_run.specs.Runs.{IsOpened, IsRefusedUnread};
+ghost use Rattle.zerotrie_run.specs.Runs.{IsOpenAt, IsRefusedUnread};
 
 use crate::command::TrieFile;
 use crate::place::Opened;
@@ -119,7 +119,7 @@ pub fn refused_by_front<F: OpenFile>(
     opened: &Opened<F>,
 ) -> Option<(OpenError, Hint)>
     ensures { IfSome result (λ r. (story : Option Story)
-        → IsOpened F.held file.entry.place story opened.now
+        → IsOpenAt F.held file.entry.place story opened.now
         → IsRefusedUnread file.entry takes_index story r.0 r.1) }
 {
     let Opened::File(open) = opened else {

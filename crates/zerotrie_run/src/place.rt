@@ -4,7 +4,7 @@ ghost use Rattle.std.specs.Prelude.{◌≡◌, ◌≤◌, ◌⊎◌, ◌+◌, Op
 ghost use Rattle.zerotrie_files.specs.Disks.{Story};
 ghost use Rattle.zerotrie_files.specs.Notes.{SameReads, SameWrites};
 ghost use Rattle.zerotrie_run.specs.Failures.{IsFailureOf, ReadFailed, WriteFailed};
-ghost use Rattle.zerotrie_run.specs.Runs.{world, IsOpened, IsRead, IsWritten, IsKept, HandsOn};
+ghost use Rattle.zerotrie_run.specs.Runs.{world, IsOpenAt, IsRead, IsWritten, IsKept, HandsOn};
 ghost use Rattle.std.specs.Io.Buffered.{writer_contents};
 ghost use Rattle.zerotrie_run.specs.declared.command.Place.{Place};
 ghost use Rattle.zerotrie_run.specs.declared.command.Place.TheVariants.{Stream};
@@ -28,7 +28,7 @@ pub fn open_place<D: Disk>(
     place: Place<'_>,
     files: &mut Store<D>,
 ) -> io::Result<Opened<D::File>>
-    ensures opens { IfOk result (IsOpened D.File.held place.entry (D.story files.old.disk)) }
+    ensures opens { IfOk result (IsOpenAt D.File.held place.entry (D.story files.old.disk)) }
     ensures same { files.new.disk ≡ files.old.disk }
     ensures once { files.new.opened ≤ files.old.opened + 1 }
     ensures noted { OnOk result (files.new.unread ≡ files.old.unread) }
@@ -49,12 +49,12 @@ pub fn read_opened<D: Disk, R: Read>(
     input: &mut Noted<R>,
 ) -> io::Result<Vec<u8>>
     ensures read { IfOk result (λ bytes. (place : Place) → (story : Option Story)
-        → IsOpened D.File.held place story opened
+        → IsOpenAt D.File.held place story opened
         → IsRead place (R.remaining input.old.inner) story bytes.items) }
     ensures same { files.new.disk ≡ files.old.disk }
     ensures once { files.new.opened ≡ files.old.opened }
     ensures untouched { (place : Place) → (story : Option Story)
-        → IsOpened D.File.held place story opened
+        → IsOpenAt D.File.held place story opened
         → (place ≡ Stream) ⊎ (input.new ≡ input.old) }
     ensures noted { OnOk result (SameReads input.old input.new files.old files.new) }
     ensures failed { IfErr result (IsFailureOf (ReadFailed input.new files.new)) }
