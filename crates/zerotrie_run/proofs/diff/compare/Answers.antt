@@ -90,12 +90,12 @@ returns-clause-quiet g c =
 
 pub returns-in_err-held-clause-err : goal.returns-in_err-held-clause-err
 returns-in_err-held-clause-err g c =
-    let same = err_from_is_err_and c.from_residual-in_err-held.result c.from_residual-in_err-held.ensures.1 in
+    let same = err_from_is_err_and c.from_residual.result c.from_residual.ensures.1 in
     rw (same.1, same.2) (ends_unread c.args.diff c.old_file.result (g.R.Read.remaining c.args.input.now.inner) (g.D.Disk.story c.args.files.now.disk) (writer_contents g.W.Write.contents c.args.output.now.inner) c.in_err-held.field-0.0.error (inl c.old_file.ensures) c.in_err-held.ensures.err.1)
 
 pub returns-in_err-held-clause-why : goal.returns-in_err-held-clause-why
 returns-in_err-held-clause-why g c =
-    let same = err_from_is_err_and c.from_residual-in_err-held.result c.from_residual-in_err-held.ensures.1 in
+    let same = err_from_is_err_and c.from_residual.result c.from_residual.ensures.1 in
     rw (same.1, same.2) (reason_unread c.args.diff c.old_file.result (g.R.Read.remaining c.args.input.now.inner) (g.D.Disk.story c.args.files.now.disk) c.in_err-held.field-0.0 (inl c.old_file.ensures) c.in_err-held.ensures.err)
 
 pub returns-in_err-other-clause-err : goal.returns-in_err-other-clause-err

@@ -49,6 +49,7 @@ returns-in-Err g c =
       pipe_closed = end_pipe_closed (read || unread) (write || unwritten) closed gone (command_refusal e) result end;
       not_closed = end_not_closed (read || unread) (write || unwritten) closed gone (command_refusal e) result end;
       failed = λ other. c.in-Err.ensures.noted (was_refused (read || unread) (write || unwritten) (closed || gone) (command_refusal e) status result c.text.result is c.end.ensures.status other);
+      once = c.carry_out.ensures.once;
       handed = not_open (read || unread) (write || unwritten) (closed || gone) (command_refusal e) result end;
       told = λ ok.
           let told = c.end.ensures.told ok in
