@@ -29,7 +29,8 @@ pub record Watched (T : Type 0) : Type 0 where
   pub failed : Bool
   pub closed : Bool
 
--- a disk, how many of its files were opened to be read, whether some read and some replacement on it failed, and whether a replacement did as whoever reads has closed the pipe
+-- a disk, how many of its files were opened to be read, whether some read and some replacement on it failed, and whether a replacement did
+-- as whoever reads has closed the pipe
 pub record Files (D : Type 0) : Type 0 where
   pub disk : D
   pub opened : ℕ

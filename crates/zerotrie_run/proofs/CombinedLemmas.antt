@@ -1,5 +1,5 @@
 -- A file that is made of others: what was read of them, how the command ends, and why.
-use Rattle.std.proofs.Common.{◌≡◌, ◌<◌, ◌+◌, ◌++◌, ◌∙◌, ◌∷◌, [], ℕ, zero, suc, List, Option, Some, None, Bool, false, Vec, Global, All, map, length, take, get_or, refl, sym, ap, subst, arith, inl, inr}
+use Rattle.std.proofs.Common.{◌≡◌, ◌<◌, ◌+◌, ◌++◌, ◌∙◌, ◌∷◌, [], ℕ, zero, suc, List, Option, Some, None, Bool, Vec, Global, All, map, length, take, get_or, refl, sym, ap, subst, arith, inl, inr}
 use Rattle.std.specs.Prelude.{Any, option_map}
 use Rattle.std.specs.List.{AllZip, slice_get}
 use Rattle.std.proofs.Math.Seq.{take-suc}

@@ -24,10 +24,7 @@ pub enum Opened<F> {
 }
 
 /// Opens a place to be read.
-pub fn open_place<D: Disk>(
-    place: Place<'_>,
-    files: &mut Store<D>,
-) -> io::Result<Opened<D::File>>
+pub fn open_place<D: Disk>(place: Place<'_>, files: &mut Store<D>) -> io::Result<Opened<D::File>>
     ensures opens { IfOk result (IsOpenAt D.File.held place.entry (D.story files.old.disk)) }
     ensures same { files.new.disk ≡ files.old.disk }
     ensures once { files.new.opened ≤ files.old.opened + 1 }
