@@ -16,10 +16,7 @@ pub enum Opened<F> {
 }
 
 /// Opens a place to be read.
-pub fn open_place<D: Disk>(
-    place: Place<'_>,
-    files: &mut Store<D>,
-) -> io::Result<Opened<D::File>> {
+pub fn open_place<D: Disk>(place: Place<'_>, files: &mut Store<D>) -> io::Result<Opened<D::File>> {
     match place {
         Place::File(path) => Ok(Opened::File(files.open(path)?)),
         Place::Stream => Ok(Opened::Stream),

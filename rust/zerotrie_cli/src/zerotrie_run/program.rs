@@ -110,7 +110,8 @@ fn carry_out<'a, D: Disk, R: Read, W: Write, M: Write>(
 /// `Closed` only if a replacement of a file or a write to the output did: in `Closed` if it failed
 /// because the reader has closed the pipe. If nothing failed, it ends by itself or in `OutOfMemory`.
 /// If one of these did, its number is 3 or 4: otherwise nothing failed that the files and streams
-/// note. A message that can't be written changes nothing.
+/// note. A message that can't be written changes nothing. It opens no more files to read than the command
+/// names.
 ///
 /// After success, or if a key is absent, no pair is listed or pairs differ, the buffer is flushed if it
 /// was empty before. The only messages are then what a build or a combination made, as its summary says,
