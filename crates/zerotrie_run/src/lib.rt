@@ -15,9 +15,11 @@ mod messages;
 mod open;
 mod place;
 mod program;
+mod several;
 mod status;
 mod stdin_lines;
 
 pub use command::{Build, Check, Combine, Command, Diff, Keys, Place, Question, Summary, TrieFile};
 pub use program::run;
+pub use several::run_each;
 pub use status::Status;
