@@ -187,9 +187,29 @@ field_words bad.Escape = []
 field_words (bad.Value v) = (codes ": \"" ++ escaped v.front.items) ++ codes "\""
 field_words bad.Fields = []
 
+-- what is wrong with a field that is no value
+abbrev pub value_fault_words : ValueFault → List ℕ
+value_fault_words fault.Empty = codes "the value is missing"
+value_fault_words fault.Sign = codes "the value has a sign"
+value_fault_words fault.Blank = codes "a blank is in the value"
+value_fault_words fault.CarriageReturn = codes "a carriage return is at the end of the value"
+value_fault_words fault.Hexadecimal = codes "the value is hexadecimal, not decimal"
+value_fault_words fault.Fraction = codes "the value is a fraction or has an exponent"
+value_fault_words fault.TooLong = codes "the value has more than 20 digits"
+value_fault_words fault.TooGreat = codes "the value is 2^64 or more"
+value_fault_words fault.Other = codes "the value is no decimal number"
+
+-- why a line or record is no pair
+abbrev pub bad_line_words : BadLine → List ℕ
+bad_line_words bad.Empty = codes "an empty line"
+bad_line_words bad.NoTab = codes "no tab between a key and its value"
+bad_line_words bad.Escape = codes "a backslash that begins no escape; the escapes are \\t \\n \\r \\\\ \\xHH"
+bad_line_words (bad.Value v) = value_fault_words v.fault
+bad_line_words bad.Fields = codes "not two fields, a key and its value"
+
 -- which line or record is no pair, and why
-abbrev pub bad_words : PairUnit → ℕ → BadLine → (why : List ℕ) → List ℕ
-bad_words unit number bad why = ((unit_word unit ++ (codes " " ++ (decimal number ++ (codes ": " ++ why)))) ++ field_words bad) ++ bad_hint unit number bad
+abbrev pub bad_words : PairUnit → ℕ → BadLine → List ℕ
+bad_words unit number bad = ((unit_word unit ++ (codes " " ++ (decimal number ++ (codes ": " ++ bad_line_words bad)))) ++ field_words bad) ++ bad_hint unit number bad
 
 -- what may help if a text is no JSON value from here on
 abbrev pub json_hint : (line column : ℕ) → List ℕ
@@ -242,10 +262,10 @@ other_words Utf16 = codes "it looks like UTF-16: make it UTF-8 by iconv -f UTF-1
 other_words Gzip = codes "it looks like a file of gzip: gunzip it first"
 other_words Sealed = codes "it is a trie or an index that zerotrie made: list prints the pairs of a trie"
 
--- why no file is made of pairs; why a line is none is said by the crate that reads it
+-- why no file is made of pairs
 abbrev pub AreMadeWords : PairUnit → MakeError → List ℕ → Type 0
 AreMadeWords unit (made.NotText other) words = words ≡ other_words other
-AreMadeWords unit (made.Line number bad) words = (why : List ℕ) × (words ≡ bad_words unit number bad why)
+AreMadeWords unit (made.Line number bad) words = words ≡ bad_words unit number bad
 AreMadeWords unit (made.NotJson line column) words = words ≡ json_words line column
 AreMadeWords unit made.NotPairs words = words ≡ codes "neither an object nor a list"
 AreMadeWords unit (made.NotPair bad) words = words ≡ no_pair_words bad

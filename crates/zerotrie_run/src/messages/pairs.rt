@@ -1,7 +1,7 @@
 //! What messages say of pairs that make no file.
 
-ghost use Rattle.std.specs.Prelude.{◌≡◌, List, ℕ, IfOk};
-ghost use Rattle.zerotrie_run.specs.Messages.{AreMadeWords, above_words, ascii_words, bad_hint, bad_words, case_hint, case_words, field_words, index_refused_words, json_hint, json_words, keys_words, no_pair_words, other_words, refused_words, same_words, sum_words, unit_of, unit_word};
+ghost use Rattle.std.specs.Prelude.{◌≡◌, IfOk};
+ghost use Rattle.zerotrie_run.specs.Messages.{AreMadeWords, above_words, ascii_words, bad_hint, bad_line_words, bad_words, case_hint, case_words, field_words, index_refused_words, json_hint, json_words, keys_words, no_pair_words, other_words, refused_words, same_words, sum_words, unit_of, unit_word, value_fault_words};
 
 use crate::messages::key::{with_key, with_keys};
 use std::alloc::{AllocError, Global};
@@ -88,6 +88,38 @@ fn field_words(alloc: Global, bad: &BadLine) -> Result<Vec<u8>, AllocError>
     }
 }
 
+/// Returns what is wrong with a field that is no value.
+fn value_fault_words(fault: ValueFault) -> &'static str
+    ensures { result.now ≡ value_fault_words fault }
+{
+    match fault {
+        ValueFault::Empty => "the value is missing",
+        ValueFault::Sign => "the value has a sign",
+        ValueFault::Blank => "a blank is in the value",
+        ValueFault::CarriageReturn => "a carriage return is at the end of the value",
+        ValueFault::Hexadecimal => "the value is hexadecimal, not decimal",
+        ValueFault::Fraction => "the value is a fraction or has an exponent",
+        ValueFault::TooLong => "the value has more than 20 digits",
+        ValueFault::TooGreat => "the value is 2^64 or more",
+        ValueFault::Other => "the value is no decimal number",
+    }
+}
+
+/// Returns why a line or record is no pair.
+fn bad_line_words(bad: &BadLine) -> &'static str
+    ensures { result.now ≡ bad_line_words bad.now }
+{
+    match bad {
+        BadLine::Empty => "an empty line",
+        BadLine::NoTab => "no tab between a key and its value",
+        BadLine::Escape => {
+            "a backslash that begins no escape; the escapes are \\t \\n \\r \\\\ \\xHH"
+        }
+        BadLine::Value(value) => value_fault_words(value.fault),
+        BadLine::Fields => "not two fields, a key and its value",
+    }
+}
+
 /// Returns which line is no pair, and why.
 fn bad_words(
     alloc: Global,
@@ -95,10 +127,9 @@ fn bad_words(
     number: usize,
     bad: &BadLine,
 ) -> Result<Vec<u8>, AllocError>
-    ensures { IfOk result (λ words. (why : List ℕ)
-        × (words.items ≡ bad_words unit number bad.now why)) }
+    ensures { IfOk result (λ words. words.items ≡ bad_words unit number bad.now) }
 {
-    let (word, why) = (unit.word(), bad.text());
+    let (word, why) = (unit.word(), bad_line_words(bad));
     let field = field_words(alloc, bad)?;
     let text = format!(in alloc; "{word} {number}: {why}")?;
     let mut words = Vec::from_slice(alloc, text.as_bytes())?;

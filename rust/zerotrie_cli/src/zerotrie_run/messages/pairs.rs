@@ -77,6 +77,34 @@ fn field_words(alloc: Global, bad: &BadLine) -> Result<Vec<u8>, AllocError> {
     }
 }
 
+/// Returns what is wrong with a field that is no value.
+fn value_fault_words(fault: ValueFault) -> &'static str {
+    match fault {
+        ValueFault::Empty => "the value is missing",
+        ValueFault::Sign => "the value has a sign",
+        ValueFault::Blank => "a blank is in the value",
+        ValueFault::CarriageReturn => "a carriage return is at the end of the value",
+        ValueFault::Hexadecimal => "the value is hexadecimal, not decimal",
+        ValueFault::Fraction => "the value is a fraction or has an exponent",
+        ValueFault::TooLong => "the value has more than 20 digits",
+        ValueFault::TooGreat => "the value is 2^64 or more",
+        ValueFault::Other => "the value is no decimal number",
+    }
+}
+
+/// Returns why a line or record is no pair.
+fn bad_line_words(bad: &BadLine) -> &'static str {
+    match bad {
+        BadLine::Empty => "an empty line",
+        BadLine::NoTab => "no tab between a key and its value",
+        BadLine::Escape => {
+            "a backslash that begins no escape; the escapes are \\t \\n \\r \\\\ \\xHH"
+        }
+        BadLine::Value(value) => value_fault_words(value.fault),
+        BadLine::Fields => "not two fields, a key and its value",
+    }
+}
+
 /// Returns which line is no pair, and why.
 fn bad_words(
     alloc: Global,
@@ -84,7 +112,7 @@ fn bad_words(
     number: usize,
     bad: &BadLine,
 ) -> Result<Vec<u8>, AllocError> {
-    let (word, why) = (unit.word(), bad.text());
+    let (word, why) = (unit.word(), bad_line_words(bad));
     let field = field_words(alloc, bad)?;
     let text = format!("{word} {number}: {why}");
     let mut words = Vec::from_slice(alloc, text.as_bytes())?;
