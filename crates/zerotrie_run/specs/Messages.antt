@@ -34,20 +34,17 @@ use Rattle.zerotrie_core.specs.Kinds.{kind_name}
 use Rattle.zerotrie_core.specs.declared.TrieKind.{TrieKind}
 use Rattle.zerotrie_making.specs.declared.error.CombinationError.{CombinationError}
 use Rattle.zerotrie_making.specs.declared.error.CombinationError.TheVariants as combination
-use Rattle.zerotrie_run.specs.Combined.{IsNumbered, file_of}
+use Rattle.zerotrie_run.specs.Combined.{file_of}
 use Rattle.zerotrie_run.specs.declared.front.Hint.{Hint}
 use Rattle.zerotrie_run.specs.declared.front.Hint.TheVariants.{Text, Other, Nothing}
-use Rattle.zerotrie_run.specs.declared.command.Combine.{Combine}
 use Rattle.zerotrie_run.specs.declared.command.TrieFile.{TrieFile}
 use Rattle.zerotrie_run.specs.declared.command.Place.{Place}
 use Rattle.zerotrie_run.specs.declared.command.Place.TheVariants.{File, Stream}
 use Rattle.zerotrie_run.specs.declared.stdin_lines.AnswerError.TheVariants.{Input, NoLines, Output}
 use Rattle.zerotrie_run.specs.declared.ask.AskError.{AskError}
 use Rattle.zerotrie_run.specs.declared.ask.AskError.TheVariants as ask
-use Rattle.zerotrie_run.specs.declared.build.BuildError.{BuildError}
-use Rattle.zerotrie_run.specs.declared.build.BuildError.TheVariants as build
-use Rattle.zerotrie_run.specs.declared.combine.CombineError.{CombineError}
-use Rattle.zerotrie_run.specs.declared.combine.CombineError.TheVariants as combine
+use Rattle.zerotrie_run.specs.declared.making.MakingError.{MakingError}
+use Rattle.zerotrie_run.specs.declared.making.MakingError.TheVariants as making
 use Rattle.zerotrie_run.specs.declared.messages.pairs.PairUnit.{PairUnit}
 use Rattle.zerotrie_run.specs.declared.messages.pairs.PairUnit.TheVariants as unit
 
@@ -339,15 +336,6 @@ IsNumberLine place text = (kind : TrieKind)
 abbrev pub taken_line : (place : List ℕ) → List ℕ
 taken_line place = line_on place (codes "the file is there already, and --no-clobber leaves it")
 
--- a line tells why no file was made of pairs or written, and which of these places it is about: the one that is read, or the one that
--- is written
-abbrev pub TellsBuild : (from to : List ℕ) → PairUnit → BuildError → List ℕ → Type 0
-TellsBuild from to unit (build.Unread e) text = IsLineOn from text
-TellsBuild from to unit (build.NotMade e) text = TellsMade from unit e text
-TellsBuild from to unit (build.Unwritten e) text = IsLineOn to text
-TellsBuild from to unit build.Taken text = text ≡ taken_line to
-TellsBuild from to unit (build.Unfound e) text = IsLineOn to text
-
 -- why a key that is taken gets no value
 abbrev pub value_words : RuleError → List ℕ
 value_words SeveralValues = codes "more than one file has this key; --values first, sum or another gives it one value: "
@@ -359,12 +347,16 @@ abbrev pub TellsUnmade : (place : List ℕ) → CombinationError → List ℕ �
 TellsUnmade place (combination.NoValue why key) text = text ≡ line_on place (value_words why ++ told_key key.items)
 TellsUnmade place (combination.NotMade e) text = TellsMade place unit.Pair e text
 
--- a line tells why no file was made of others, or written, and which place it is about; pairs are refused at the one that is written
-abbrev pub TellsCombine : Combine → CombineError → List ℕ → Type 0
-TellsCombine c (combine.Unopened number e) text = (place : Place) → IsNumbered c.from.now number place → IsLineOn (source_name place) text
-TellsCombine c (combine.NoTrie number why hint) text = (place : Place) → IsNumbered c.from.now number place → TellsNoTrie (file_of place) why hint text
-TellsCombine c (combine.NoValue why key) text = TellsUnmade (target_name c.to) (combination.NoValue why key) text
-TellsCombine c (combine.NotBuilt e) text = TellsBuild (target_name c.to) (target_name c.to) unit.Pair e text
+-- a line tells why no file was made, or written, and which place it is about: one that is read, the one of the pairs, or the one that is
+-- written
+abbrev pub TellsMakingError : (pairs : List ℕ) → PairUnit → (to : List ℕ) → MakingError → List ℕ → Type 0
+TellsMakingError pairs unit to making.Taken text = text ≡ taken_line to
+TellsMakingError pairs unit to (making.Unfound e) text = IsLineOn to text
+TellsMakingError pairs unit to (making.Unread place e) text = IsLineOn (source_name place) text
+TellsMakingError pairs unit to (making.NoTrie place why hint) text = TellsNoTrie (file_of place) why hint text
+TellsMakingError pairs unit to (making.NotMade (combination.NoValue why key)) text = TellsUnmade to (combination.NoValue why key) text
+TellsMakingError pairs unit to (making.NotMade (combination.NotMade e)) text = TellsMade pairs unit e text
+TellsMakingError pairs unit to (making.Unwritten e) text = IsLineOn to text
 
 -- tenths of a unit
 abbrev pub tenths_text : ℕ → List ℕ → List ℕ

@@ -57,8 +57,6 @@ use Rattle.zerotrie_run.specs.declared.ask.AskError.{AskError}
 use Rattle.zerotrie_run.specs.declared.ask.AskError.TheVariants as ask
 use Rattle.zerotrie_run.specs.declared.stdin_lines.AnswerError.{AnswerError}
 use Rattle.zerotrie_run.specs.declared.stdin_lines.AnswerError.TheVariants.{Input, NoLines, Output}
-use Rattle.zerotrie_run.specs.declared.build.BuildError.{BuildError}
-use Rattle.zerotrie_run.specs.declared.build.BuildError.TheVariants as build
 
 -- What files hold and held at each moment, and what was printed: what a stream has, and then what its buffer still holds. Each as
 -- far as it is known.
@@ -539,32 +537,6 @@ RunsBuild build input before after Unread = FailsBuild build input before after
 RunsBuild build input before after Unwritten = FailsBuild build input before after
 RunsBuild build input before after OutOfMemory = FailsBuild build input before after
 RunsBuild build input before after Closed = FailsBuild build input before after
-
--- the same, if only that something failed is known
-abbrev pub EndsBuild : Build → Option (List ℕ) → World → World → Option Status → Type 0
-EndsBuild build input before after None = FailsBuild build input before after
-EndsBuild build input before after (Some status) = RunsBuild build input before after status
-
--- how a run ends if a build is refused; none if something failed
-abbrev pub build_refusal : BuildError → Option Status
-build_refusal (build.Unread e) = None
-build_refusal (build.NotMade e) = made_refusal e
-build_refusal (build.Unwritten e) = None
-build_refusal build.Taken = Some Taken
-build_refusal (build.Unfound e) = None
-
--- why a build is not begun: its file is there already and is to be left as it is, or that can't be found out
-abbrev pub IsNotBegun : Place → Bool → Option Story → BuildError → Type 0
-IsNotBegun to no_clobber files (build.Unread e) = ⊥
-IsNotBegun to no_clobber files (build.NotMade e) = ⊥
-IsNotBegun to no_clobber files (build.Unwritten e) = ⊥
-IsNotBegun to no_clobber files build.Taken = (no_clobber ≡ true) × IsThere to files
-IsNotBegun to no_clobber files (build.Unfound e) = Unit {0}
-
--- whether a build failed: a file was neither made nor refused
-abbrev pub build_fails : {A : Type 0} → Result A BuildError → Bool
-build_fails (Ok made) = false
-build_fails (Err e) = is_none (build_refusal e)
 
 -- the file is read as bare bytes of a kind that was named, and begins with the number of a kind, as one that has it does
 abbrev pub HasNumberToo : Option TrieKind → List ℕ → Type 0

@@ -3,7 +3,6 @@
 
 mod ask;
 mod at_places;
-mod build;
 mod combine;
 mod command;
 mod diff;
@@ -11,6 +10,7 @@ mod error;
 mod found;
 mod front;
 pub mod laws;
+mod making;
 mod messages;
 mod open;
 mod place;

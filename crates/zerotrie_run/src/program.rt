@@ -12,11 +12,10 @@ ghost use Rattle.zerotrie_run.specs.Told.{HasCommandCause, IsTold, Notes, TellsM
 ghost use Rattle.zerotrie_run.specs.declared.status.Status.TheVariants.{Done, Absent, BadUsage, Unread, Unwritten, Closed};
 
 use crate::ask::ask;
-use crate::build::build;
-use crate::combine::combine;
 use crate::command::{Command, reads_twice};
 use crate::diff::compare;
 use crate::error::CommandError;
+use crate::making::{Making, Recipe, make_file};
 use crate::messages::line::{NO_MEMORY, tell, twice_line};
 use crate::status::Status;
 use std::alloc::{AllocError, Global};
@@ -120,10 +119,20 @@ fn carry_out<'a, D: Disk, R: Read, W: Write + Drop, M: Write>(
     ensures unread { LeavesInputBy command.entry (refusal_of result) → input.new ≡ input.old }
 {
     match command {
-        Command::Build(plan) => match build(alloc, plan, files, input, output, messages) {
-            Ok(()) => Ok(true),
-            Err(error) => Err(CommandError::Build(plan, error)),
-        },
+        Command::Build(build) => {
+            let from = [build.from];
+            let making = Making {
+                from: &from,
+                recipe: Recipe::Pairs(build.plan),
+                to: build.to,
+                no_clobber: build.no_clobber,
+                summary: build.summary,
+            };
+            match make_file(alloc, making, files, input, output, messages) {
+                Ok(()) => Ok(true),
+                Err(error) => Err(CommandError::Build(build, error)),
+            }
+        }
         Command::Ask(file, question) => {
             match ask(alloc, file, question, files, input, output, messages) {
                 Ok(all) => Ok(all),
@@ -134,10 +143,19 @@ fn carry_out<'a, D: Disk, R: Read, W: Write + Drop, M: Write>(
             Ok(same) => Ok(same),
             Err(error) => Err(CommandError::Diff(diff, error)),
         },
-        Command::Combine(given) => match combine(alloc, given, files, input, output, messages) {
-            Ok(()) => Ok(true),
-            Err(error) => Err(CommandError::Combine(given, error)),
-        },
+        Command::Combine(combine) => {
+            let making = Making {
+                from: combine.from,
+                recipe: Recipe::Tries(combine.combination),
+                to: combine.to,
+                no_clobber: combine.no_clobber,
+                summary: combine.summary,
+            };
+            match make_file(alloc, making, files, input, output, messages) {
+                Ok(()) => Ok(true),
+                Err(error) => Err(CommandError::Combine(combine, error)),
+            }
+        }
     }
 }
 

@@ -8,7 +8,6 @@
 
 mod ask;
 mod at_places;
-mod build;
 mod combine;
 mod command;
 mod diff;
@@ -16,6 +15,7 @@ mod error;
 mod found;
 mod front;
 pub mod laws;
+mod making;
 mod messages;
 mod open;
 mod place;

@@ -2,7 +2,7 @@ use Rattle.std.proofs.Common.{◌≡◌, drop, map, take}
 use Rattle.zerotrie_files.specs.Notes.{SameReads}
 use Rattle.zerotrie_run.specs.Combined.{AreRead}
 use Rattle.zerotrie_run.specs.Runs.{streams}
-use Rattle.zerotrie_run.proofs.combine.read_all.Given as goal
+use Rattle.zerotrie_run.proofs.making.read_all.Given as goal
 
 abbrev pub invariant-loop-number : goal.invariant-loop-number
 invariant-loop-number g l = record {

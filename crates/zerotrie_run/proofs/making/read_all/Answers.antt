@@ -1,27 +1,30 @@
 use Rattle.std.proofs.Common.{◌+◌, ◌∙◌, ap}
-use Rattle.zerotrie_run.proofs.CombinedLemmas.{numbered_at, read_more}
+use Rattle.std.proofs.lemmas.Option.{slice_get-get_or}
+use Rattle.zerotrie_run.proofs.CombinedLemmas.{read_more}
 use Rattle.zerotrie_run.proofs.StreamLemmas.{none_left, read_next, still_same}
-use Rattle.zerotrie_run.proofs.combine.read_all.Goals as goal
+use Rattle.zerotrie_run.proofs.making.read_all.Goals as goal
 
 pub returns-in_err-push-in-Ok-clause-unread : goal.returns-in_err-push-in-Ok-clause-unread
 returns-in_err-push-in-Ok-clause-unread g c = λ none.
     let l = c.loop-number in
-    let places = c.args.places.now in
+    let places = c.args.making.from.now in
     still_same places l.number _ c.args.input.now l.input c.read_place.new.input c.loop-number-test.true l.invariant.left c.read_place.ensures.untouched (none_left places (l.number + 1) none)
 
 pub returns-in-Err-clause-err : goal.returns-in-Err-clause-err
-returns-in-Err-clause-err g c = numbered_at c.args.places.now c.loop-number.number c.loop-number-test.true
+returns-in-Err-clause-err g c =
+    let l = c.loop-number in
+    (l.number, slice_get-get_or c.args.making.from.now l.number _ c.loop-number-test.true)
 
 pub returns-in-Err-clause-unread : goal.returns-in-Err-clause-unread
 returns-in-Err-clause-unread g c = λ none.
     let l = c.loop-number in
-    let places = c.args.places.now in
+    let places = c.args.making.from.now in
     still_same places l.number _ c.args.input.now l.input c.read_place.new.input c.loop-number-test.true l.invariant.left c.read_place.ensures.untouched (none_left places (l.number + 1) none)
 
 pub loop-number-preserved : goal.loop-number-preserved
 loop-number-preserved g c =
     let l = c.loop-number in
-    let places = c.args.places.now in
+    let places = c.args.making.from.now in
     let inside = c.loop-number-test.true in
     let remaining = g.R.Read.remaining in
     let story = g.D.Disk.story in
