@@ -16,7 +16,7 @@ use zerotrie::sets::PairStream;
 use zerotrie::{Pairs, ZeroTriePerfectHash, ZeroTrieSimpleAscii};
 
 /// How often an intersection is made in a round.
-const TURNS: usize = 5_000;
+const TURNS: usize = 500;
 
 /// What is listed in order: all keys, and some hundred and some thousand.
 const RANGES: [(&str, &str); 3] = [("", ""), ("interc", "interl"), ("mm", "mp")];
@@ -356,14 +356,17 @@ fn searches(set: &Set, rounds: usize) -> Table {
             let mut contestants: Contestants<'_> = vec![
                 ("here", Box::new(|| sum_of(rooms.searched(*kind, bytes, *question)))),
                 ("plain Rust", Box::new(|| by_plain_rust(*kind, bytes, question))),
-                ("a scan", Box::new(|| scanned(set, question, dfa.as_ref()))),
                 (FST, Box::new(|| fst_found(&map, question, dfa.as_ref()))),
+                ("a scan", Box::new(|| scanned(set, question, dfa.as_ref()))),
             ];
             let found = agreed(&mut contestants, &name_of(question)) >> 44;
+            // by itself, as it goes over all keys, and so takes from the cache what the others read
+            let scan = best(rounds, 1000, &mut vec![contestants.pop().unwrap()]);
             if let Some(automaton) = &automaton {
                 contestants.push(("making its DFA", Box::new(|| Dfa::of(automaton).steps.len())));
             }
-            table.measure(format!("{}, {}: {found}", name_of(question), kind.name()), rounds, 1000, contestants);
+            let values = best(rounds, 1000, &mut contestants).into_iter().chain(scan).collect();
+            table.add(format!("{}, {}: {found}", name_of(question), kind.name()), values);
         }
     }
     nearest(&mut table, set, &map, rounds);
