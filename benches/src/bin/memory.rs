@@ -47,7 +47,7 @@ fn held(sets: &[Set]) -> Table {
         let mut values: Vec<(&str, usize)> = kinds.map(|kind| (kind.name(), bytes_of(kind, set).len())).collect();
         values.extend([
             (FST, peers::fst_bytes(set).len()),
-            ("phf", held_by(|| peers::phf_of(set))),
+            ("phf", peers::phf_bytes(&peers::phf_of(set))),
             ("BTreeMap", held_by(|| owned::<BTreeMap<_, _>>(set))),
             ("HashMap", held_by(|| owned::<HashMap<_, _>>(set))),
             ("the keys alone", set.keys.iter().map(Vec::len).sum()),
