@@ -35,12 +35,6 @@ impl Marisa {
         made
     }
 
-    /// The tries by all useful settings: one to five tries, caches from huge to tiny, and tails of texts or of bytes.
-    fn all(set: &Set) -> impl Iterator<Item = Marisa> {
-        let caches = (1..=5).flat_map(|tries| (7..=11).map(move |cache| tries | 1 << cache));
-        caches.flat_map(|settings| [settings | 1 << 12, settings | 1 << 13]).map(|settings| Marisa::of(set, settings))
-    }
-
     fn bytes(&self) -> usize {
         unsafe { marisa_bytes(self.trie) }
     }
@@ -59,6 +53,12 @@ impl Marisa {
     }
 }
 
+/// All useful settings: one to five tries, caches from huge to tiny, and tails of texts or of bytes.
+fn settings() -> impl Iterator<Item = c_int> {
+    let caches = (1..=5).flat_map(|tries| (7..=11).map(move |cache| tries | 1 << cache));
+    caches.flat_map(|settings| [settings | 1 << 12, settings | 1 << 13])
+}
+
 impl Drop for Marisa {
     fn drop(&mut self) {
         unsafe { marisa_freed(self.trie) }
@@ -74,8 +74,10 @@ fn main() {
         Random::new(5).shuffle(&mut keys);
         let turns = (20_000 / count).max(1);
         let (bytes, phf) = (&library::built(kind, set.pairs()), phf_of(set));
-        let smallest = Marisa::all(set).min_by_key(Marisa::bytes).unwrap();
-        let fastest = Marisa::all(set).map(|it| (it.time(turns, &keys), it)).min_by(|one, other| one.0.total_cmp(&other.0)).unwrap().1;
+        let tried = settings().map(|settings| (settings, Marisa::of(set, settings)));
+        let tried: Vec<_> = tried.map(|(settings, it)| (settings, it.bytes(), it.time(turns, &keys))).collect();
+        let smallest = Marisa::of(set, tried.iter().min_by_key(|it| it.1).unwrap().0);
+        let fastest = Marisa::of(set, tried.iter().min_by(|one, other| one.2.total_cmp(&other.2)).unwrap().0);
         let mut contestants: Contestants<'_> = vec![
             ("ns", all(turns, &keys, |key| library::get(kind, bytes, key))),
             ("smallest marisa, ns", all(turns, &keys, |key| smallest.get(key))),
