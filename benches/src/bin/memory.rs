@@ -77,7 +77,7 @@ fn shipped(sets: &[Set]) -> Table {
         let values: Vec<(&str, usize)> = vec![
             ("trie, numbered", smallest(&numbered)),
             ("trie, zeros", smallest(&zeros)),
-            ("fst, numbered", compressed(&peers::fst_bytes(&numbered))),
+            ("fst 0.3, numbered", compressed(&peers::fst_bytes(&numbered))),
             ("fst, zeros", compressed(&peers::fst_bytes(&zeros))),
             ("the keys as lines", compressed(&set.keys.join(&b'\n'))),
         ];
