@@ -193,7 +193,7 @@ fn growth(kind: Kind, rounds: usize) -> [Table; 2] {
                 ("the crate, map", Box::new(|| build_of_crate(kind, Route::Map, &sorted, &map))),
                 #[cfg(original)]
                 ("the crate, iterator", Box::new(|| build_of_crate(kind, Route::Iterator, &shuffled, &map))),
-                ("fst, ascending", Box::new(|| peers::fst_bytes(&set).len())),
+                ("fst 0.3, ascending", Box::new(|| peers::fst_bytes(&set).len())),
             ]
         };
         times.add(sets::grouped(count), best(rounds, count, &mut works()));
