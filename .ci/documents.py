@@ -45,7 +45,7 @@ LIMITS = {
     "docs/README.md": 190,
     "docs/SPEED.md": 1680,
     "docs/speed/fast.md": 510,
-    "docs/speed/tables.md": 1370,
+    "docs/speed/tables.md": 1400,
     "examples/README.md": 250,
     "release/README.md": 290,
     "rust/README.md": 401,
