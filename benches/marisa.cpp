@@ -8,14 +8,18 @@ struct Marisa {
     marisa::Agent agent;
 };
 
-// A trie of keys that are one after another, each of which ends at its number in `ends`.
-extern "C" Marisa *marisa_built(const char *keys, const std::size_t *ends, std::size_t count) {
+// A trie of keys that are one after another, each of which ends at its number in `ends`, by settings of marisa/base.h.
+extern "C" Marisa *marisa_built(const char *keys, const std::size_t *ends, std::size_t count, int settings) {
     marisa::Keyset set;
     for (std::size_t number = 0, at = 0; number < count; at = ends[number++])
         set.push_back(keys + at, ends[number] - at);
     Marisa *made = new Marisa;
-    made->trie.build(set);
+    made->trie.build(set, settings);
     return made;
+}
+
+extern "C" void marisa_freed(Marisa *made) {
+    delete made;
 }
 
 extern "C" std::size_t marisa_bytes(const Marisa *made) {

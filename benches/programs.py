@@ -8,7 +8,7 @@ import subprocess
 
 HERE = pathlib.Path(__file__).resolve().parent
 # these call the library, and the others plain Rust alone
-OF_THE_LIBRARY = {"calls", "search", "index", "reverse", "marisa", "places"}
+OF_THE_LIBRARY = {"calls", "search", "unions", "index", "reverse", "marisa", "places"}
 
 
 def library():

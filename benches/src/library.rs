@@ -99,6 +99,29 @@ pub fn index_is_valid(bytes: &[u8]) -> bool {
     call!(zerotrie_index_is_valid([bytes]))
 }
 
+/// The union of tries of one kind, as one of that kind. `room` has to hold it.
+pub fn combined(kind: Kind, tries: &[Vec<u8>], room: &mut [u8]) -> usize {
+    let (kind, mut len) = (number_of(kind), 0);
+    let tries: Vec<Trie> = tries.iter().map(|bytes| Trie(kind, all(bytes))).collect();
+    assert_eq!(call!(zerotrie_combine(0, 0, [tries], kind, [mut room], &mut len)), DONE);
+    len
+}
+
+/// Seals a trie as a file.
+pub fn sealed(kind: Kind, bytes: &[u8]) -> Vec<u8> {
+    let (mut file, mut len) = (vec![0; bytes.len() + 64], 0);
+    assert_eq!(call!(zerotrie_seal(number_of(kind), [bytes], [mut file], &mut len)), DONE);
+    file.truncate(len);
+    file
+}
+
+/// Opens a sealed file, which reads all of it, and returns the length of its trie.
+pub fn opened(file: &[u8]) -> usize {
+    let (mut kind, mut at, mut len) = (0, 0, 0);
+    assert_eq!(call!(zerotrie_open([file], &mut kind, &mut at, &mut len)), DONE);
+    len
+}
+
 /// Builds the dense table of values, each with a row and a column, and returns the length of its record.
 pub fn dense_build(rows: &Flat, columns: &Flat, values: &[usize], out: &mut [u8]) -> usize {
     let mut len = 0;

@@ -3,6 +3,10 @@
 use crate::sets::Set;
 use crate::table::{Contestants, all, turned};
 use std::collections::{BTreeMap, HashMap};
+use std::io::Write;
+
+/// The column of fst, with the version that Debian has.
+pub const FST: &str = "fst 0.3";
 
 /// The maps of a set, which own their keys, as those of a program do.
 pub struct Peers {
@@ -26,12 +30,23 @@ pub fn phf_of(set: &Set) -> phf::Map<&'static [u8], usize> {
     phf::Map { key: state.key, disps: state.disps.leak(), entries: entries.leak() }
 }
 
-pub fn fst_bytes(set: &Set) -> Vec<u8> {
-    let mut builder = fst::MapBuilder::memory();
+/// Builds the map of a set as it is written.
+pub fn fst_into<W: Write>(out: W, set: &Set) -> W {
+    let mut builder = fst::MapBuilder::new(out).unwrap();
     for (key, value) in set.pairs() {
         builder.insert(key, value as u64).unwrap();
     }
     builder.into_inner().unwrap()
+}
+
+/// How many bytes the table takes that the macro writes.
+pub fn phf_bytes(map: &phf::Map<&'static [u8], usize>) -> usize {
+    let keys: usize = map.keys().map(|key| key.len()).sum();
+    keys + size_of_val(&*map.entries) + size_of_val(&*map.disps)
+}
+
+pub fn fst_bytes(set: &Set) -> Vec<u8> {
+    fst_into(Vec::new(), set)
 }
 
 pub fn fst_of(set: &Set) -> fst::Map {
@@ -61,13 +76,13 @@ impl Peers {
             ("ahash", all(turns, keys, |key| self.ahash.get(key).copied())),
             ("fxhash", all(turns, keys, |key| self.fx.get(key).copied())),
             ("phf", all(turns, keys, |key| self.phf.get(key).copied())),
-            ("fst", all(turns, keys, |key| self.fst.get(key).map(|value| value as usize))),
+            (FST, all(turns, keys, |key| self.fst.get(key).map(|value| value as usize))),
         ]
     }
 
     /// Listings of all pairs that lend their keys, each this many times.
     pub fn listings<'a>(&'a self, turns: usize) -> Contestants<'a> {
         let ordered = || self.ordered.iter().map(|(key, value)| key.len().wrapping_add(*value)).fold(0, usize::wrapping_add);
-        vec![("BTreeMap", turned(turns, ordered)), ("fst", turned(turns, || fst_listed(&self.fst)))]
+        vec![("BTreeMap", turned(turns, ordered)), (FST, turned(turns, || fst_listed(&self.fst)))]
     }
 }

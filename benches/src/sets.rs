@@ -221,6 +221,12 @@ pub fn large() -> Vec<Set> {
     ]
 }
 
+/// Ids of 16 random bytes.
+fn random_ids(count: usize) -> Vec<Vec<u8>> {
+    let mut random = Random::new(83);
+    (0..count).map(|_| (0..16).map(|_| random.below(256) as u8).collect()).collect::<BTreeSet<_>>().into_iter().collect()
+}
+
 /// The made sets. Those of other bytes than ASCII are for the hashed kinds alone.
 fn made() -> Vec<Set> {
     let headers = HEADERS.iter().map(|name| name.as_bytes().to_vec()).collect();
@@ -231,6 +237,8 @@ fn made() -> Vec<Set> {
         Set::numbered("200,000 words", words(19, 200_000)),
         Set::numbered("1,000 long paths", paths()),
         Set::numbered("2,000 UTF-8 words", beyond_ascii(2_000)),
+        Set::numbered("10,000 random ids", random_ids(10_000)),
+        Set::numbered("100,000 integers", (100_000..200_000).map(|number| number.to_string().into_bytes()).collect()),
     ]
 }
 

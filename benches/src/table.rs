@@ -127,8 +127,10 @@ impl Table {
 
     fn cell(&self, row: &Row, column: &str, place: usize) -> String {
         let Some(value) = row.value(column) else { return String::from("–") };
+        // what another makes before is no time to be beside
+        let is_beside = self.has_shares && place > 0 && !column.starts_with("making");
         match row.values.first() {
-            Some((_, first)) if self.has_shares && place > 0 => format!("{} ({:.2})", number(value), first / value),
+            Some((_, first)) if is_beside => format!("{} ({:.2})", number(value), first / value),
             _ => number(value),
         }
     }

@@ -24,7 +24,7 @@ STRING_FUNCTIONS = ("String::new(", "String::from_str(", "String::from_utf8(")
 FALLIBLE_METHODS = {"push_str": "try_push_str"}
 METHODS_WITH_ALLOCATOR = {"collect": "collect_in"}
 # methods that end the program if there is no memory, and return no error; the second ones take no allocator either
-INFALLIBLE_METHODS = {"clone", "sort", "sort_by_key"}
+INFALLIBLE_METHODS = {"clone", "sort", "sort_by", "sort_by_key"}
 INFALLIBLE_WITH_ALLOCATOR = {"to_ascii_lowercase"}
 METHODS = {*FALLIBLE_METHODS, *METHODS_WITH_ALLOCATOR, *INFALLIBLE_METHODS, *INFALLIBLE_WITH_ALLOCATOR}
 # macros that stay, those that lose the runtime or the allocator with the error that they return for it, and those of the shim; what prints

@@ -104,7 +104,7 @@ def misused(words, why, tip=None):
     tips = re.findall(r'^  tip: (.*)$', ran.stderr.decode(), re.M)
     said(f'{words}: status {ran.returncode}, {ran.stdout!r}, {ran.stderr!r}', (ran.returncode, ran.stdout) == (2, b'')
          and ran.stderr.startswith(b'zerotrie: ' + why)
-         and len(tips) <= 1 and tip == next((it for it in tips if ' is an option of ' in it), None)
+         and len(tips) <= 1 and tip == next((it for it in tips if ' is an option of ' in it or it.startswith('search prints ')), None)
          and ran.stderr.decode().endswith('\n' + last) and ran.stderr.count(b' --help shows ') == 1)
 
 
@@ -129,9 +129,12 @@ def test_tips():
     for words, option, command in [
             (['list', path, '--glob', 'a*'], '--glob', 'search'), (['list', path, '--glob=a*'], '--glob', 'search'),
             (['get', path, 'amp', '--output', 'x'], '--output', 'build'), (['diff', path, path, '--edits', '1'], '--edits', 'search'),
-            (['build', '-', '-o', 'x', '--values', 'sum'], '--values', 'union'), (['verify', path, '--no-check'], '--no-check', 'get'),
+            (['build', '-', '-o', 'x', '--limit', '3'], '--limit', 'list'), (['verify', path, '--no-check'], '--no-check', 'get'),
             (['man', '--lang', 'c'], '--lang', 'code'), (['minus', path, '-o', 'x', '--lower-case'], '--lower-case', 'build')]:
         misused(words, f"unexpected argument '{option}' found".encode(), f'{option} is an option of {command}')
+    for option in ['--sorted', '-S']:
+        misused(['search', path, '-g', 'a*', option], f"unexpected argument '{option}' found".encode(),
+                "search prints in the order of the keys' bytes without it")
     # none of a letter, of what no command has, of an option that the command has, and behind `--`
     for words, why in [(['list', path, '-g', 'a*'], b"unexpected argument '-g' found"),
                        (['list', path, '--fuzy', 'a'], b"unexpected argument '--fuzy' found"),
@@ -200,7 +203,7 @@ def test_completions():
 
 
 def test_page():
-    """Runs what the page of the program shows: the session in front, and the lines of other tools, as far as these are there."""
+    """Runs what the page of the program shows: the session in front, and a build of columns."""
     text = (TOP / 'crates/zerotrie_cli/README.md').read_text()
     room = here('shown')
     os.mkdir(room)
@@ -211,16 +214,10 @@ def test_page():
     for command, output in re.findall(r'^\$ (.*)\n((?:[^$].*\n)*)', block, re.M):
         ran = subprocess.run(['sh', '-c', command], cwd=room, env=around, capture_output=True, text=True)
         said(f'the page shows {command!r}: {ran.stdout!r}, {ran.stderr!r}', ran.stdout == output and not ran.stderr)
-    for name, given in {'table.tsv': 'foo\tx\t1\nbar\ty\t2\n', 'table.csv': 'id,x,name\n1,x,foo\n2,y,bar\n',
-                        'table.json': '[{"name":"foo","id":1},{"name":"bar","id":2}]'}.items():
-        put(os.path.join(room, name), given)
-    lines = re.findall(r'^    ((?:cut|mlr|jq) .*?) > names.tsv', text, re.M)
-    said(f'the page shows {len(lines)} lines of other tools', len(lines) == 3)
-    for line in lines:
-        if shutil.which(line.split()[0]):
-            ran = subprocess.run(['sh', '-c', line + ' | zerotrie build - -o made && zerotrie list made'], cwd=room, env=around,
-                                 capture_output=True, text=True)
-            said(f'the page shows {line!r}: {ran.stdout!r}, {ran.stderr!r}', ran.stdout == 'bar\t2\nfoo\t1\n')
+    put(os.path.join(room, 'table.csv'), 'id,x,name\n1,x,foo\n2,y,bar\n')
+    [line] = re.findall(r'^    (zerotrie build .*)', text, re.M)
+    ran = subprocess.run(['sh', '-c', line + ' && zerotrie list names'], cwd=room, env=around, capture_output=True, text=True)
+    said(f'the page shows {line!r}: {ran.stdout!r}, {ran.stderr!r}', ran.stdout == 'bar\t2\nfoo\t1\n')
     if shutil.which('file'):
         magic = TOP / 'crates/zerotrie_cli/zerotrie.magic'
         ran = subprocess.run(['file', '-b', '-m', magic, 'names.trie'], cwd=room, capture_output=True, text=True)

@@ -50,10 +50,11 @@ def reports(name, path, words, held):
     headed = path.encode() + b':\n' + report
     holds(name + ', stats of two files', ['stats', path, path] + words, headed * 2, 0)
     holds(name + ', stats of two files, one of them missing', ['stats', path, path + ' ', path] + words,
-          headed + path.encode() + b' :\n' + headed, 3, path.encode() + b' : ')
+          headed * 2, 3, path.encode() + b' : ')
     holds(name + ', stats as text', ['stats', path, '--format', 'text'] + words, report, 0)
     ran = run(['stats', path, '--format', 'json', *words])
-    holds(name + ', stats of two files as JSON', ['stats', path, path, '-f', 'json'] + words, ran.stdout * 2, 0)
+    holds(name + ', stats of two files as JSON', ['stats', path, path, '-f', 'json'] + words,
+          (b'{"file":' + json.dumps(path).encode() + b',' + ran.stdout[1:]) * 2, 0)
     found = json.loads(ran.stdout)
     said(f'{name}, stats as JSON: {ran.stdout!r}', ran.returncode == 0 and ran.stdout.endswith(b'}\n')
          and (found['kind'], found['bytes'], found['pairs'], found['nodes']) == (held.kind, len(bare), len(pairs), len(all_nodes)))

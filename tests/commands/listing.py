@@ -145,6 +145,41 @@ def test_raw():
         holds(f'raw keys, {words}', [words[0], path, '--raw', *words[1:]], wanted, 0)
 
 
+    for words in [['list'], ['list', '-f', 'tsv'], ['search', '-g', 'b*'], ['search', '-z', 'd', '--distance']]:
+        raw = [] if '--distance' in words else ['--raw']
+        asks(f'raw keys, asked only, {words}', [words[0], path, '-q', *raw, *words[1:]], 0)
+    odd = made('no text', {b'\xff': 1}, ['--kind', 'hash'])
+    asks('a key that is not UTF-8, asked only as JSON', ['list', odd, '-q', '-f', 'json'], 0)
+
+
+def test_top():
+    """The pairs of the greatest values, of those of one value the first."""
+    counts = {key: hash_of % 7 for hash_of, key in enumerate(sorted(NAMES))}
+    path = made('counts', counts, ['--kind', 'simple'])
+    in_order = sorted(counts.items())
+    for words, has in [([], lambda key: True), (['-S'], lambda key: True), (['-p', 'su'], lambda key: key.startswith(b'su')),
+                       (['--from', 'b', '--below', 'c'], lambda key: b'b' <= key < b'c'), (['-p', 'zzz'], lambda key: False)]:
+        for most in [0, 1, 2, 5, 100, len(NAMES), 2 ** 64 - 1]:
+            wanted = sorted((pair for pair in in_order if has(pair[0])), key=lambda pair: -pair[1])[:most]
+            status = 0 if wanted else 1
+            holds(f'the top {most}, {words}', ['list', path, '--top', str(most), *words], lines_of(wanted), status)
+            holds(f'the top {most}, {words}, counted', ['list', path, '-c', '--top', str(most), *words], b'%d\n' % len(wanted), status)
+            asks(f'the top {most}, {words}, asked only', ['list', path, '-q', '--top', str(most), *words], status)
+            lists_json(f'the top {most}, {words}', path, wanted, ['--top', str(most), *words]) if wanted else None
+            if words and words != ['-S']:
+                holds(f'the top {most}, searched {words}', ['search', path, '--top', str(most), *words], lines_of(wanted), status)
+    words = made('words', {b'eh': 3, b'the': 1000, b'ten': 7, b'tea': 9, b'meh': 9}, [])
+    holds('the commonest word near another', ['search', words, '-z', 'teh', '--top', '2'], b'the\t1000\nmeh\t9\n', 0)
+    holds('the commonest words of two edits', ['search', words, '-z', 'teh', '-e', '2', '--top', '4', '--distance'],
+          b'the\t1000\t1\nmeh\t9\t1\ntea\t9\t1\nten\t7\t1\n', 0)
+    holds('the commonest words of a pattern', ['search', words, '-g', 't*', '--top', '2'], b'the\t1000\ntea\t9\n', 0)
+    holds('the top and a limit', ['list', words, '--top', '2', '-n', '1'], b'', 2, b'--top and --limit exclude each other')
+    holds('the top of no number', ['list', words, '--top', 'x'], b'', 2, b"'--top <N>'")
+    raw = made('raw top', {b'a\tb': 1, b'c': 2}, ['--kind', 'hash'])
+    holds('a raw key below the top', ['list', raw, '--raw', '--top', '1'], b'c\t2\n', 0)
+    holds('a raw key of the top', ['list', raw, '--raw', '--top', '2'], b'', 1, b'leave out --raw: a\\tb\n')
+
+
 def test_steers_nothing():
     """What is printed of keys and names has no byte that steers a terminal, and is read back."""
     keys = ['\x80', 'a\x9b31mb', '\xa0', '\u202a', 'a\u202eb', '\u2066\u2069', '\u2029', '\u202f', '\ufeff', 'a\ufeff', '\x7f', '\x1b[2J',

@@ -23,12 +23,14 @@ def prefixes(name, path, pairs, more):
     given = b''.join(k + b'\n' for k in texts)
     fronts = [[k[:end] for end in range(len(k) + 1) if k[:end] in pairs] for k in texts]
     holds(name + ', all prefixes', ['longest', path, '--all', '-'] + more,
-          b''.join(b'%d found\n' % len(found) + b''.join(escaped(f) + b'\t%d\n' % pairs[f] for f in found) if found else b'none\n'
-                   for found in fronts),
+          b''.join(b''.join(escaped(f) + b'\t%d\n' % pairs[f] for f in found) or b'none\n' for found in fronts),
           0 if all(fronts) else 1, given=given)
     ends = [[f for f in found if f == b'' or len(f) == len(k) or k[len(f):len(f) + 1] == b'.'] for found, k in zip(fronts, texts)]
     holds(name + ', longest at a dot', ['longest', path, '--at', '.', '-'] + more,
           b''.join(escaped(found[-1]) + b'\t%d\n' % pairs[found[-1]] if found else b'none\n' for found in ends),
+          0 if all(ends) else 1, given=given)
+    holds(name + ', all prefixes at a dot', ['longest', path, '--all', '--at', '.', '-'] + more,
+          b''.join(b''.join(escaped(f) + b'\t%d\n' % pairs[f] for f in found) or b'none\n' for found in ends),
           0 if all(ends) else 1, given=given)
 
 
@@ -41,6 +43,8 @@ def test_forms():
 def test_options():
     path, hyphens = good_file(), made('keys with hyphens', [(b'-x', 1), (b'-y', 2), (b'--', 3)])
     holds('no texts', ['longest', path], b'', 2, b'<TEXT>', b'amp\n')
-    holds('all and at', ['longest', path, 'a', '--all', '--at', '.'], b'', 2, b'exclude each other')
+    routes = made('routes', {b'': 1, b'com': 2, b'com.': 3, b'com.uk': 4, b'com.ukr': 5, b'com.uk.ac': 6})
+    holds('routes', ['longest', routes, 'com.uk.ac', 'com.ukx', '--all', '--at', '.'],
+          b'\t1\ncom\t2\ncom.uk\t4\ncom.uk.ac\t6\n\t1\ncom\t2\n', 0)
     holds('at two bytes', ['longest', path, 'a', '--at', 'ab'], b'', 2, b'--at asks for one byte')
     holds('a byte that is a hyphen', ['longest', hyphens, '--at=-', '--', '-x-a'], b'-x\t1\n', 0)

@@ -26,7 +26,7 @@ def test_records():
             ('raw csv', ['-f', 'csv', '--raw'], b'a,1\n', 2, b'--raw is for tsv'),
             ('a record of one field', ['--format', 'csv'], b'a,1\n"b\n",2\nc\n', 2, b'record 3: '),
             ('a later record without a number', ['--format', 'csv'], b'a,1\nb,c\n', 2, b'record 2: the value is no decimal number: "c"\n'),
-            ('a record of three fields', ['--format', 'csv'], b'a,1,2\n', 2, b'record 1: not two fields, a key and its value'),
+            ('a record of three fields', ['--format', 'csv'], b'a,1,2\n', 2, b'record 1: wrong number of fields: 3, not 2'),
             ('a quote that is not closed', ['--format', 'csv'], b'a,1\n"b,2\n', 2, b'record 2: ')]:
         refused(*row)
 
@@ -51,6 +51,26 @@ def test_headers():
         refused(*row)
     for words in [['-f', 'json'], ['-f', 'jsonl'], ['-f', 'lines']]:
         refused(f'a header of {words}', ['--header', *words], b'', 2, b'--header is for tsv and csv')
+
+
+def test_columns():
+    named = ['--key', 'k', '--value', 'v']
+    for row in [
+            ('a column that is not there', named, b'k\tw\n', 2, b'standard input: line 1: no column has this name: "v"\n'),
+            ('a column of csv that is not there', [*named, '-f', 'csv'], b'v,"k "\n', 2, b'record 1: no column has this name: "k"\n'),
+            ('a column that is there twice', named, b'v\tk\tk\n', 2, b'line 1: more than one column has this name: "k"\n'),
+            ('a column of csv that is there twice', [*named, '-f', 'csv'], b'v,k,w,v\n', 2, b'record 1: more than one column has this name: "v"\n'),
+            ('an empty header', named, b'\nv\tk\n', 2, b'line 1: no column has this name: "k"\n'),
+            ('a name with an escape', ['--key', 'a\tb', '--value', 'v'], b'a\\tb\tv\n', 2, b'no column has this name: "a\\tb"\n'),
+            ('a line with a field too few', named, b'k\tv\tw\na\t1\t\nb\t2\n', 2, b'line 3: wrong number of fields: 2, not 3\n'),
+            ('a record with a field too many', [*named, '-f', 'csv'], b'k,v\na,1\nb,2,\n', 2, b'record 3: wrong number of fields: 3, not 2\n'),
+            ('an empty line of columns', named, b'k\tv\n\n', 2, b'line 2: wrong number of fields: 0, not 2\n'),
+            ('a value of columns that is none', named, b'v\tk\n+1\ta\n', 2, b'line 2: the value has a sign: "+1"\n'),
+            ('a key of columns that is none', named, b'v\tk\n1\t\\q\n', 2, b'line 2: a backslash that begins no escape'),
+            ('a member that is not there', [*named, '-f', 'jsonl'], b'{"k":"a","v":1}\n{"key":"a","value":1}\n', 2, b'line 2: no JSON list'),
+            ('one name', ['--key', 'k'], b'', 2, b'--key and --value go together'),
+            ('names of json', [*named, '-f', 'json'], b'{}', 2, b'--key and --value are for tsv, csv and jsonl')]:
+        refused(*row)
 
 
 def test_json():

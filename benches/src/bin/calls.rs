@@ -9,6 +9,7 @@ use benches::sets::{self, Flat, Random, Set};
 use benches::table::{Contestants, Table, agreed, all, asked_by, best, turned};
 use benches::{Kind, by_type, walker};
 use std::collections::BTreeMap;
+use std::hint::black_box;
 use zerotrie::dense::{ZeroAsciiDenseSparse2dTrieBorrowed, ZeroAsciiDenseSparse2dTrieOwned};
 use zerotrie::rstd::alloc::Global;
 use zerotrie::zerotrie_core::PerfectByteHashMap;
@@ -244,17 +245,28 @@ fn cursors(sets: &[Set], asked: &Asked) -> Table {
     table
 }
 
+/// Validation, and the opening of a sealed file, which reads its checksum, beside another checksum and a copy.
 fn validation(sets: &[Set], asked: &Asked) -> Table {
-    let mut table = Table::plain("Validation, MB a second");
+    let mut table = Table::plain("Validation and opening, GB a second");
     for set in sets {
         for kind in asked.kinds_of(set) {
             let bytes = &library::built(kind, set.pairs());
             let turns = (200_000 / bytes.len()).max(1);
             let plain = move || by_type!(kind, zerotrie, Trie => Trie::from_bytes(bytes).is_well_formed()) as usize;
-            let mut contestants: Contestants<'_> =
-                vec![("here", turned(turns, || library::is_well_formed(kind, bytes) as usize)), ("plain Rust", turned(turns, plain))];
+            let (file, mut copy) = (&library::sealed(kind, bytes), bytes.clone());
+            let copied = move || {
+                copy.copy_from_slice(black_box(bytes));
+                black_box(&copy).len()
+            };
+            let mut contestants: Contestants<'_> = vec![
+                ("validation", turned(turns, || library::is_well_formed(kind, bytes) as usize)),
+                ("plain Rust", turned(turns, plain)),
+                ("opening", turned(turns, || library::opened(file))),
+                ("crc32fast", turned(turns, || crc32fast::hash(black_box(bytes)) as usize)),
+                ("memcpy", turned(turns, copied)),
+            ];
             let times = best(asked.rounds, turns * bytes.len(), &mut contestants);
-            table.add(row_of(set, kind), times.into_iter().map(|(name, time)| (name, 1000.0 / time)).collect());
+            table.add(row_of(set, kind), times.into_iter().map(|(name, time)| (name, 1.0 / time)).collect());
         }
     }
     table
@@ -294,7 +306,7 @@ fn builds(title: &str, sets: &[Set], asked: &Asked, is_sorted: bool) -> Table {
                 ("the crate", turned(turns, theirs)),
                 ("BTreeMap", turned(turns, || pairs.iter().copied().collect::<BTreeMap<_, _>>().len())),
             ];
-            contestants.extend(is_sorted.then(|| ("fst", turned(turns, || peers::fst_bytes(set).len()))));
+            contestants.extend(is_sorted.then(|| (peers::FST, turned(turns, || peers::fst_bytes(set).len()))));
             table.measure(row_of(set, kind), asked.rounds, turns * pairs.len(), contestants);
         }
     }

@@ -7,13 +7,13 @@ mod memory;
 use benches::asked::Asked;
 #[cfg(original)]
 use benches::original;
-use benches::peers::{self, owned};
+use benches::peers::{self, FST, owned};
 use benches::sets::{self, Random, Set};
-use benches::table::Table;
+use benches::table::{Contestants, Table, Work, best};
 use benches::{Kind, by_type, kinds_of};
 use std::collections::{BTreeMap, HashMap};
 use std::process::Command;
-use std::time::Instant;
+use zerotrie::index::ZeroIndex;
 
 /// The most bytes that the work holds at once, beside those that were held before it.
 fn peak_of(work: impl FnOnce()) -> usize {
@@ -28,16 +28,6 @@ fn held_by<M>(make: impl FnOnce() -> M) -> usize {
     let before = memory::held();
     let _map = make();
     memory::held() - before
-}
-
-/// How many keys a set has.
-fn keys(set: &Set) -> usize {
-    set.keys.len()
-}
-
-/// How many bytes the keys of a set have.
-fn bytes(set: &Set) -> usize {
-    set.keys.iter().map(Vec::len).sum()
 }
 
 type Pair<'a> = (&'a [u8], usize);
@@ -56,11 +46,11 @@ fn held(sets: &[Set]) -> Table {
         let kinds = kinds_of(&set.keys).into_iter().filter(|kind| matches!(kind, Kind::Simple | Kind::Hash));
         let mut values: Vec<(&str, usize)> = kinds.map(|kind| (kind.name(), bytes_of(kind, set).len())).collect();
         values.extend([
-            ("fst", peers::fst_bytes(set).len()),
-            ("phf", held_by(|| peers::phf_of(set))),
+            (FST, peers::fst_bytes(set).len()),
+            ("phf", peers::phf_bytes(&peers::phf_of(set))),
             ("BTreeMap", held_by(|| owned::<BTreeMap<_, _>>(set))),
             ("HashMap", held_by(|| owned::<HashMap<_, _>>(set))),
-            ("the keys alone", bytes(set)),
+            ("the keys alone", set.keys.iter().map(Vec::len).sum()),
         ]);
         let each = values.into_iter().map(|(name, bytes)| (name, bytes as f64 / set.keys.len() as f64)).collect();
         table.add(set.name.clone(), each);
@@ -87,7 +77,7 @@ fn shipped(sets: &[Set]) -> Table {
         let values: Vec<(&str, usize)> = vec![
             ("trie, numbered", smallest(&numbered)),
             ("trie, zeros", smallest(&zeros)),
-            ("fst, numbered", compressed(&peers::fst_bytes(&numbered))),
+            ("fst 0.3, numbered", compressed(&peers::fst_bytes(&numbered))),
             ("fst, zeros", compressed(&peers::fst_bytes(&zeros))),
             ("the keys as lines", compressed(&set.keys.join(&b'\n'))),
         ];
@@ -127,9 +117,9 @@ fn shuffled_pairs(set: &Set) -> Vec<(&[u8], usize)> {
     pairs
 }
 
-/// The peaks of builds, as shares of a number that each set has.
-fn peaks(title: &str, sets: &[Set], of: impl Fn(&Set) -> usize) -> Table {
-    let mut table = Table::of_shares(title);
+/// Bytes a key at the peaks of builds, by each kind and from each source.
+fn peaks(sets: &[Set]) -> Table {
+    let mut table = Table::of_shares("Bytes a key at the peak of a build");
     for set in sets {
         let sorted: Vec<_> = set.pairs().collect();
         let shuffled = shuffled_pairs(set);
@@ -141,7 +131,7 @@ fn peaks(title: &str, sets: &[Set], of: impl Fn(&Set) -> usize) -> Table {
                 ("iterator", Route::Iterator, &shuffled),
             ] {
                 let map = pairs.iter().copied().collect();
-                let each = |work: &dyn Fn() -> usize| peak_of(|| assert!(work() > 0)) as f64 / of(set) as f64;
+                let each = |work: &dyn Fn() -> usize| peak_of(|| assert!(work() > 0)) as f64 / set.keys.len() as f64;
                 let values = vec![
                     ("plain Rust", each(&|| build(kind, route, pairs, &map))),
                     #[cfg(original)]
@@ -154,44 +144,60 @@ fn peaks(title: &str, sets: &[Set], of: impl Fn(&Set) -> usize) -> Table {
     table
 }
 
-/// The best time of some runs, in nanoseconds, and the peak of one.
-fn timed(keys: usize, mut work: impl FnMut()) -> (f64, f64) {
-    let peak = peak_of(&mut work);
-    let mut best = f64::INFINITY;
-    for _ in 0..(2_000_000 / keys).clamp(3, 50) {
-        let start = Instant::now();
-        work();
-        best = best.min(start.elapsed().as_nanos() as f64);
+/// The peaks of large builds in the kind simple, beside fst, which needs not hold what it writes.
+fn large_peaks(sets: &[Set]) -> Table {
+    let mut table = Table::plain("Bytes at the peak of a build, of each byte of the keys");
+    for set in sets {
+        let sorted: Vec<_> = set.pairs().collect();
+        let (shuffled, map) = (shuffled_pairs(set), BTreeMap::new());
+        let works: Contestants<'_> = vec![
+            ("sorted slice", Box::new(|| build(Kind::Simple, Route::Slice, &sorted, &map))),
+            ("any order", Box::new(|| build(Kind::Simple, Route::Iterator, &shuffled, &map))),
+            ("an index, sorted", Box::new(|| ZeroIndex::try_from_sorted_slice(&sorted).unwrap().as_bytes().len())),
+            ("an index, any order", Box::new(|| ZeroIndex::try_from_iter(shuffled.iter().copied()).unwrap().as_bytes().len())),
+            ("fst 0.3, to memory", Box::new(|| peers::fst_bytes(set).len())),
+            (
+                "fst, to a file",
+                Box::new(|| {
+                    peers::fst_into(std::io::sink(), set);
+                    1
+                }),
+            ),
+        ];
+        let keys: usize = set.keys.iter().map(Vec::len).sum();
+        table.add(set.name.clone(), peaks_of(works, keys));
     }
-    (best / keys as f64, peak as f64 / keys as f64)
+    table
 }
 
-/// The builds that grow: their names, and what each takes for the pairs, which ascend, and for the same pairs shuffled.
-fn grown(kind: Kind, set: &Set) -> Vec<(&'static str, (f64, f64))> {
-    let sorted: Vec<_> = set.pairs().collect();
-    let shuffled = shuffled_pairs(set);
-    let (map, count) = (sorted.iter().copied().collect(), sorted.len());
-    vec![
-        ("sorted slice", timed(count, || assert!(build(kind, Route::Slice, &sorted, &map) > 0))),
-        ("ascending iterator", timed(count, || assert!(build(kind, Route::Iterator, &sorted, &map) > 0))),
-        ("iterator", timed(count, || assert!(build(kind, Route::Iterator, &shuffled, &map) > 0))),
-        #[cfg(original)]
-        ("the crate, map", timed(count, || assert!(build_of_crate(kind, Route::Map, &sorted, &map) > 0))),
-        #[cfg(original)]
-        ("the crate, iterator", timed(count, || assert!(build_of_crate(kind, Route::Iterator, &shuffled, &map) > 0))),
-        ("fst, ascending", timed(count, || assert!(!peers::fst_bytes(set).is_empty()))),
-    ]
+/// The peak of each build for one of this many items.
+fn peaks_of(works: Contestants<'_>, items: usize) -> Vec<(&'static str, f64)> {
+    let each = |mut work: Work<'_>| peak_of(|| assert!(work() > 0)) as f64 / items as f64;
+    works.into_iter().map(|(name, work)| (name, each(work))).collect()
 }
 
-/// Time and memory of builds from 1,000 to 1,000,000 made words.
-fn growth(kind: Kind) -> [Table; 2] {
+/// Time and memory of builds from 1,000 to 1,000,000 made words: of pairs that ascend, or of the same pairs shuffled.
+fn growth(kind: Kind, rounds: usize) -> [Table; 2] {
     let mut times = Table::plain(&format!("Builds of this many words, ns a key, {}", kind.name()));
     let mut peaks = Table::plain(&format!("Builds of this many words, bytes a key at the peak, {}", kind.name()));
     for count in [1_000, 3_000, 10_000, 30_000, 100_000, 300_000, 1_000_000] {
         let set = Set::numbered("words", sets::words(29, count));
-        let grown = grown(kind, &set);
-        times.add(sets::grouped(count), grown.iter().map(|(name, (time, _))| (*name, *time)).collect());
-        peaks.add(sets::grouped(count), grown.iter().map(|(name, (_, peak))| (*name, *peak)).collect());
+        let sorted: Vec<_> = set.pairs().collect();
+        let (shuffled, map) = (shuffled_pairs(&set), sorted.iter().copied().collect());
+        let works = || -> Contestants<'_> {
+            vec![
+                ("sorted slice", Box::new(|| build(kind, Route::Slice, &sorted, &map))),
+                ("ascending iterator", Box::new(|| build(kind, Route::Iterator, &sorted, &map))),
+                ("iterator", Box::new(|| build(kind, Route::Iterator, &shuffled, &map))),
+                #[cfg(original)]
+                ("the crate, map", Box::new(|| build_of_crate(kind, Route::Map, &sorted, &map))),
+                #[cfg(original)]
+                ("the crate, iterator", Box::new(|| build_of_crate(kind, Route::Iterator, &shuffled, &map))),
+                ("fst 0.3, ascending", Box::new(|| peers::fst_bytes(&set).len())),
+            ]
+        };
+        times.add(sets::grouped(count), best(rounds, count, &mut works()));
+        peaks.add(sets::grouped(count), peaks_of(works(), count));
     }
     [times, peaks]
 }
@@ -200,19 +206,12 @@ fn main() {
     let asked = Asked::begin();
     let sets = &asked.sets();
     type Measure<'a> = Box<dyn Fn() -> Vec<Table> + 'a>;
-    let parts: [(&str, Measure<'_>); 4] = [
+    let parts: [(&str, Measure<'_>); 5] = [
         ("held", Box::new(|| vec![held(sets)])),
-        (
-            "peaks",
-            Box::new(|| {
-                vec![
-                    peaks("Bytes a key at the peak of a build", sets, keys),
-                    peaks("Bytes at the peak of a build, of each byte of the keys", &asked.large_sets(), bytes),
-                ]
-            }),
-        ),
+        ("peaks", Box::new(|| vec![peaks(sets)])),
+        ("large", Box::new(|| vec![large_peaks(&asked.large_sets())])),
         ("shipped", Box::new(|| vec![shipped(sets)])),
-        ("growth", Box::new(|| growth(Kind::Simple).into())),
+        ("growth", Box::new(|| growth(Kind::Simple, asked.rounds).into())),
     ];
     for (_, measure) in parts.iter().filter(|(part, _)| asked.wants(part)) {
         measure().iter().for_each(Table::print);

@@ -27,7 +27,8 @@ fn refused(tries: usize, mut set: impl FnMut() -> BTreeSet<Vec<u8>>) -> usize {
 fn main() {
     let mut random = Random::new(61);
     println!("| random keys | refused, of 4 bytes | of 8 | of 16 |\n|--:|--:|--:|--:|");
-    for (count, tries) in [(100, 100), (1_000, 100), (10_000, 20), (100_000, 4), (1_000_000, 1)] {
+    for count in [100, 200, 300, 500, 1_000, 2_000, 3_000, 10_000, 30_000, 60_000, 80_000, 100_000, 300_000, 600_000, 1_000_000] {
+        let tries = (600_000 / count).clamp(4, 100);
         let cells = [4, 8, 16].map(|len| format!("{} of {tries}", refused(tries, || keys(&mut random, count, len))));
         println!("| {} | {} |", grouped(count), cells.join(" | "));
     }

@@ -1,20 +1,22 @@
-//! Times searches in the words of benches/data, or the lines of a file, beside a scan of the sorted keys and fst with the same automata; sorted
-//! listings beside fst and a plain one; and intersections beside look-ups.
+//! Times searches in the words of benches/data, or the lines of a file, beside a scan of the sorted keys and fst, by what it has itself or
+//! by the table of an automaton, which is made once; sorted listings beside fst and a plain one; and intersections beside look-ups.
 
 use benches::asked::Asked;
 use benches::library::{self, Found, Question, Rooms};
-use benches::peers::fst_of;
+use benches::peers::{FST, fst_of};
 use benches::sets::Set;
 use benches::table::{Contestants, Table, agreed, best, turned};
 use benches::{Kind, by_type, kinds_of};
-use fst::{IntoStreamer, Streamer};
+use fst::automaton::Str;
+use fst::{Automaton as _, IntoStreamer, Streamer};
+use fxhash::FxHashMap;
 use std::ops::Bound;
 use zerotrie::search::{Glob, KeyRange, KeysOf, Levenshtein, StartsWith, Subsequence};
 use zerotrie::sets::PairStream;
 use zerotrie::{Pairs, ZeroTriePerfectHash, ZeroTrieSimpleAscii};
 
 /// How often an intersection is made in a round.
-const TURNS: usize = 5_000;
+const TURNS: usize = 500;
 
 /// What is listed in order: all keys, and some hundred and some thousand.
 const RANGES: [(&str, &str); 3] = [("", ""), ("interc", "interl"), ("mm", "mp")];
@@ -50,14 +52,13 @@ fn name_of(question: &Question) -> String {
     }
 }
 
-/// The automaton of a question for a scan and for fst.
-fn automaton_of(question: &Question) -> Automaton {
+/// The automaton of a question. Beginnings and ranges need none.
+fn automaton_of(question: &Question) -> Option<Automaton> {
     match *question {
-        Question::Prefix(text) => Automaton::Glob(items(text).chain([Item::Any]).collect()),
-        Question::Range(from, end) => Automaton::Range(from.as_bytes(), end.as_bytes()),
-        Question::Subsequence(text) => Automaton::Glob(items(text).flat_map(|item| [Item::Any, item]).chain([Item::Any]).collect()),
-        Question::Glob(pattern) => Automaton::Glob(items(pattern).collect()),
-        Question::Near(word, edits) => Automaton::Near(word.as_bytes(), edits),
+        Question::Prefix(_) | Question::Range(..) => None,
+        Question::Subsequence(text) => Some(Automaton::Glob(items(text).flat_map(|item| [Item::Any, item]).chain([Item::Any]).collect())),
+        Question::Glob(pattern) => Some(Automaton::Glob(items(pattern).collect())),
+        Question::Near(word, edits) => Some(Automaton::Near(word.as_bytes(), edits)),
     }
 }
 
@@ -77,19 +78,16 @@ fn items(pattern: &'static str) -> impl Iterator<Item = Item> {
     })
 }
 
-/// An automaton whose state is a set of places in a pattern, a row of distances, or what is left of two bounds.
+/// An automaton whose state is a set of places in a pattern, or a row of distances up to one more than the edits.
 enum Automaton {
     Glob(Vec<Item>),
-    Range(&'static [u8], &'static [u8]),
     Near(&'static [u8], u8),
 }
 
-#[derive(Clone)]
+#[derive(Clone, PartialEq, Eq, Hash)]
 enum State {
     Places(u64),
     Row([u8; 32]),
-    Bounds(Option<&'static [u8]>, Option<&'static [u8]>),
-    Dead,
 }
 
 impl Automaton {
@@ -103,11 +101,22 @@ impl Automaton {
         places
     }
 
+    /// The bytes that it tells apart, and `OTHER`.
+    fn letters(&self) -> Vec<u8> {
+        let mut letters: Vec<u8> = match self {
+            Automaton::Glob(items) => items.iter().map(|item| if let Item::Byte(byte) = item { *byte } else { OTHER }).collect(),
+            Automaton::Near(word, _) => word.to_vec(),
+        };
+        letters.push(OTHER);
+        letters.sort();
+        letters.dedup();
+        letters
+    }
+
     fn start(&self) -> State {
         match self {
             Automaton::Glob(items) => State::Places(Automaton::spread(items, 1)),
-            Automaton::Range(from, end) => State::Bounds(Some(from), Some(end)),
-            Automaton::Near(..) => State::Row(std::array::from_fn(|place| place as u8)),
+            Automaton::Near(_, edits) => State::Row(std::array::from_fn(|place| (place as u8).min(edits + 1))),
         }
     }
 
@@ -115,17 +124,14 @@ impl Automaton {
         match (self, state) {
             (Automaton::Glob(items), State::Places(places)) => places >> items.len() & 1 == 1,
             (Automaton::Near(word, edits), State::Row(row)) => row[word.len()] <= *edits,
-            (_, State::Bounds(from, end)) => from.is_none_or(<[u8]>::is_empty) && end.is_none_or(|end| !end.is_empty()),
             _ => false,
         }
     }
 
     fn can_match(&self, state: &State) -> bool {
         match (self, state) {
-            (_, State::Places(places)) => *places != 0,
             (Automaton::Near(word, edits), State::Row(row)) => row[..=word.len()].iter().any(|cell| cell <= edits),
-            (_, State::Bounds(..)) => true,
-            _ => false,
+            _ => *state != State::Places(0),
         }
     }
 
@@ -144,29 +150,63 @@ impl Automaton {
                 }
                 State::Places(Automaton::spread(items, next))
             }
-            (Automaton::Near(word, _), State::Row(row)) => {
-                let mut next = [row[0] + 1; 32];
+            (Automaton::Near(word, edits), State::Row(row)) => {
+                let mut next = [(row[0] + 1).min(edits + 1); 32];
                 for (place, wanted) in word.iter().enumerate() {
-                    next[place + 1] = (row[place] + u8::from(*wanted != byte)).min(row[place + 1] + 1).min(next[place] + 1);
+                    let changed = row[place] + u8::from(*wanted != byte);
+                    next[place + 1] = changed.min(row[place + 1] + 1).min(next[place] + 1).min(edits + 1);
                 }
                 State::Row(next)
             }
-            (_, State::Bounds(from, end)) => {
-                let from = match from.and_then(<[u8]>::split_first) {
-                    Some((first, _)) if byte < *first => return State::Dead,
-                    Some((first, rest)) if byte == *first => Some(rest),
-                    _ => None,
-                };
-                let end = match end.map(<[u8]>::split_first) {
-                    None => None,
-                    Some(Some((first, _))) if byte < *first => None,
-                    Some(Some((first, rest))) if byte == *first => Some(rest),
-                    _ => return State::Dead,
-                };
-                State::Bounds(from, end)
-            }
-            _ => State::Dead,
+            _ => State::Places(0),
         }
+    }
+}
+
+/// A byte in no pattern, which stands for all that are in none. It is the first of the letters.
+const OTHER: u8 = 0;
+
+/// An automaton as a table of all its states, for a scan and for fst: a step is one read. It begins in state 1, and from 0 nothing is accepted.
+struct Dfa {
+    /// The number of each byte among the letters.
+    classes: [u8; 256],
+    letters: usize,
+    steps: Vec<u16>,
+    is_match: Vec<bool>,
+}
+
+impl Dfa {
+    fn of(automaton: &Automaton) -> Dfa {
+        let letters = automaton.letters();
+        let mut dfa = Dfa { classes: [0; 256], letters: letters.len(), steps: vec![0; letters.len()], is_match: vec![false] };
+        for (letter, class) in letters.iter().zip(0..) {
+            dfa.classes[usize::from(*letter)] = class;
+        }
+        let mut states = vec![automaton.start()];
+        let mut numbers: FxHashMap<State, u16> = states.iter().cloned().zip(1..).collect();
+        while let Some(state) = states.get(dfa.is_match.len() - 1).cloned() {
+            dfa.is_match.push(automaton.is_match(&state));
+            for letter in &letters {
+                let next = automaton.step(&state, *letter);
+                let number = automaton.can_match(&next).then(|| {
+                    *numbers.entry(next).or_insert_with_key(|next| {
+                        states.push(next.clone());
+                        states.len() as u16
+                    })
+                });
+                dfa.steps.push(number.unwrap_or(0));
+            }
+        }
+        dfa
+    }
+
+    fn step(&self, state: usize, byte: u8) -> usize {
+        self.steps[state * self.letters + usize::from(self.classes[usize::from(byte)])].into()
+    }
+
+    fn accepts(&self, key: &[u8]) -> bool {
+        let end = key.iter().try_fold(1, |state, byte| Some(self.step(state, *byte)).filter(|state| *state != 0));
+        end.is_some_and(|state| self.is_match[state])
     }
 }
 
@@ -178,19 +218,19 @@ fn distance(automaton: &Automaton, key: &[u8]) -> u8 {
     }
 }
 
-impl fst::Automaton for &Automaton {
-    type State = State;
-    fn start(&self) -> State {
-        Automaton::start(self)
+impl fst::Automaton for Dfa {
+    type State = usize;
+    fn start(&self) -> usize {
+        1
     }
-    fn is_match(&self, state: &State) -> bool {
-        Automaton::is_match(self, state)
+    fn is_match(&self, state: &usize) -> bool {
+        self.is_match[*state]
     }
-    fn can_match(&self, state: &State) -> bool {
-        Automaton::can_match(self, state)
+    fn can_match(&self, state: &usize) -> bool {
+        *state != 0
     }
-    fn accept(&self, state: &State, byte: u8) -> State {
-        Automaton::step(self, state, byte)
+    fn accept(&self, state: &usize, byte: u8) -> usize {
+        self.step(*state, byte)
     }
 }
 
@@ -235,19 +275,13 @@ fn nearest_by_plain_rust(kind: Kind, bytes: &[u8], word: &str, edits: u8) -> usi
     by_type!(kind, zerotrie, Trie => in_order(Trie::from_bytes(bytes).nearest(Levenshtein::new(word.as_bytes(), edits).unwrap()).values()))
 }
 
-fn is_accepted(automaton: &Automaton, key: &[u8]) -> bool {
-    let mut state = automaton.start();
-    for byte in key {
-        state = automaton.step(&state, *byte);
-        if !automaton.can_match(&state) {
-            return false;
-        }
-    }
-    automaton.is_match(&state)
-}
-
-fn scanned(set: &Set, automaton: &Automaton) -> usize {
-    summed(set.pairs().filter(|(key, _)| is_accepted(automaton, key)).map(|(_, value)| value))
+fn scanned(set: &Set, question: &Question, dfa: Option<&Dfa>) -> usize {
+    let is_wanted = |key: &[u8]| match *question {
+        Question::Prefix(text) => key.starts_with(text.as_bytes()),
+        Question::Range(from, to) => from.as_bytes() <= key && key < to.as_bytes(),
+        _ => dfa.is_some_and(|dfa| dfa.accepts(key)),
+    };
+    summed(set.pairs().filter(|(key, _)| is_wanted(key)).map(|(_, value)| value))
 }
 
 /// The sum of a search of fst.
@@ -267,9 +301,20 @@ fn fst_range(map: &fst::Map, (from, to): (&str, &str)) -> usize {
     fst_sum!(if to.is_empty() { range } else { range.lt(to) })
 }
 
+/// A search by what fst has itself, or else by a table.
+fn fst_found(map: &fst::Map, question: &Question, dfa: Option<&Dfa>) -> usize {
+    match (*question, dfa) {
+        (Question::Range(from, to), _) => fst_range(map, (from, to)),
+        (Question::Prefix(text), _) => fst_sum!(map.search(Str::new(text).starts_with())),
+        (Question::Subsequence(letters), _) => fst_sum!(map.search(fst::automaton::Subsequence::new(letters))),
+        (_, Some(dfa)) => fst_sum!(map.search(dfa)),
+        (_, None) => 0,
+    }
+}
+
 /// The nearest keys first by fst, which has no such call: those that a search finds are measured and sorted.
-fn fst_nearest(map: &fst::Map, automaton: &Automaton) -> usize {
-    let mut found = map.search(automaton).into_stream().into_byte_vec();
+fn fst_nearest(map: &fst::Map, automaton: &Automaton, dfa: &Dfa) -> usize {
+    let mut found = map.search(dfa).into_stream().into_byte_vec();
     found.sort_by_cached_key(|(key, _)| distance(automaton, key));
     in_order(found.into_iter().map(|(_, value)| value as usize))
 }
@@ -280,6 +325,16 @@ fn fst_common(map: &fst::Map, other: &fst::Map) -> usize {
     let mut sum = 0;
     while let Some((_, values)) = found.next() {
         sum += values[0].value as usize + (1 << 44);
+    }
+    sum
+}
+
+/// The same by a look-up of each key of the second.
+fn fst_looked_up(map: &fst::Map, other: &fst::Map) -> usize {
+    let mut keys = other.stream();
+    let mut sum = 0;
+    while let Some((key, _)) = keys.next() {
+        sum += map.get(key).map_or(0, |value| value as usize + (1 << 44));
     }
     sum
 }
@@ -295,16 +350,23 @@ fn searches(set: &Set, rounds: usize) -> Table {
     let map = fst_of(set);
     for question in &QUESTIONS {
         let automaton = automaton_of(question);
+        let dfa = &automaton.as_ref().map(Dfa::of);
         for (kind, bytes) in &tries_of(set) {
             let mut rooms = Rooms::default();
             let mut contestants: Contestants<'_> = vec![
                 ("here", Box::new(|| sum_of(rooms.searched(*kind, bytes, *question)))),
                 ("plain Rust", Box::new(|| by_plain_rust(*kind, bytes, question))),
-                ("a scan", Box::new(|| scanned(set, &automaton))),
-                ("`fst`", Box::new(|| fst_sum!(map.search(&automaton)))),
+                (FST, Box::new(|| fst_found(&map, question, dfa.as_ref()))),
+                ("a scan", Box::new(|| scanned(set, question, dfa.as_ref()))),
             ];
             let found = agreed(&mut contestants, &name_of(question)) >> 44;
-            table.measure(format!("{}, {}: {found}", name_of(question), kind.name()), rounds, 1000, contestants);
+            // by itself, as it goes over all keys, and so takes from the cache what the others read
+            let scan = best(rounds, 1000, &mut vec![contestants.pop().unwrap()]);
+            if let Some(automaton) = &automaton {
+                contestants.push(("making its DFA", Box::new(|| Dfa::of(automaton).steps.len())));
+            }
+            let values = best(rounds, 1000, &mut contestants).into_iter().chain(scan).collect();
+            table.add(format!("{}, {}: {found}", name_of(question), kind.name()), values);
         }
     }
     nearest(&mut table, set, &map, rounds);
@@ -316,13 +378,14 @@ fn nearest(table: &mut Table, set: &Set, map: &fst::Map, rounds: usize) {
     const WORD: &str = "example";
     for edits in 1..=3 {
         let automaton = Automaton::Near(WORD.as_bytes(), edits);
+        let dfa = Dfa::of(&automaton);
         let row = format!("nearest, distance {edits} of {WORD}");
         for (kind, bytes) in &tries_of(set) {
             let mut rooms = Rooms::default();
             let mut contestants: Contestants<'_> = vec![
                 ("here", Box::new(|| in_order(rooms.nearest(*kind, bytes, WORD, edits).iter().copied()))),
                 ("plain Rust", Box::new(|| nearest_by_plain_rust(*kind, bytes, WORD, edits))),
-                ("`fst`", Box::new(|| fst_nearest(map, &automaton))),
+                (FST, Box::new(|| fst_nearest(map, &automaton, &dfa))),
             ];
             let found = agreed(&mut contestants, &row) >> 44;
             table.measure(format!("{row}, {}: {found}", kind.name()), rounds, 1000, contestants);
@@ -340,7 +403,7 @@ fn sorted_listings(set: &Set, rounds: usize) -> Table {
             let mut contestants: Contestants<'_> = vec![
                 ("here", Box::new(|| sum_of(rooms.sorted(*kind, bytes, from.as_bytes(), to.as_bytes())))),
                 ("plain Rust", Box::new(by_plain_rust)),
-                ("`fst`", Box::new(|| fst_range(&map, (from, to)))),
+                (FST, Box::new(|| fst_range(&map, (from, to)))),
             ];
             if to.is_empty() {
                 contestants.push(("a plain one", Box::new(|| sum_of(others.listed(*kind, bytes, b"")))));
@@ -385,7 +448,8 @@ fn intersections(set: &Set, rounds: usize) -> Table {
             let mut contestants: Contestants<'_> = vec![
                 ("plain Rust", Box::new(|| common(*kind, first, second))),
                 ("look-ups of the thousandth", Box::new(|| looked_up(*kind, thousandth, bytes))),
-                ("`fst`", Box::new(|| fst_common(&map, &few_map))),
+                ("fst 0.3, look-ups", Box::new(|| fst_looked_up(&map, &few_map))),
+                (FST, Box::new(|| fst_common(&map, &few_map))),
             ];
             let found = agreed(&mut contestants, name) >> 44;
             // fst goes over all keys of both, so that one turn of it is enough

@@ -10,7 +10,7 @@ use std::os::unix::fs::FileTypeExt;
 use std::process::ExitCode;
 use std::{env, fs, io};
 use zerotrie_files::{Noted, Store, SystemDisk};
-use zerotrie_run::{Command, Place, Status, run};
+use zerotrie_run::{Command, Place, Status, run, run_each};
 use zerotrie_sealed::begins_sealed;
 use zerotrie_words::{Misuse, Reply, Request};
 
@@ -212,32 +212,17 @@ fn obey_for(rt: &HostRuntime, request: &Request<'_>, name: &str, file: usize) ->
     if let Some(path) = device_in(rt, &command) {
         return refuse_device(rt, path);
     }
-    if let Some(name) = request.heading(file) {
-        // if this can't be written, what is printed next can't, and says so
-        let _ = println!(rt; "{name}:");
-    }
     run_here(rt, request, command)
 }
 
-/// Does what the words of the command line ask, for one file after the other, and ends as the worst of
-/// these runs does. Words that are wrong are told once.
+/// Does what the words of the command line ask, for one file after the other.
 fn obey(rt: &HostRuntime, words: &[String]) -> Status {
     let request = match Request::read(rt.alloc(), words) {
         Ok(request) => request,
         Err(reply) => return say(rt, &reply),
     };
     let name = words.get(1).map_or("", |word| word.as_str());
-    let mut worst = Status::Done;
-    for file in 0..request.files() {
-        let status = obey_for(rt, &request, name, file);
-        if status.number() > worst.number() {
-            worst = status;
-        }
-        if worst == Status::BadUsage || worst == Status::Closed {
-            return worst;
-        }
-    }
-    worst
+    run_each(request.files(), |file| obey_for(rt, &request, name, file))
 }
 
 /// Returns the words that the program was called with.

@@ -123,17 +123,21 @@ IsFound held Stream = held ≢ None
 abbrev pub IsFront : List ℕ → List ℕ → Story → Type 0
 IsFront path front known = (bytes : List ℕ) × (known.now path ≡ Some bytes) × (front ≡ take 8 bytes)
 
--- why a file is not read: there is none, or it is out of memory
-abbrev pub IsUnread : List ℕ → Story → Error → Type 0
-IsUnread path known e = (known.now path ≡ None) ⊎ IsOutOfMemory e
+-- the file of the path is open, and it is known what it has
+abbrev pub IsOpen : (path : List ℕ) → (held : Option (List ℕ)) → Story → Type 0
+IsOpen path held known = (bytes : List ℕ) × (known.now path ≡ Some bytes) × (held ≡ Some bytes)
 
--- these are as many bytes of the file from the place on
-abbrev pub IsPartOfFile : List ℕ → ℕ → List ℕ → Story → Type 0
-IsPartOfFile path place part known = (bytes : List ℕ) × (known.now path ≡ Some bytes) × (part ≡ take (length part) (drop place bytes))
+-- why a file is not opened: there is none, or it is out of memory
+abbrev pub IsUnread : List ℕ → Error → Story → Type 0
+IsUnread path e known = (known.now path ≡ None) ⊎ IsOutOfMemory e
 
--- why this many bytes of a file are not read from the place on: it has fewer, there is none, or it is out of memory
-abbrev pub IsPartUnread : List ℕ → ℕ → ℕ → Story → Error → Type 0
-IsPartUnread path place count known e = IsUnread path known e ⊎ ((bytes : List ℕ) × (known.now path ≡ Some bytes) × (length bytes < place + count))
+-- these are as many of the bytes from the place on
+abbrev pub IsPartFrom : (place : ℕ) → (part bytes : List ℕ) → Type 0
+IsPartFrom place part bytes = part ≡ take (length part) (drop place bytes)
+
+-- why this many of the bytes are not read from the place on: they are fewer, or it is out of memory
+abbrev pub IsPartUnread : (place count : ℕ) → Error → (bytes : List ℕ) → Type 0
+IsPartUnread place count e bytes = (length bytes < place + count) ⊎ IsOutOfMemory e
 
 -- there is no stream: it fails, and no file changes
 abbrev pub HasNoStream : {T E : Type 0} → Result T E → Story → Story → Type 0

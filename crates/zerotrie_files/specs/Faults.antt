@@ -1,5 +1,5 @@
 -- What failed, and what clauses see of files and streams that note it.
-use Rattle.std.specs.Prelude.{◌≡◌, ◌⊎◌, Bool, true, Result, Ok, Err}
+use Rattle.std.specs.Prelude.{◌≡◌, ◌⊎◌, ℕ, Bool, true, Result, Ok, Err}
 use Rattle.std.specs.IoError.{error_kind}
 use Rattle.std.specs.declared.io.Error.{Error}
 use Rattle.std.specs.declared.io.ErrorKind.TheVariants as kind
@@ -29,9 +29,10 @@ pub record Watched (T : Type 0) : Type 0 where
   pub failed : Bool
   pub closed : Bool
 
--- a disk, whether some read and some replacement on it failed, and whether a replacement did as whoever reads has closed the pipe
+-- a disk, how many of its files were opened to be read, whether some read and some replacement on it failed, and whether a replacement did as whoever reads has closed the pipe
 pub record Files (D : Type 0) : Type 0 where
   pub disk : D
+  pub opened : ℕ
   pub unread : Bool
   pub unwritten : Bool
   pub closed : Bool

@@ -6,10 +6,35 @@ ghost use Rattle.zerotrie_files.specs.Stores.{names_open_file};
 ghost use Rattle.std.specs.declared.io.Error.{Error};
 ghost use Rattle.zerotrie_files.specs.declared.found.Found.{Found};
 ghost use Rattle.zerotrie_files.specs.Deeds.{Deed, Did, DoesOrFails, Gets, filled, moved};
-ghost use Rattle.zerotrie_files.specs.Disks.{Story, Known, Stays, IsFound, IsFront, IsUnread, IsPartOfFile, IsPartUnread, Makes, Fills, Renames, Removes, RemovesHeld, HasNoStream};
+ghost use Rattle.zerotrie_files.specs.Disks.{Story, Known, Stays, IsFound, IsFront, IsOpen, IsUnread, IsPartFrom, IsPartUnread, Makes, Fills, Renames, Removes, RemovesHeld, HasNoStream};
+ghost use Rattle.zerotrie_files.specs.Faults.{IsOutOfMemory};
 
 use crate::found::{Found, Mode};
+use std::alloc::Global;
 use std::io;
+
+/// A file that is open, to be read at places and then as a whole.
+pub trait OpenFile {
+    /// The bytes that it has. `None` says nothing of them.
+    ghost held: { Self → Option (List ℕ) };
+
+    /// The errors that its calls return.
+    ghost is_fault: { Error → Type 0 };
+
+    /// Fills the room with its bytes from this place on. A file that has fewer is an error, and so is a
+    /// stream, of which nothing is read.
+    fn read_part(&self, place: u64, room: &mut [u8]) -> io::Result<()>
+        ensures part { IfOk result (λ _. IfSome (held self.now) (IsPartFrom place room.new)) }
+        ensures missing { IfErr result (λ e.
+            IfSome (held self.now) (IsPartUnread place (length room.old) e)) }
+        ensures fault { IfErr result is_fault };
+
+    /// Reads all of its bytes.
+    fn read_all(self, alloc: Global) -> io::Result<Vec<u8>>
+        ensures all { IfOk result (λ bytes. IfSome (held self) (λ known. bytes.items ≡ known)) }
+        ensures missing { IfErr result (λ e. IfSome (held self) (λ _. IsOutOfMemory e)) }
+        ensures fault { IfErr result is_fault };
+}
 
 /// Where files are read, written, renamed and removed.
 pub trait Disk {
@@ -37,21 +62,15 @@ pub trait Disk {
     /// Whether the file of a path can be written.
     ghost is_writable: { Self → List ℕ → Type 0 };
 
-    /// Reads the file of a path.
-    fn read(&self, path: &str) -> io::Result<Vec<u8>>
-        ensures held { IfOk result (λ bytes.
-            IfSome (story self.now) (λ known. known.now path.now ≡ Some bytes.items)) }
-        ensures missing { IfErr result (λ e.
-            IfSome (story self.now) (λ known. IsUnread path.now known e)) }
-        ensures fault { IfErr result is_fault };
+    /// An open file.
+    type File: OpenFile + Drop;
 
-    /// Fills the room with the bytes of the file of a path from this place on. A file that has fewer
-    /// is an error.
-    fn read_at(&self, path: &str, place: u64, room: &mut [u8]) -> io::Result<()>
-        ensures part { IfOk result (λ _.
-            IfSome (story self.now) (IsPartOfFile path.now place room.new)) }
-        ensures missing { IfErr result (λ e.
-            IfSome (story self.now) (λ known. IsPartUnread path.now place (length room.old) known e)) }
+    /// Opens the file of a path to be read. Nothing changes; but who has only lent the disk opens none.
+    fn open(&mut self, path: &str) -> io::Result<Self::File>
+        ensures same { self.new ≡ self.old }
+        ensures held { IfOk result (λ file.
+            IfSome (story self.old) (IsOpen path.now (Self.File.held file))) }
+        ensures missing { IfErr result (λ e. IfSome (story self.old) (IsUnread path.now e)) }
         ensures fault { IfErr result is_fault };
 
     /// Returns what a path leads to, by whatever links. A link to nothing is an error.

@@ -2,8 +2,9 @@
 
 ghost use Rattle.std.specs.Prelude.{None};
 
-use crate::disk::Disk;
+use crate::disk::{Disk, OpenFile};
 use crate::found::{Found, Mode};
+use std::alloc::Global;
 use std::fs::{File, Metadata, OpenOptions, Permissions, TryLockError};
 use std::io::{ErrorKind, Read, Write};
 use std::os::unix::fs::{FileExt, MetadataExt, PermissionsExt};
@@ -66,6 +67,25 @@ fn fill(file: &mut File, mode: Option<Mode>, bytes: &[u8]) -> io::Result<()> {
     file.sync_all()
 }
 
+impl OpenFile for File {
+    ghost held = { λ _. None };
+
+    ghost is_fault = { λ _. Unit {0} };
+
+    fn read_part(&self, place: u64, room: &mut [u8]) -> io::Result<()> {
+        self.read_exact_at(room, place)
+    }
+
+    fn read_all(self, alloc: Global) -> io::Result<Vec<u8>> {
+        let mut file = self;
+        let mut bytes = Vec::new(alloc);
+        let size = file.metadata()?.len();
+        bytes.reserve(usize::try_from(size).unwrap_or(0).saturating_add(1))?;
+        file.read_to_end(&mut bytes)?;
+        Ok(bytes)
+    }
+}
+
 impl<'a, R: Files<File = File> + AllocGlobal + RandomSource + Clone + Drop> Disk
     for SystemDisk<'a, R> {
     ghost story = { λ _. None };
@@ -82,17 +102,10 @@ impl<'a, R: Files<File = File> + AllocGlobal + RandomSource + Clone + Drop> Disk
 
     ghost is_writable = { λ _ _. Unit {0} };
 
-    fn read(&self, path: &str) -> io::Result<Vec<u8>> {
-        let mut bytes = Vec::new(self.system.alloc());
-        let mut file = File::open(self.system, path)?;
-        let size = file.metadata()?.len();
-        bytes.reserve(usize::try_from(size).unwrap_or(0).saturating_add(1))?;
-        file.read_to_end(&mut bytes)?;
-        Ok(bytes)
-    }
+    type File = File;
 
-    fn read_at(&self, path: &str, place: u64, room: &mut [u8]) -> io::Result<()> {
-        File::open(self.system, path)?.read_exact_at(room, place)
+    fn open(&mut self, path: &str) -> io::Result<File> {
+        File::open(self.system, path)
     }
 
     fn find(&self, path: &str) -> io::Result<Found> {

@@ -12,18 +12,21 @@ use Rattle.zerotrie_lines.specs.Tables.{Pair, Pairs}
 use Rattle.zerotrie_lines.specs.Escapes.{IsHexDigit, SpellsHex, SpellsEscape, SpellsFirst, Spells, hex_digit, are_three, len_of_four, shown_len, escape_of, escaped_behind, has_mark, escaped}
 use Rattle.csv.specs.Reading.{is_bom, strip_bom}
 use Rattle.csv.specs.declared.parser.State.TheVariants as st
-use Rattle.zerotrie_lines.specs.Records.{Fields, IsPairRecord, ArePairRecords, config_of}
+use Rattle.zerotrie_lines.specs.Records.{AreColumns, AreColumnsOf, ArePairRecords, Fields, IsColumn, IsPairRecord, config_of, field, tab_rows}
 use Rattle.zerotrie_lines.specs.declared.fault.BadLine.{BadLine}
 use Rattle.zerotrie_lines.specs.declared.fault.BadLine.TheVariants as bad
 use Rattle.zerotrie_lines.specs.declared.fault.ReadError.TheVariants.{Line}
 use Rattle.zerotrie_lines.proofs.RecordLemmas.{behind_more, one_rows, rows_on}
-use Rattle.zerotrie_lines.specs.Lines.{is_tab, behind, onto_line, lines_of, ended, ended_lines, text_lines, IsKeyText, IsPairLine, tsv_line, tsv_lines}
-use Rattle.zerotrie_lines.specs.Reads.{IsPairIn, ReadsLines, Reads, first_number, tabbed, IsLineFault, IsRecordFault, IsBadLine, Explains}
+use Rattle.zerotrie_lines.specs.Lines.{is_tab, behind, onto_line, lines_of, ended, ended_lines, text_lines, IsKeyText, IsPairLine, IsPairOf, tsv_line, tsv_lines}
+use Rattle.zerotrie_lines.specs.Laws.{tsv_form}
+use Rattle.zerotrie_lines.specs.Reads.{IsPairIn, Reads, ReadsAs, ReadsLines, ReadsRows, ReadsTabbed, ExplainsAs, ExplainsTabbed, HasNoColumns, IsBadRow, IsNoColumn, first_number, tabbed, IsLineFault, IsRecordFault, IsBadLine}
 use Rattle.zerotrie_lines.specs.declared.reading.Format.TheVariants.{Lines, Tsv, TsvRaw, Csv}
 use Rattle.zerotrie_lines.specs.declared.reading.Format.{Format}
+use Rattle.zerotrie_lines.specs.declared.columns.Columns.{Columns}
 use Rattle.zerotrie_lines.specs.declared.reading.Header.{Header}
-use Rattle.zerotrie_lines.specs.declared.reading.Header.TheVariants.{Absent}
+use Rattle.zerotrie_lines.specs.declared.reading.Header.TheVariants.{Absent, Present, Named}
 use Rattle.zerotrie_lines.specs.declared.reading.LineEnd.{LineEnd}
+use Rattle.zerotrie_lines.specs.declared.reading.TextForm.{TextForm}
 use Rattle.zerotrie_lines.proofs.BytesLemmas.{High, high_append, digits_high, Lacks, lacks_low, lacks_append, place_behind, drop_behind}
 use Rattle.zerotrie_lines.proofs.EndLemmas.{ended_on, ended_high, no_mark}
 use Rattle.zerotrie_lines.proofs.EscapeLemmas.{one_rest}
@@ -283,18 +286,21 @@ lines_unmarked (e ∷ pairs) =
     rw (append_assoc (escaped e.0) (9 ∷ (decimal e.1 ++ (10 ∷ []))) (tsv_lines pairs)) (unmarked e.0 (decimal e.1 ++ (10 ∷ []) ++ tsv_lines pairs))
 
 -- the lines of pairs are these pairs
-pub lines_back : (end : LineEnd) (pairs : Pairs) → All (λ e. e.1 < 2 ^ 64) pairs → Reads Tsv end Absent (tsv_lines pairs) pairs
+pub lines_back : (end : LineEnd) (pairs : Pairs) → All (λ e. e.1 < 2 ^ 64) pairs → Reads (tsv_form end) (tsv_lines pairs) pairs
 lines_back end pairs below = subst (λ t. ReadsLines Tsv 1 (ended_lines end t) pairs) (sym (no_mark (tsv_lines pairs) (lines_unmarked pairs))) (back_on end pairs 1 below)
 
 one_key_text : (raw : Bool) (text key other : List ℕ) → IsKeyText raw text key → IsKeyText raw text other → other ≡ key
 one_key_text true text key other h k = k ∙ sym h
 one_key_text false text key other h k = one_key text key other h k
 
-one_pair : (raw : Bool) (line : List ℕ) (e other : Pair) → IsPairLine raw line e → IsPairLine raw line other → other ≡ e
-one_pair raw line e other h k =
-    let keys : other.0 ≡ e.0 = one_key_text raw (before_first is_tab line) e.0 other.0 h.1 k.1 in
-    let values : other.1 ≡ e.1 = k.2.is ∙ sym h.2.is in
+one_pair_of : (raw : Bool) (text digits : List ℕ) (e other : Pair) → IsPairOf raw text digits e → IsPairOf raw text digits other → other ≡ e
+one_pair_of raw text digits e other h k =
+    let keys : other.0 ≡ e.0 = one_key_text raw text e.0 other.0 h.0 k.0 in
+    let values : other.1 ≡ e.1 = k.1.is ∙ sym h.1.is in
     ap (λ key. (key, other.1)) keys ∙ ap (λ v. (e.0, v)) values
+
+one_pair : (raw : Bool) (line : List ℕ) (e other : Pair) → IsPairLine raw line e → IsPairLine raw line other → other ≡ e
+one_pair raw line e other h k = one_pair_of raw (before_first is_tab line) (after_first is_tab line) e other (h.1, h.2) (k.1, k.2)
 
 one_pair_in : (format : Format) (n : ℕ) (line : List ℕ) (e other : Pair) → IsPairIn format n line e → IsPairIn format n line other → other ≡ e
 one_pair_in Lines n line e other h k = k ∙ sym h
@@ -311,31 +317,49 @@ one_list format (line ∷ lines) n [] others h k = absurd h
 one_list format (line ∷ lines) n (e ∷ pairs) [] h k = absurd k
 one_list format (line ∷ lines) n (e ∷ pairs) (o ∷ others) h k = rw (one_pair_in format n line e o h.0 k.0, one_list format lines (n + 1) pairs others h.1 k.1) refl
 
-one_record : (row : Fields) (e other : Pair) → IsPairRecord row e → IsPairRecord row other → other ≡ e
-one_record [] e other h k = absurd h
-one_record (key ∷ []) e other h k = absurd h
-one_record (key ∷ digits ∷ []) e other h k =
-    let keys : other.0 ≡ e.0 = k.0 ∙ sym h.0 in
-    let values : other.1 ≡ e.1 = k.1.is ∙ sym h.1.is in
-    ap (λ key. (key, other.1)) keys ∙ ap (λ v. (e.0, v)) values
-one_record (key ∷ digits ∷ field ∷ row) e other h k = absurd h
+one_records : (raw : Bool) (c : Columns) (rows : List Fields) (pairs others : Pairs) → ArePairRecords raw c rows pairs → ArePairRecords raw c rows others → others ≡ pairs
+one_records raw c [] [] [] h k = refl
+one_records raw c [] [] (o ∷ others) h k = absurd k
+one_records raw c [] (e ∷ pairs) others h k = absurd h
+one_records raw c (row ∷ rows) [] others h k = absurd h
+one_records raw c (row ∷ rows) (e ∷ pairs) [] h k = absurd k
+one_records raw c (row ∷ rows) (e ∷ pairs) (o ∷ others) h k =
+    rw (one_pair_of raw (field row c.key) (field row c.value) e o (h.0.1, h.0.2) (k.0.1, k.0.2), one_records raw c rows pairs others h.1 k.1) refl
 
-one_records : (rows : List Fields) (pairs others : Pairs) → ArePairRecords rows pairs → ArePairRecords rows others → others ≡ pairs
-one_records [] [] [] h k = refl
-one_records [] [] (o ∷ others) h k = absurd k
-one_records [] (e ∷ pairs) others h k = absurd h
-one_records (row ∷ rows) [] others h k = absurd h
-one_records (row ∷ rows) (e ∷ pairs) [] h k = absurd k
-one_records (row ∷ rows) (e ∷ pairs) (o ∷ others) h k = rw (one_record row e o h.0 k.0, one_records rows pairs others h.1 k.1) refl
+-- records have the columns of one header
+columns : (key value count : ℕ) → Columns
+columns key value count = record { key = key; value = value; count = count }
+
+same_columns : (a b c x y z : ℕ) → x ≡ a → y ≡ b → z ≡ c → columns x y z ≡ columns a b c
+same_columns a b c x y z p q r = rw (p, q, r) refl
+
+one_columns : (header : Header) (rows : List Fields) (c d : Columns) → AreColumnsOf header rows c → AreColumnsOf header rows d → d ≡ c
+unfolding columns
+one_columns header [] c d h k = k ∙ sym h
+one_columns Absent (names ∷ rows) c d h k = k ∙ sym h
+one_columns Present (names ∷ rows) c d h k = k ∙ sym h
+one_columns (Named of) (names ∷ rows) c d h k =
+    same_columns c.key c.value c.count d.key d.value d.count (h.0.1 d.key k.0.0) (h.1.1 d.value k.1.0) (k.2 ∙ sym h.2)
+
+one_read : (raw : Bool) (header : Header) (rows : List Fields) (pairs others : Pairs) → ReadsRows raw header rows pairs → ReadsRows raw header rows others → others ≡ pairs
+one_read raw header rows pairs others h k =
+    let same = one_columns header rows h.0 k.0 h.1 k.1 in
+    one_records raw h.0 (behind header rows) pairs others h.2 (subst (λ c. ArePairRecords raw c (behind header rows) others) same k.2)
+
+one_tabbed : (raw : Bool) (header : Header) (end : LineEnd) (input : List ℕ) (pairs others : Pairs) → ReadsTabbed raw header end input pairs → ReadsTabbed raw header end input others
+    → others ≡ pairs
+one_tabbed raw Absent end input pairs others h k = one_list (tabbed raw) (text_lines end Absent input) 1 pairs others h k
+one_tabbed raw Present end input pairs others h k = one_list (tabbed raw) (text_lines end Present input) 2 pairs others h k
+one_tabbed raw (Named of) end input pairs others h k = one_read raw (Named of) (tab_rows end input) pairs others h k
 
 -- an input is one list of pairs at most
-pub one_input : (format : Format) (end : LineEnd) (header : Header) (input : List ℕ) (pairs others : Pairs) → Reads format end header input pairs → Reads format end header input others → others ≡ pairs
-one_input Lines end header input pairs others h k = one_list Lines (text_lines end header input) (first_number header) pairs others h k
-one_input Tsv end header input pairs others h k = one_list Tsv (text_lines end header input) (first_number header) pairs others h k
-one_input TsvRaw end header input pairs others h k = one_list TsvRaw (text_lines end header input) (first_number header) pairs others h k
-one_input Csv end header input pairs others h k =
-    let rows = one_rows (config_of end) st.StartRecord (strip_bom input) h.0 k.0 h.1 k.1 in
-    one_records (behind header h.0) pairs others h.2 (subst (λ r. ArePairRecords (behind header r) others) rows k.2)
+pub one_input : (format : Format) (form : TextForm) (input : List ℕ) (pairs others : Pairs) → ReadsAs format form input pairs → ReadsAs format form input others → others ≡ pairs
+one_input Lines form input pairs others h k = one_list Lines (text_lines form.end form.header input) (first_number form.header) pairs others h k
+one_input Tsv form input pairs others h k = one_tabbed false form.header form.end input pairs others h k
+one_input TsvRaw form input pairs others h k = one_tabbed true form.header form.end input pairs others h k
+one_input Csv form input pairs others h k =
+    let rows = one_rows (config_of form) st.StartRecord (strip_bom input) h.0 k.0 h.1 k.1 in
+    one_read true form.header h.0 pairs others h.2 (subst (λ r. ReadsRows true form.header r others) rows k.2)
 
 no_empty : (raw : Bool) (line : List ℕ) (e : Pair) → line ≡ [] → IsPairLine raw line e → ⊥
 no_empty raw line e none h = let t = rw none at h.0 in omega (arith, t)
@@ -345,8 +369,10 @@ no_line : (raw : Bool) (line : List ℕ) (fault : BadLine) (e : Pair) → IsLine
 no_line raw line bad.Empty e f h = no_empty raw line e f h
 no_line raw line bad.NoTab e f h = f.1 h.0
 no_line raw line bad.Escape e f h = f.1 e.0 h.1
-no_line raw line (bad.Value v) e f h = f.1 e.1 h.2
-no_line raw line bad.Fields e f h = f
+no_line raw line (bad.Value v) e f h = f.1.0 e.1 h.2
+no_line raw line (bad.Fields found wanted) e f h = f.1
+no_line raw line (bad.NoColumn name) e f h = f.1
+no_line raw line (bad.SameColumns name) e f h = f.1
 
 no_lines : (raw : Bool) (lines : List (List ℕ)) (n m : ℕ) (fault : BadLine) (pairs : Pairs) → IsBadLine raw n lines m fault → ReadsLines (tabbed raw) n lines pairs → ⊥
 no_lines raw [] n m fault pairs f h = f
@@ -360,34 +386,66 @@ no_lines raw (line ∷ lines) n m fault (e ∷ pairs) f h = elim f [
     pair_of true n line e h = h
     pair_of false n line e h = h
 
-no_record : (row : Fields) (fault : BadLine) (e : Pair) → IsRecordFault row fault → IsPairRecord row e → ⊥
-no_record row bad.Empty e f h = f
-no_record row bad.NoTab e f h = f
-no_record row bad.Escape e f h = f
-no_record row (bad.Value v) e f h = let p = rw f.2 at h in f.3 e.1 p.1
-no_record row bad.Fields e f h = f (two row h)
-  where
-    two : (row : Fields) → IsPairRecord row e → length row ≡ 2
-    two [] h = absurd h
-    two (key ∷ []) h = absurd h
-    two (key ∷ digits ∷ []) h = refl
-    two (key ∷ digits ∷ field ∷ row) h = absurd h
+no_record : (raw : Bool) (c : Columns) (row : Fields) (fault : BadLine) (e : Pair) → IsRecordFault raw c row fault → IsPairRecord raw c row e → ⊥
+no_record raw c row bad.Empty e f h = f.1
+no_record raw c row bad.NoTab e f h = f.1
+no_record raw c row bad.Escape e f h = f.1 e.0 h.1
+no_record raw c row (bad.Value v) e f h = f.1.0 e.1 h.2
+no_record raw c row (bad.Fields found wanted) e f h = f.2 (f.0 ∙ h.0 ∙ sym f.1)
+no_record raw c row (bad.NoColumn name) e f h = f.1
+no_record raw c row (bad.SameColumns name) e f h = f.1
 
-no_records : (rows more : List Fields) (row : Fields) (fault : BadLine) (pairs : Pairs) → IsRecordFault row fault → ArePairRecords (rows ++ row ∷ more) pairs → ⊥
-no_records [] more row fault [] f h = h
-no_records [] more row fault (e ∷ pairs) f h = no_record row fault e f h.0
-no_records (r ∷ rows) more row fault [] f h = h
-no_records (r ∷ rows) more row fault (e ∷ pairs) f h = no_records rows more row fault pairs f h.1
+no_records : (raw : Bool) (c : Columns) (rows more : List Fields) (row : Fields) (fault : BadLine) (pairs : Pairs) → IsRecordFault raw c row fault → ArePairRecords raw c (rows ++ row ∷ more) pairs → ⊥
+no_records raw c [] more row fault [] f h = h
+no_records raw c [] more row fault (e ∷ pairs) f h = no_record raw c row fault e f h.0
+no_records raw c (r ∷ rows) more row fault [] f h = h
+no_records raw c (r ∷ rows) more row fault (e ∷ pairs) f h = no_records raw c rows more row fault pairs f h.1
+
+-- a header that lacks a column has none
+no_column : (names : Fields) (name : List ℕ) (fault : BadLine) (i : ℕ) → IsNoColumn names name fault → IsColumn names name i → ⊥
+no_column names name bad.Empty i f h = f
+no_column names name bad.NoTab i f h = f
+no_column names name bad.Escape i f h = f
+no_column names name (bad.Value v) i f h = f
+no_column names name (bad.Fields found wanted) i f h = f
+no_column names name (bad.NoColumn text) i f h = f.1 i h.0
+no_column names name (bad.SameColumns text) i f h = f.3 (h.1 f.1 f.4 ∙ sym (h.1 f.2 f.5))
+
+no_columns : (header : Header) (names : Fields) (fault : BadLine) (c : Columns) → HasNoColumns header names fault → AreColumns header names c → ⊥
+no_columns Absent names fault c f h = f
+no_columns Present names fault c f h = f
+no_columns (Named of) names fault c f h = elim f [
+  | inl key ↦ no_column names of.key.now fault c.key key h.0
+  | inr value ↦ no_column names of.value.now fault c.value value h.1
+]
+
+first_columns : (header : Header) (rows more : List Fields) (row : Fields) (c : Columns) → AreColumnsOf header (rows ++ row ∷ more) c → AreColumnsOf header (rows ++ row ∷ []) c
+first_columns header [] more row c h = h
+first_columns header (first ∷ rows) more row c h = h
+
+-- records with one that is bad are no pairs
+bad_row : (raw : Bool) (header : Header) (rows more : List Fields) (row : Fields) (fault : BadLine) (pairs : Pairs) → IsBadRow raw header rows row fault → ReadsRows raw header (rows ++ row ∷ more) pairs → ⊥
+bad_row raw header rows more row fault pairs f h = elim f [
+  | inl head ↦ no_columns header row fault h.0 head.1 (subst (λ r. AreColumnsOf header (r ++ row ∷ more) h.0) head.0 h.1)
+  | inr g ↦
+      let same = one_columns header (rows ++ row ∷ []) g.1 h.0 g.2 (first_columns header rows more row h.0 h.1) in
+      let all = subst (λ r. ArePairRecords raw h.0 r pairs) (behind_more header rows (row ∷ more) g.0) h.2 in
+      no_records raw g.1 (behind header rows) more row fault pairs g.5 (subst (λ c. ArePairRecords raw c (behind header rows ++ row ∷ more) pairs) same all)
+]
+
+no_tabbed : (raw : Bool) (header : Header) (end : LineEnd) (input : List ℕ) (m : ℕ) (fault : BadLine) (pairs : Pairs) → ExplainsTabbed raw header end input (Line m fault) → ReadsTabbed raw header end input pairs → ⊥
+no_tabbed raw Absent end input m fault pairs f h = no_lines raw (text_lines end Absent input) 1 m fault pairs f h
+no_tabbed raw Present end input m fault pairs f h = no_lines raw (text_lines end Present input) 2 m fault pairs f h
+no_tabbed raw (Named of) end input m fault pairs f h = bad_row raw (Named of) f.0 f.2 f.1 fault pairs f.4.1 (subst (λ rows. ReadsRows raw (Named of) rows pairs) f.3 h)
 
 -- an input with a line or record that is bad is no pairs
-pub bad_unread : (format : Format) (end : LineEnd) (header : Header) (input : List ℕ) (m : ℕ) (fault : BadLine) (pairs : Pairs)
-    → Explains format end header input (Line m fault) → Reads format end header input pairs → ⊥
-bad_unread Lines end header input m fault pairs f h = absurd (cc f)
-bad_unread Tsv end header input m fault pairs f h = no_lines false (text_lines end header input) (first_number header) m fault pairs f h
-bad_unread TsvRaw end header input m fault pairs f h = no_lines true (text_lines end header input) (first_number header) m fault pairs f h
-bad_unread Csv end header input m fault pairs f h =
-    let first = f.3 in
+pub bad_unread : (format : Format) (form : TextForm) (input : List ℕ) (m : ℕ) (fault : BadLine) (pairs : Pairs)
+    → ExplainsAs format form input (Line m fault) → ReadsAs format form input pairs → ⊥
+bad_unread Lines form input m fault pairs f h = absurd (cc f)
+bad_unread Tsv form input m fault pairs f h = no_tabbed false form.header form.end input m fault pairs f h
+bad_unread TsvRaw form input m fault pairs f h = no_tabbed true form.header form.end input m fault pairs f h
+bad_unread Csv form input m fault pairs f h =
+    let first = f.2 in
     let all = h.1 in
-    let more = rows_on (config_of end) st.StartRecord (strip_bom input) (f.0 ++ f.1 ∷ []) h.0 first.0 first.1 first.2 all in
-    let all_rows = ap (behind header) (more.1 ∙ append_assoc f.0 (f.1 ∷ []) more.0) ∙ behind_more header f.0 (f.1 ∷ more.0) f.5 in
-    no_records (behind header f.0) more.0 f.1 fault pairs f.7 (subst (λ r. ArePairRecords r pairs) all_rows h.2)
+    let more = rows_on (config_of form) st.StartRecord (strip_bom input) (f.0 ++ f.1 ∷ []) h.0 first.0 first.1 first.2 all in
+    bad_row true form.header f.0 more.0 f.1 fault pairs f.3.1 (subst (λ rows. ReadsRows true form.header rows pairs) (more.1 ∙ append_assoc f.0 (f.1 ∷ []) more.0) h.2)

@@ -1,13 +1,19 @@
 -- The first line of an input, and places of bytes.
-use Rattle.std.proofs.Common.{◌≡◌, ℕ, ◌+◌, ◌-◌, ◌<◌, zero, suc, List, [], ◌∷◌, ◌++◌, length, take, drop, get_or, refl, sym, ◌∙◌, ap, arith, Bool, true, false, eq-eqb, map, append_assoc}
+use Rattle.std.proofs.Common.{◌≡◌, ℕ, ◌+◌, ◌-◌, ◌<◌, zero, suc, List, [], ◌∷◌, ◌++◌, length, take, drop, get_or, refl, sym, ◌∙◌, ap, arith, Bool, true, false, eq-eqb, map, append_assoc, subst, Option, Some, None}
 use Rattle.std.specs.Borrow.{Bor}
 use Rattle.std.proofs.lemmas.Bool.{eqb-true, eqb-false}
-use Rattle.std.specs.Prelude.{◌≢◌, ◌==◌}
+use Rattle.std.specs.Prelude.{◌≢◌, ◌==◌, IfNone, IfSome}
 use Rattle.std.specs.List.{before_first, after_first, position_or_len}
 use Rattle.std.proofs.lemmas.List.{take_all, length-drop, get_or_default}
 use Rattle.std.specs.List.{Contains}
 use Rattle.memchr.specs.Find.{Nowhere, Passes, is_byte}
-use Rattle.zerotrie_lines.specs.Lines.{is_feed, onto_line, lines_of}
+use Rattle.zerotrie_lines.specs.Lines.{HasTab, IsKeyText, IsPairLine, IsPairOf, is_feed, is_tab, onto_line, lines_of}
+use Rattle.zerotrie_lines.specs.Numbers.{IsNumber}
+use Rattle.zerotrie_lines.specs.Reads.{IsLineFault, IsPairFault}
+use Rattle.zerotrie_lines.specs.Records.{between_tabs, tab_fields}
+use Rattle.zerotrie_lines.specs.Tables.{Pair, Pairs}
+use Rattle.zerotrie_lines.specs.declared.fault.BadLine.{BadLine}
+use Rattle.zerotrie_lines.specs.declared.fault.BadLine.TheVariants as bad
 
 not_true : (b : Bool) → (b ≡ true → ⊥) → b ≡ false
 not_true true h = absurd (h refl)
@@ -83,6 +89,15 @@ texts_push : (lines : List (Bor (List ℕ))) (line : Bor (List ℕ)) → map {B 
 texts_push [] line = refl
 texts_push (l ∷ lines) line = ap (λ t. l.now ∷ t) (texts_push lines line)
 
+-- what is behind a place
+pub all_behind : (hay : List ℕ) (k : ℕ) → take (length hay - (k + 1)) (drop (k + 1) hay) ≡ drop (k + 1) hay
+all_behind hay k = take_all (length hay - (k + 1)) (drop (k + 1) hay) (omega (arith, length-drop (k + 1) hay))
+
+-- nothing is said of what is there
+pub none_so : {X : Type 0} {P : Type 0} (r : Option X) → P → IfNone r P
+none_so None h = h
+none_so (Some x) h = tt
+
 -- one line more
 pub read_on : (all rows after : List (List ℕ)) (done : List (Bor (List ℕ))) (line : Bor (List ℕ)) → map {B = List ℕ} (λ l. l.now) done ++ rows ≡ all → rows ≡ line.now ∷ after
     → map {B = List ℕ} (λ l. l.now) (done ++ line ∷ []) ++ after ≡ all
@@ -97,3 +112,45 @@ after_shorter (b ∷ input) some = omega (arith, length-drop (position_or_len is
 -- a text none of whose bytes is a backslash
 pub lacks_slash : (key : List ℕ) → ((k : ℕ) → k < length key → get_or key k 0 ≢ 92) → Contains key 92 → ⊥
 lacks_slash key none h = none h.0 h.1 (get_or_default key h.0 0 92 h.1 ∙ h.2)
+
+-- the first of the texts that tabs are between
+pub first_tab : (rest : List ℕ) (k : ℕ) → k < length rest → Nowhere (Passes is_tab rest) 0 k → Passes is_tab rest k → between_tabs rest ≡ take k rest ∷ between_tabs (drop (k + 1) rest)
+first_tab [] k l none here = absurd (omega (arith, l))
+first_tab (b ∷ rest) zero l none here = rw here refl
+first_tab (b ∷ rest) (suc k) l none here =
+    let first : is_tab b ≡ false = not_true (is_tab b) (none 0 (omega arith) (omega arith)) in
+    let e : suc k + 1 ≡ suc (k + 1) = omega arith in
+    rw (first, e) (ap (onto_line b) (first_tab rest k (omega arith) (λ j low high. none (suc j) (omega arith) (omega arith)) here))
+
+-- and the last
+pub no_tab : (rest : List ℕ) → Nowhere (Passes is_tab rest) 0 (length rest) → between_tabs rest ≡ rest ∷ []
+no_tab [] none = refl
+no_tab (b ∷ rest) none =
+    let first : is_tab b ≡ false = not_true (is_tab b) (none 0 (omega arith) (omega arith)) in
+    rw first (ap (onto_line b) (no_tab rest (λ j low high. none (suc j) (omega arith) (omega arith))))
+
+pub all_tabs : (line : List ℕ) → line ≢ [] → tab_fields line ≡ between_tabs line
+all_tabs [] some = absurd (some refl)
+all_tabs (b ∷ line) some = refl
+
+-- what is wrong with a pair is wrong with its line
+pub line_fault : (raw : Bool) (line text digits : List ℕ) (fault : BadLine) → HasTab line → text ≡ before_first is_tab line → digits ≡ after_first is_tab line
+    → IsPairFault raw text digits fault → IsLineFault raw line fault
+line_fault raw line text digits bad.Empty tab t d f = absurd f
+line_fault raw line text digits bad.NoTab tab t d f = absurd f
+line_fault raw line text digits bad.Escape tab t d f = (tab, subst (λ x. IsPairFault raw x digits bad.Escape) t f)
+line_fault raw line text digits (bad.Value v) tab t d f = (tab, subst (λ x. IsPairFault raw text x (bad.Value v)) d f)
+line_fault raw line text digits (bad.Fields found wanted) tab t d f = absurd f
+line_fault raw line text digits (bad.NoColumn name) tab t d f = absurd f
+line_fault raw line text digits (bad.SameColumns name) tab t d f = absurd f
+
+pub line_faults : (raw : Bool) (line text digits : List ℕ) (fault : Option BadLine) → HasTab line → text ≡ before_first is_tab line → digits ≡ after_first is_tab line
+    → IfSome fault (IsPairFault raw text digits) → IfSome fault (IsLineFault raw line)
+line_faults raw line text digits None tab t d f = f
+line_faults raw line text digits (Some fault) tab t d f = line_fault raw line text digits fault tab t d f
+
+pub line_pair : (raw : Bool) (line text digits : List ℕ) (fault : Option BadLine) (old new : Pairs) → HasTab line → text ≡ before_first is_tab line → digits ≡ after_first is_tab line
+    → IfNone fault ((e : Pair) × IsPairOf raw text digits e × (new ≡ old ++ e ∷ [])) → IfNone fault ((e : Pair) × IsPairLine raw line e × (new ≡ old ++ e ∷ []))
+line_pair raw line text digits None old new tab t d h =
+    (h.0, (tab, subst (λ x. IsKeyText raw x h.0.0) t h.1.0, subst (λ x. IsNumber x h.0.1) d h.1.1), h.2)
+line_pair raw line text digits (Some fault) old new tab t d h = h

@@ -1,11 +1,15 @@
 -- Lines that are read one after another.
-use Rattle.std.proofs.Common.{◌≡◌, ℕ, ◌+◌, Bool, true, false, inl, inr, List, [], ◌∷◌, ◌++◌, refl, sym, subst, append_assoc, Any, suc, arith}
+use Rattle.std.proofs.Common.{◌≡◌, ℕ, ◌+◌, Bool, true, false, inl, inr, List, [], ◌∷◌, ◌++◌, refl, sym, subst, append_assoc, Any, suc, arith, Option, Some, None}
+use Rattle.std.specs.Prelude.{IfNone, ◌⊎◌}
 use Rattle.std.proofs.lemmas.List.{append-nil}
 use Rattle.zerotrie_lines.specs.Tables.{Pair, Pairs}
-use Rattle.zerotrie_lines.specs.Lines.{IsPairLine}
-use Rattle.zerotrie_lines.specs.Reads.{IsPairIn, ReadsLines, tabbed, IsBadLine, IsLineFault}
+use Rattle.zerotrie_lines.specs.Lines.{IsPairLine, text_lines}
+use Rattle.zerotrie_lines.specs.Reads.{IsPairIn, ReadsLines, ReadsTabbed, HasNoItemsTabbed, IsNotPlain, first_number, tabbed, IsBadLine, IsLineFault}
 use Rattle.zerotrie_lines.specs.declared.reading.Format.{Format}
 use Rattle.zerotrie_lines.specs.declared.fault.BadLine.{BadLine}
+use Rattle.zerotrie_lines.specs.declared.reading.Header.{Header}
+use Rattle.zerotrie_lines.specs.declared.reading.Header.TheVariants.{Absent, Present, Named}
+use Rattle.zerotrie_lines.specs.declared.reading.LineEnd.{LineEnd}
 
 -- The lines, the first with this number, are the pairs so far, and then what the rest is, from line n on.
 pub record ReadTo (first : ℕ) (format : Format) (all : List (List ℕ)) (pairs : Pairs) (n : ℕ) (rest : List (List ℕ)) : Type 0 where
@@ -49,3 +53,21 @@ any_first Fact line lines h = (0, line, omega arith, refl, h)
 
 pub any_later : (Fact : List ℕ → Type 0) (line : List ℕ) (lines : List (List ℕ)) → Any Fact lines → Any Fact (line ∷ lines)
 any_later Fact line lines h = (suc h.0, h.1, omega (arith, h.2), h.3, h.4)
+
+-- of lines with one tab, items are their pairs, if no columns are named
+pub items_read : (own raw : Bool) (header : Header) (end : LineEnd) (input : List ℕ) (lines : List (List ℕ)) (pairs : Pairs) → raw ≡ own → (header ≡ Absent) ⊎ (header ≡ Present)
+    → lines ≡ text_lines end header input → ReadsLines (tabbed own) (first_number header) lines pairs → ReadsTabbed raw header end input pairs
+items_read own raw Absent end input lines pairs same is are h = rw (same, sym are) h
+items_read own raw Present end input lines pairs same is are h = rw (same, sym are) h
+items_read own raw (Named of) end input lines pairs same is are h = absurd (elim is [ inl p ↦ cc p | inr p ↦ cc p ])
+
+no_items : (own raw : Bool) (header : Header) (end : LineEnd) (input : List ℕ) (lines : List (List ℕ)) → raw ≡ own → (header ≡ Absent) ⊎ (header ≡ Present)
+    → lines ≡ text_lines end header input → Any (IsNotPlain own) lines → HasNoItemsTabbed raw header end input
+no_items own raw Absent end input lines same is are h = rw (same, sym are) h
+no_items own raw Present end input lines same is are h = rw (same, sym are) h
+no_items own raw (Named of) end input lines same is are h = tt
+
+pub items_none : {X : Type 0} (items : Option X) (own raw : Bool) (header : Header) (end : LineEnd) (input : List ℕ) (lines : List (List ℕ)) → raw ≡ own → (header ≡ Absent) ⊎ (header ≡ Present)
+    → lines ≡ text_lines end header input → IfNone items (Any (IsNotPlain own) lines) → IfNone items (HasNoItemsTabbed raw header end input)
+items_none None own raw header end input lines same is are h = no_items own raw header end input lines same is are h
+items_none (Some x) own raw header end input lines same is are h = h

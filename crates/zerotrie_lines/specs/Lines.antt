@@ -6,7 +6,7 @@ use Rattle.zerotrie_lines.specs.Numbers.{IsNumber}
 use Rattle.zerotrie_lines.specs.Escapes.{Spells, escaped}
 use Rattle.zerotrie_lines.specs.Tables.{Pair, Pairs}
 use Rattle.zerotrie_lines.specs.declared.reading.Header.{Header}
-use Rattle.zerotrie_lines.specs.declared.reading.Header.TheVariants.{Absent, Present}
+use Rattle.zerotrie_lines.specs.declared.reading.Header.TheVariants.{Absent, Present, Named}
 use Rattle.zerotrie_lines.specs.declared.reading.LineEnd.{LineEnd}
 use Rattle.zerotrie_lines.specs.declared.reading.LineEnd.TheVariants.{CrLf, Lf}
 
@@ -46,11 +46,13 @@ ended_lines end text = map (ended end) (lines_of text)
 abbrev pub header_rows : Header → ℕ
 header_rows Absent = 0
 header_rows Present = 1
+header_rows (Named of) = 1
 
 -- the lines or records behind the header
 abbrev pub behind : {A : Type 0} → Header → List A → List A
 behind Absent rows = rows
 behind Present rows = drop 1 rows
+behind (Named of) rows = drop 1 rows
 
 -- The lines of an input that are to be pairs: a byte order mark in front of it is left out, and so are the header, and what ends a line.
 abbrev pub text_lines : LineEnd → Header → List ℕ → List (List ℕ)
@@ -68,6 +70,10 @@ HasTab line = position_or_len is_tab line < length line
 abbrev pub IsKeyText : Bool → List ℕ → List ℕ → Type 0
 IsKeyText true text key = key ≡ text
 IsKeyText false text key = Spells text key
+
+-- they are the text of the key, and the digits of the value
+abbrev pub IsPairOf : Bool → List ℕ → List ℕ → Pair → Type 0
+IsPairOf raw text digits e = IsKeyText raw text e.0 × IsNumber digits e.1
 
 -- the line has a tab; what is before the first is the text of the key, and what is after it are the digits of the value
 abbrev pub IsPairLine : Bool → List ℕ → Pair → Type 0

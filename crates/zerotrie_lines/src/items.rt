@@ -6,13 +6,13 @@ ghost use Rattle.memchr.specs.Find.{IsFirstByte, is_byte3};
 ghost use Rattle.zerotrie_lines.specs.Numbers.{IsNumber};
 ghost use Rattle.zerotrie_lines.specs.Tables.{pairs_of};
 ghost use Rattle.zerotrie_lines.specs.Lines.{is_feed, ended, ended_lines, IsEnd, IsPairLine};
-ghost use Rattle.zerotrie_lines.specs.Reads.{ReadsLines, Reads, IsKeyOf, IsNotPlain, HasNoItems};
+ghost use Rattle.zerotrie_lines.specs.Reads.{ReadsLines, ReadsTabbed, Reads, IsKeyOf, IsNotPlain, HasNoItems, HasNoItemsTabbed};
 ghost use Rattle.zerotrie_lines.specs.declared.reading.Format.TheVariants.{Lines, Tsv, TsvRaw};
 ghost use Rattle.zerotrie_lines.specs.declared.reading.LineEnd.TheVariants.{CrLf};
 
 use crate::lines::take_ended;
 use crate::numbers::parse_number;
-use crate::reading::{Format, Header, LineEnd, pair_text};
+use crate::reading::{Format, Header, LineEnd, TextForm, pair_text};
 use memchr::{memchr, memchr3};
 use std::alloc::{AllocError, Global};
 use std::simd::prelude::*;
@@ -204,6 +204,32 @@ fn items_of_raw(
     Ok(Some(items))
 }
 
+/// Reads lines with a tab behind the header. `None` if that names columns, or a key has an escape though
+/// keys are not raw, or a line is no pair.
+fn items_of_tabbed<'a>(
+    alloc: Global,
+    raw: bool,
+    form: TextForm<'_>,
+    input: &'a [u8],
+) -> Result<Option<Vec<(&'a [u8], usize)>>, AllocError>
+    ensures reads { IfOk result (λ items. IfSome items (λ items.
+        ReadsTabbed raw form.entry.header form.entry.end input.now (pairs_of items.items))) }
+    ensures none { IfOk result (λ items. IfNone items
+        (HasNoItemsTabbed raw form.entry.header form.entry.end input.now)) }
+{
+    match form.header {
+        Header::Named(_) => Ok(None),
+        Header::Absent | Header::Present => {
+            let text = pair_text(form.header, input);
+            if raw {
+                items_of_raw(alloc, form.end, text)
+            } else {
+                items_of_tsv(alloc, form.end, text)
+            }
+        }
+    }
+}
+
 /// Reads lines that are keys. So many lines were before them.
 fn items_of_keys(
     alloc: Global,
@@ -227,32 +253,31 @@ fn items_of_keys(
 }
 
 /// Reads the pairs of an input, whose keys borrow it. It is `None` only if a line has a backslash
-/// before its tab, or is no pair, or the input is records: `read_pairs` then copies the keys, or
-/// returns the error.
+/// before its tab, or is no pair, or the input is records, or columns that a header names:
+/// `read_pairs` then copies the keys, or returns the error.
 ///
 /// ```
-/// let (tsv, end) = (Format::Tsv, LineEnd::CrLf);
-/// let items = read_items(rt.alloc(), tsv, end, Header::Absent, b"ad\t22\nadef\t33\n")?;
+/// let items = read_items(rt.alloc(), TSV, b"ad\t22\nadef\t33\n")?;
 /// assert_eq!(rt; items.map(|items| items[1]), Some((b"adef".as_slice(), 33)));
 /// ```
 ///
 /// It allocates the list alone.
-pub fn read_items(
+pub fn read_items<'a>(
     alloc: Global,
-    format: Format,
-    end: LineEnd,
-    header: Header,
-    input: &[u8],
-) -> Result<Option<Vec<(&[u8], usize)>>, AllocError>
+    form: TextForm<'_>,
+    input: &'a [u8],
+) -> Result<Option<Vec<(&'a [u8], usize)>>, AllocError>
     ensures reads { IfOk result (λ items. IfSome items (λ items.
-        Reads format end header input.now (pairs_of items.items))) }
-    ensures none { IfOk result (λ items. IfNone items (HasNoItems format end header input.now)) }
+        Reads form.entry input.now (pairs_of items.items))) }
+    ensures none { IfOk result (λ items. IfNone items (HasNoItems form.entry input.now)) }
 {
-    let text = pair_text(header, input);
-    match format {
-        Format::Tsv => items_of_tsv(alloc, end, text),
-        Format::TsvRaw => items_of_raw(alloc, end, text),
-        Format::Lines => Ok(Some(items_of_keys(alloc, end, header.rows(), text)?)),
+    match form.format {
+        Format::Tsv => items_of_tabbed(alloc, false, form, input),
+        Format::TsvRaw => items_of_tabbed(alloc, true, form, input),
+        Format::Lines => {
+            let text = pair_text(form.header, input);
+            Ok(Some(items_of_keys(alloc, form.end, form.header.rows(), text)?))
+        }
         Format::Csv => Ok(None),
     }
 }

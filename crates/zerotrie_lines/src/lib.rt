@@ -1,13 +1,15 @@
 //! Pairs of a key and a number, as lines of text.
 //!
 //! A line is a key with escapes, a tab and a number; or two fields with a comma between them, the
-//! key and a number; or a key alone, whose number is that of its line.
+//! key and a number; or more fields, of which a header names the two; or a key alone, whose number is
+//! that of its line.
 //!
 //! A call that appends to a `Vec` fails only if it is out of memory or if the stream that it reads
 //! fails. What it appended is then unspecified.
 #![tactic(auto)]
 
 mod blocks;
+mod columns;
 mod copies;
 mod escapes;
 mod fault;
@@ -28,6 +30,6 @@ pub use fault::{BadLine, BadValue, ReadError, ValueFault};
 pub use items::{read_items, take_plain};
 pub use lines::{read_lines, take_line, write_pair};
 pub use numbers::{parse_number, write_number};
-pub use reading::{Format, Header, LineEnd, read_pairs};
+pub use reading::{Format, Header, LineEnd, Names, TSV, TextForm, read_pairs};
 pub use strings::write_quoted;
 pub use table::Table;

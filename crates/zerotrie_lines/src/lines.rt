@@ -4,8 +4,8 @@ ghost use Rattle.std.specs.Prelude.{◌≡◌, ◌≢◌, ◌++◌, ◌∷◌, �
 ghost use Rattle.std.specs.List.{before_first, after_first};
 ghost use Rattle.zerotrie_lines.specs.Tables.{Pair};
 ghost use Rattle.zerotrie_lines.specs.Escapes.{Spells};
-ghost use Rattle.zerotrie_lines.specs.Lines.{is_feed, without_return, ended, ended_lines, HasTab, IsKeyText, IsPairLine, tsv_line};
-ghost use Rattle.zerotrie_lines.specs.Reads.{IsLineFault};
+ghost use Rattle.zerotrie_lines.specs.Lines.{is_feed, without_return, ended, ended_lines, HasTab, IsKeyText, IsPairLine, IsPairOf, tsv_line};
+ghost use Rattle.zerotrie_lines.specs.Reads.{IsLineFault, IsPairFault};
 
 use crate::copies::push_bytes;
 use crate::escapes::{unescape, write_escaped};
@@ -130,6 +130,30 @@ fn without_tab(raw: bool, line: &[u8]) -> BadLine
     }
 }
 
+/// Adds the pair of the text of a key and the digits of a value, or returns why they are none. `key` is
+/// a buffer for a decoded key.
+pub(crate) fn add_pair(
+    alloc: Global,
+    raw: bool,
+    text: &[u8],
+    digits: &[u8],
+    key: &mut Vec<u8>,
+    table: &mut Table,
+) -> Result<Option<BadLine>, AllocError>
+    ensures pair { IfOk result (λ bad. IfNone bad ((e : Pair)
+        × IsPairOf raw text.now digits.now e × (table.new ≡ table.old ++ e ∷ []))) }
+    ensures none { IfOk result (λ bad. IfSome bad (IsPairFault raw text.now digits.now)) }
+{
+    let Some(value) = parse_number(digits) else {
+        return Ok(Some(BadLine::Value(bad_value(alloc, digits)?)));
+    };
+    if add_key(raw, text, value, key, table)? {
+        Ok(None)
+    } else {
+        Ok(Some(BadLine::Escape))
+    }
+}
+
 /// Adds the pair that a line is, or returns why it is none. `key` is a buffer for a decoded key.
 pub(crate) fn read_pair(
     alloc: Global,
@@ -145,15 +169,7 @@ pub(crate) fn read_pair(
     let Some(place) = memchr(b'\t', line) else {
         return Ok(Some(without_tab(raw, line)));
     };
-    let digits = &line[place + 1..];
-    let Some(value) = parse_number(digits) else {
-        return Ok(Some(BadLine::Value(bad_value(alloc, digits)?)));
-    };
-    if add_key(raw, &line[..place], value, key, table)? {
-        Ok(None)
-    } else {
-        Ok(Some(BadLine::Escape))
-    }
+    add_pair(alloc, raw, &line[..place], &line[place + 1..], key, table)
 }
 
 /// Writes the line of a pair: the key with escapes, a tab, the value and a line feed.

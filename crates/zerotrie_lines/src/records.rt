@@ -1,60 +1,108 @@
-//! Records of comma-separated fields, and the pairs that they are.
+//! Records of fields, and the pairs that they are.
 
-ghost use Rattle.std.specs.Prelude.{◌≡◌, ◌≢◌, length, ◌++◌, ◌∷◌, [], IfOk, IfErr, IfSome, IfNone};
-ghost use Rattle.csv.specs.Records.{fields_of};
+ghost use Rattle.std.specs.Prelude.{◌≡◌, ◌<◌, ◌+◌, ◌^◌, ◌++◌, ◌∷◌, [], List, length, IfOk, IfErr, IfSome, IfNone, OnOk};
+ghost use Rattle.std.specs.List.{before_first, after_first};
+ghost use Rattle.csv.specs.Records.{fields_of, partial_of};
+ghost use Rattle.zerotrie_lines.specs.Lines.{ended, is_feed};
 ghost use Rattle.zerotrie_lines.specs.Tables.{Pair};
-ghost use Rattle.zerotrie_lines.specs.Records.{IsPairRecord, config_of};
-ghost use Rattle.zerotrie_lines.specs.Reads.{IsRecordFault, Reads, Explains};
-ghost use Rattle.zerotrie_lines.specs.declared.reading.Format.TheVariants.{Csv};
+ghost use Rattle.zerotrie_lines.specs.Records.{Fields, IsPairRecord, between_tabs, field, tab_fields, terminator_of};
+ghost use Rattle.zerotrie_lines.specs.Reads.{ExplainsColumns, ExplainsRecords, HasRead, IsBadAfter, IsRecordFault, ReadsColumns, ReadsRecords};
 
+use crate::columns::{Columns, TWO};
+use crate::escapes::without_mark;
 use crate::fault::{BadLine, ReadError, at_line};
-use crate::numbers::parse_number;
-use crate::reading::{Header, LineEnd};
+use crate::lines::{add_pair, take_ended};
+use crate::reading::{Header, LineEnd, TextForm};
 use crate::table::Table;
-use crate::values::bad_value;
 use csv::{ByteRecord, ReaderBuilder, Terminator};
+use memchr::memchr;
 use std::alloc::{AllocError, Global};
 
-/// Returns the fields of a record of two.
-fn two_fields(row: &ByteRecord) -> Option<(&[u8], &[u8])>
-    ensures some { IfSome result (λ f. fields_of row.now ≡ f.0.now ∷ f.1.now ∷ []) }
-    ensures none { IfNone result (length (fields_of row.now) ≢ 2) }
+/// Returns the field at a place, or nothing if it is not there.
+fn field(row: &ByteRecord, index: usize) -> &[u8]
+    ensures { result.now ≡ field (fields_of row.now) index }
 {
-    if row.len() != 2 {
-        return None;
-    }
-    let Some(key) = row.get(0) else {
-        return None;
-    };
-    let Some(digits) = row.get(1) else {
-        return None;
-    };
-    Some((key, digits))
+    row.get(index).unwrap_or(b"")
 }
 
-/// Adds the pair that a record is, or returns why it is none.
+/// Adds the pair that a record is, or returns why it is none. `key` is a buffer for a decoded key.
 fn read_record(
     alloc: Global,
+    raw: bool,
+    columns: Columns,
     row: &ByteRecord,
+    key: &mut Vec<u8>,
     table: &mut Table,
 ) -> Result<Option<BadLine>, AllocError>
-    ensures pair { IfOk result (λ bad. IfNone bad
-        ((e : Pair) × IsPairRecord (fields_of row.now) e × (table.new ≡ table.old ++ e ∷ []))) }
-    ensures none { IfOk result (λ bad. IfSome bad (IsRecordFault (fields_of row.now))) }
+    ensures pair { IfOk result (λ bad. IfNone bad ((e : Pair)
+        × IsPairRecord raw columns (fields_of row.now) e × (table.new ≡ table.old ++ e ∷ []))) }
+    ensures none { IfOk result (λ bad.
+        IfSome bad (IsRecordFault raw columns (fields_of row.now))) }
 {
-    let Some((key, digits)) = two_fields(row) else {
-        return Ok(Some(BadLine::Fields));
-    };
-    let Some(value) = parse_number(digits) else {
-        return Ok(Some(BadLine::Value(bad_value(alloc, digits)?)));
-    };
-    table.push(key, value)?;
-    Ok(None)
+    if row.len() != columns.count {
+        return Ok(Some(BadLine::Fields(row.len(), columns.count)));
+    }
+    let text = field(row, columns.key);
+    add_pair(alloc, raw, text, field(row, columns.value), key, table)
+}
+
+/// The pairs of the records so far.
+#[derive(Drop)]
+struct Records<'a> {
+    /// Whether keys are as they are, and have no escapes.
+    raw: bool,
+    header: Header<'a>,
+    columns: Columns,
+    /// A buffer for a decoded key.
+    key: Vec<u8>,
+    table: Table,
+}
+
+impl<'a> Records<'a> {
+    /// Returns those of no records.
+    fn new(alloc: Global, raw: bool, header: Header<'a>) -> Self
+        ensures { HasRead raw header.entry [] result }
+    {
+        Records {
+            raw,
+            header,
+            columns: TWO,
+            key: Vec::new(alloc),
+            table: Table::new(alloc),
+        }
+    }
+
+    /// Adds a record, before which there are so many: the header, which has the columns, or a pair.
+    fn add(&mut self, alloc: Global, index: usize, row: &ByteRecord) -> Result<(), ReadError>
+        requires { index + 1 < 2 ^ 64 }
+        ensures ok { OnOk result ((rows : List Fields) → length rows ≡ index
+            → HasRead self.old.raw self.old.header rows self.old
+            → HasRead self.old.raw self.old.header (rows ++ fields_of row.now ∷ []) self.new) }
+        ensures err { IfErr result (λ e. (rows : List Fields) → length rows ≡ index
+            → HasRead self.old.raw self.old.header rows self.old
+            → IsBadAfter self.old.raw self.old.header rows (fields_of row.now) e) }
+    {
+        if index < self.header.rows() {
+            self.columns = self.header.columns(alloc, row)?;
+            return Ok(());
+        }
+        match read_record(
+            alloc,
+            self.raw,
+            self.columns,
+            row,
+            &mut self.key,
+            &mut self.table,
+        )? {
+            Some(bad) => Err(at_line(index + 1, bad)),
+            None => Ok(()),
+        }
+    }
 }
 
 /// Returns what ends a record.
 fn terminator_of(end: LineEnd) -> Terminator
-    ensures { result ≡ (config_of end).terminator }
+    ensures { result ≡ terminator_of end }
 {
     match end {
         LineEnd::CrLf => Terminator::CRLF,
@@ -65,33 +113,80 @@ fn terminator_of(end: LineEnd) -> Terminator
 /// Returns the pairs that the records of an input are, behind the header.
 pub(crate) fn read_records(
     alloc: Global,
-    end: LineEnd,
-    header: Header,
+    form: TextForm<'_>,
     input: &[u8],
 ) -> Result<Table, ReadError>
-    ensures ok { IfOk result (λ table. Reads Csv end header input.now table) }
-    ensures err { IfErr result (λ e. Explains Csv end header input.now e) }
+    ensures ok { IfOk result (ReadsRecords form.entry input.now) }
+    ensures err { IfErr result (ExplainsRecords form.entry input.now) }
 {
     let mut reader = ReaderBuilder::new()
-        .terminator(terminator_of(end))
+        .terminator(terminator_of(form.end))
         .has_headers(false)
         .flexible(true)
         .from_reader(alloc, input);
     let mut row = ByteRecord::new(alloc);
-    let mut table = Table::new(alloc);
+    let mut records = Records::new(alloc, true, form.header);
     for index in 0..usize::MAX {
         let Ok(found) = reader.read_byte_record(&mut row) else {
             return Err(ReadError::OutOfMemory);
         };
         if !found {
-            return Ok(table);
+            return Ok(records.table);
         }
-        if index < header.rows() {
-            continue;
+        records.add(alloc, index, &row)?;
+    }
+    Err(ReadError::OutOfMemory)
+}
+
+/// Takes the first field off a line, with the tab after it. `None` if no tab is left.
+fn take_field<'a>(rest: &mut &'a [u8]) -> Option<&'a [u8]>
+    ensures field { IfSome result (λ field.
+        between_tabs rest.old.now ≡ field.now ∷ between_tabs rest.new.now) }
+    ensures less { IfSome result (λ _. length rest.new.now < length rest.old.now) }
+    ensures last { IfNone result (between_tabs rest.new.now ≡ rest.new.now ∷ []) }
+    ensures same { IfNone result (rest.new.now ≡ rest.old.now) }
+{
+    let all = *rest;
+    let place = memchr(b'\t', all)?;
+    *rest = &all[place + 1..];
+    Some(&all[..place])
+}
+
+/// Fills a record with the fields of a line, which tabs are between. An empty line has none.
+fn split_at_tabs(line: &[u8], row: &mut ByteRecord) -> Result<(), AllocError>
+    ensures { OnOk result (fields_of row.new ≡ tab_fields line.now) }
+{
+    row.clear();
+    if line.is_empty() {
+        return Ok(());
+    }
+    let mut rest = line;
+    while let Some(field) = take_field(&mut rest) {
+        row.push_field(field)?;
+    }
+    row.push_field(rest)
+}
+
+/// Returns the pairs that lines are whose fields are between tabs, behind the header.
+pub(crate) fn read_columns(
+    alloc: Global,
+    raw: bool,
+    form: TextForm<'_>,
+    input: &[u8],
+) -> Result<Table, ReadError>
+    ensures ok { IfOk result (ReadsColumns raw form.entry.header form.entry.end input.now) }
+    ensures err { IfErr result (ExplainsColumns raw form.entry.header form.entry.end input.now) }
+{
+    let mut rest = without_mark(input);
+    let mut row = ByteRecord::new(alloc);
+    let mut records = Records::new(alloc, raw, form.header);
+    for index in 0..usize::MAX {
+        if rest.is_empty() {
+            return Ok(records.table);
         }
-        if let Some(bad) = read_record(alloc, &row, &mut table)? {
-            return Err(at_line(index + 1, bad));
-        }
+        let line = take_ended(form.end, &mut rest);
+        split_at_tabs(line, &mut row)?;
+        records.add(alloc, index, &row)?;
     }
     Err(ReadError::OutOfMemory)
 }

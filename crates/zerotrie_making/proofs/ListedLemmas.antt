@@ -5,9 +5,7 @@ use Rattle.zerotrie_core.specs.Kind.{Kind}
 use Rattle.zerotrie_core.specs.Maps.{Map, Pairs, beginning}
 use Rattle.zerotrie_core.specs.Texts.{Means}
 use Rattle.zerotrie_lines.specs.Lines.{tsv_line, tsv_lines}
-use Rattle.zerotrie_lines.specs.Laws.{LinesReadBack, OneReading}
-use Rattle.zerotrie_lines.specs.declared.reading.Format.TheVariants.{Tsv}
-use Rattle.zerotrie_lines.specs.declared.reading.Header.TheVariants.{Absent}
+use Rattle.zerotrie_lines.specs.Laws.{LinesReadBack, OneReading, tsv_form}
 use Rattle.zerotrie_lines.specs.Tables.{lowered}
 use Rattle.zerotrie_core.specs.Kinds.{kind_of}
 use Rattle.zerotrie_queries.specs.Printed.{lines_of, pair_line}
@@ -54,7 +52,7 @@ same_lines (e ∷ pairs) = ap (λ t. tsv_line e ++ t) (same_lines pairs)
 pub made_again : LinesReadBack → OneReading → ListedIsMadeAgain
 made_again back one kind bytes file m plan means end tsv trie named cased all made =
     let lines : lines_of (pair_line style.Tsv) (beginning (kind_of kind) [] means.pairs) ≡ tsv_lines means.pairs = ap (lines_of (pair_line style.Tsv)) (all_begin (kind_of kind) means.pairs) ∙ same_lines means.pairs in
-    let read : IsPairs (Text Tsv end Absent) (tsv_lines means.pairs) made.1 = subst (λ t. IsPairs (Text Tsv end Absent) t made.1) lines (subst (λ s. IsPairs s (lines_of (pair_line style.Tsv) (beginning (kind_of kind) [] means.pairs)) made.1) tsv made.2) in
-    let same = one Tsv end Absent (tsv_lines means.pairs) means.pairs made.1 (back end means.pairs (values_below means.lists)) read in
+    let read : IsPairs (Text (tsv_form end)) (tsv_lines means.pairs) made.1 = subst (λ t. IsPairs (Text (tsv_form end)) t made.1) lines (subst (λ s. IsPairs s (lines_of (pair_line style.Tsv) (beginning (kind_of kind) [] means.pairs)) made.1) tsv made.2) in
+    let same = one (tsv_form end) (tsv_lines means.pairs) means.pairs made.1 (back end means.pairs (values_below means.lists)) read in
     let plain : kept plan.read.duplicates (lowered plan.read.lower_case made.1) ≡ made.1 = rw (cased, all) refl in
     of_listed kind bytes file m plan means trie named (subst (λ pairs. IsFileOf plan.file pairs file) (plain ∙ same) made.3)

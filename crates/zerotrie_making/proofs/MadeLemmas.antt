@@ -3,14 +3,11 @@ use Rattle.std.proofs.Common.{◌≡◌, ℕ, List, length, Bool, true, false, s
 use Rattle.std.proofs.lemmas.List.{length-map}
 use Rattle.std.specs.Borrow.{Bor}
 use Rattle.zerotrie_core.specs.Items.{pairs_of}
-use Rattle.std.specs.Prelude.{not}
 use Rattle.std.specs.Prelude.{None, Some}
 use Rattle.zerotrie_core.specs.Maps.{Pairs}
 use Rattle.zerotrie_lines.specs.Tables.{lowered}
 use Rattle.zerotrie_lines.specs.Reads.{Reads}
-use Rattle.zerotrie_lines.specs.declared.reading.Format.{Format}
-use Rattle.zerotrie_lines.specs.declared.reading.Header.{Header}
-use Rattle.zerotrie_lines.specs.declared.reading.LineEnd.{LineEnd}
+use Rattle.zerotrie_lines.specs.declared.reading.TextForm.{TextForm}
 use Rattle.zerotrie_making.specs.Others.{IsOther}
 use Rattle.zerotrie_making.specs.Sources.{IsPairs, NoPairs, number_in_source}
 use Rattle.zerotrie_making.specs.Made.{OfInput, Explains, ExplainsKept, ExplainsOf}
@@ -58,30 +55,30 @@ kept_refusal plan pairs OutOfMemory h = h
 
 -- an input that is no pairs shows no keys
 no_keys : (source : Source) (input : List ℕ) (s : Shown) → NoPairs source input (Keys s) → ⊥
-no_keys (Text format end header) input s h = h
+no_keys (Text form) input s h = h
 no_keys Json input s h = h
-no_keys JsonLines input s h = h
+no_keys (JsonLines names) input s h = h
 
 no_sum : (source : Source) (input : List ℕ) (k : NumberedKey) → NoPairs source input (SumTooLarge k) → ⊥
-no_sum (Text format end header) input k h = h
+no_sum (Text form) input k h = h
 no_sum Json input k h = h
-no_sum JsonLines input k h = h
+no_sum (JsonLines names) input k h = h
 
 no_refusal : (source : Source) (input : List ℕ) (e : ZeroTrieBuildError) → NoPairs source input (Refused e) → ⊥
-no_refusal (Text format end header) input e h = h
+no_refusal (Text form) input e h = h
 no_refusal Json input e h = h
-no_refusal JsonLines input e h = h
+no_refusal (JsonLines names) input e h = h
 
 no_index_refusal : (source : Source) (input : List ℕ) (e : ZeroIndexBuildError) → NoPairs source input (IndexRefused e) → ⊥
-no_index_refusal (Text format end header) input e h = h
+no_index_refusal (Text form) input e h = h
 no_index_refusal Json input e h = h
-no_index_refusal JsonLines input e h = h
+no_index_refusal (JsonLines names) input e h = h
 
 -- an input that is another file is no pairs
 pub other_is_unread : (source : Source) (input : List ℕ) (other : OtherFile) → IsOther input (Some other) → NoPairs source input (NotText other)
-other_is_unread (Text format end header) input other h = h
+other_is_unread (Text form) input other h = h
 other_is_unread Json input other h = h
-other_is_unread JsonLines input other h = h
+other_is_unread (JsonLines names) input other h = h
 
 -- an input that is no pairs makes no file
 pub no_pairs : (plan : Plan) (input : List ℕ) (e : MakeError) → NoPairs plan.read.source input e → Explains plan input e
@@ -97,10 +94,10 @@ no_pairs plan input (IndexRefused e) h = absurd (no_index_refusal plan.read.sour
 no_pairs plan input OutOfMemory h = tt
 
 -- pairs of a text whose keys are as they are
-pub as_they_are : (source : Source) (format : Format) (end : LineEnd) (header : Header) (lower_case : Bool) (input : List ℕ) (pairs : Pairs) → source ≡ Text format end header → not lower_case ≡ true
-    → Reads format end header input pairs → (given : Pairs) × IsPairs source input given × (pairs ≡ lowered lower_case given)
-as_they_are source format end header true input pairs text kept reads = absurd (cc)
-as_they_are source format end header false input pairs text kept reads = (pairs, rw text reads, refl)
+pub as_they_are : (source : Source) (form : TextForm) (lower_case : Bool) (input : List ℕ) (pairs : Pairs) → source ≡ Text form → lower_case ≡ false
+    → Reads form input pairs → (given : Pairs) × IsPairs source input given × (pairs ≡ lowered lower_case given)
+as_they_are source form true input pairs text kept reads = absurd (cc)
+as_they_are source form false input pairs text kept reads = (pairs, rw text reads, refl)
 
 -- as many items are as many pairs
 pub counted_pairs : (items : List (Bor (List ℕ) × ℕ)) (len : ℕ) → len ≡ length items → len ≡ length (pairs_of items)

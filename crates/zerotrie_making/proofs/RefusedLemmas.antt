@@ -160,11 +160,11 @@ sum_never content sorted duplicates number pairs bytes k built is large =
 
 -- an input is one list of pairs at most
 one_list : OneReading → (source : Source) (input : List ℕ) (pairs others : Pairs) → IsPairs source input pairs → IsPairs source input others → others ≡ pairs
-one_list one (Text format end header) input pairs others h k = one format end header input pairs others h k
+one_list one (Text form) input pairs others h k = one form input pairs others h k
 one_list one Json input pairs others h k =
     let same : h.0 ≡ k.0 = some_is h.0 k.0 (sym h.1.1 ∙ k.1.1) in
     some_is others pairs (sym k.2 ∙ ap pairs_in (sym same) ∙ h.2)
-one_list one JsonLines input pairs others h k = some_is others pairs (sym k ∙ h)
+one_list one (JsonLines names) input pairs others h k = some_is others pairs (sym k ∙ h)
 
 -- the pairs that explain are those of the file
 of_one : OneReading → (plan : Plan) (input file : List ℕ) (e : MakeError) → OfInput plan input (λ pairs. ExplainsKept plan (number_in_source plan.read.source) pairs e) → IsFile plan input file

@@ -2,8 +2,7 @@
 use Rattle.std.specs.Prelude.{◌≡◌, ◌≢◌, ℕ, List, [], Some, false}
 use Rattle.zerotrie_core.specs.Maps.{Map, beginning}
 use Rattle.zerotrie_core.specs.Texts.{Means}
-use Rattle.zerotrie_lines.specs.declared.reading.Format.TheVariants.{Tsv}
-use Rattle.zerotrie_lines.specs.declared.reading.Header.TheVariants.{Absent}
+use Rattle.zerotrie_lines.specs.Laws.{tsv_form}
 use Rattle.zerotrie_lines.specs.declared.reading.LineEnd.{LineEnd}
 use Rattle.zerotrie_core.specs.Kinds.{kind_of}
 use Rattle.zerotrie_queries.specs.Printed.{lines_of, pair_line}
@@ -24,7 +23,7 @@ use Rattle.zerotrie_making.specs.declared.plan.Source.TheVariants.{Text}
 -- a trie file of this kind that is made of the lines in which all pairs of a trie are listed has bytes that mean the map of that trie
 abbrev pub ListedIsMadeAgain : Type 0
 ListedIsMadeAgain = (kind : TrieKind) (bytes file : List ℕ) (m : Map) (plan : Plan) (means : Means (kind_of kind) bytes m)
-    → (end : LineEnd) → plan.read.source ≡ Text Tsv end Absent → plan.file.form ≢ Index → plan.file.kind ≡ Some kind → plan.read.lower_case ≡ false → plan.read.duplicates ≡ Refuse → IsFile plan (lines_of (pair_line style.Tsv) (beginning (kind_of kind) [] means.pairs)) file
+    → (end : LineEnd) → plan.read.source ≡ Text (tsv_form end) → plan.file.form ≢ Index → plan.file.kind ≡ Some kind → plan.read.lower_case ≡ false → plan.read.duplicates ≡ Refuse → IsFile plan (lines_of (pair_line style.Tsv) (beginning (kind_of kind) [] means.pairs)) file
     → (again : List ℕ) × IsFormOf plan.file.form (kind_of kind) again file × Means (kind_of kind) again m
 
 -- an input that is no pairs makes no file

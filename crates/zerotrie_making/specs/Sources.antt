@@ -7,9 +7,8 @@ use Rattle.zerotrie_lines.specs.Tables.{Pairs}
 use Rattle.zerotrie_lines.specs.Lines.{header_rows}
 use Rattle.zerotrie_lines.specs.Reads.{Reads}
 use Rattle.zerotrie_lines.specs.Reads as reads
-use Rattle.zerotrie_lines.specs.declared.reading.Format.{Format}
-use Rattle.zerotrie_lines.specs.declared.reading.Header.{Header}
-use Rattle.zerotrie_lines.specs.declared.reading.LineEnd.{LineEnd}
+use Rattle.zerotrie_lines.specs.declared.reading.Names.{Names}
+use Rattle.zerotrie_lines.specs.declared.reading.TextForm.{TextForm}
 use Rattle.zerotrie_lines.specs.declared.fault.ReadError.TheVariants as fault
 use Rattle.zerotrie_making.specs.Unread.{IsFirst}
 use Rattle.zerotrie_making.specs.Others.{IsOther}
@@ -44,9 +43,9 @@ IsNotJson text e = (line column : ℕ) × (e ≡ NotJson line column) × IsPlace
 
 -- how many lines or records are in front of the pairs of a source: a header, which JSON has not
 abbrev pub rows_before : Source → ℕ
-rows_before (Text format end header) = header_rows header
+rows_before (Text form) = header_rows form.header
 rows_before Json = 0
-rows_before JsonLines = 0
+rows_before (JsonLines names) = 0
 
 -- the number of a pair in a source, by its number among the pairs: the header is counted
 abbrev pub number_in_source : Source → ℕ → ℕ
@@ -54,22 +53,22 @@ number_in_source source n = rows_before source + n
 
 -- the input is the pairs, in their order
 abbrev pub IsPairs : Source → List ℕ → Pairs → Type 0
-IsPairs (Text format end header) input pairs = Reads format end header input pairs
+IsPairs (Text form) input pairs = Reads form input pairs
 IsPairs Json input pairs = (j : Value) × IsJson input j × (pairs_in j ≡ Some pairs)
-IsPairs JsonLines input pairs = pairs_in_lines (json_lines input) ≡ Some pairs
+IsPairs (JsonLines names) input pairs = pairs_in_lines names (json_lines input) ≡ Some pairs
 
 -- why an input is no text of pairs: it is another file, this line or record is none, or an allocation failed
-abbrev pub NoText : Format → LineEnd → Header → List ℕ → MakeError → Type 0
-NoText format end header input (NotText other) = IsOther input (Some other)
-NoText format end header input (Line number bad) = reads.Explains format end header input (fault.Line number bad)
-NoText format end header input (NotJson line column) = ⊥
-NoText format end header input NotPairs = ⊥
-NoText format end header input (NotPair bad) = ⊥
-NoText format end header input (Keys s) = ⊥
-NoText format end header input (SumTooLarge k) = ⊥
-NoText format end header input (Refused e) = ⊥
-NoText format end header input (IndexRefused e) = ⊥
-NoText format end header input OutOfMemory = Unit {0}
+abbrev pub NoText : TextForm → List ℕ → MakeError → Type 0
+NoText form input (NotText other) = IsOther input (Some other)
+NoText form input (Line number bad) = reads.Explains form input (fault.Line number bad)
+NoText form input (NotJson line column) = ⊥
+NoText form input NotPairs = ⊥
+NoText form input (NotPair bad) = ⊥
+NoText form input (Keys s) = ⊥
+NoText form input (SumTooLarge k) = ⊥
+NoText form input (Refused e) = ⊥
+NoText form input (IndexRefused e) = ⊥
+NoText form input OutOfMemory = Unit {0}
 
 -- the input is a JSON value in which there are no pairs, and this member or item of it is the first that is none, if it has any
 abbrev pub IsUnread : List ℕ → Option NoPair → Type 0
@@ -90,20 +89,20 @@ NoJson input (IndexRefused e) = ⊥
 NoJson input OutOfMemory = Unit {0}
 
 -- why an input is no lines of JSON with a pair in each: it is another file, or this line has none, or an allocation failed
-abbrev pub NoJsonLines : List ℕ → MakeError → Type 0
-NoJsonLines input (NotText other) = IsOther input (Some other)
-NoJsonLines input (Line number bad) = ⊥
-NoJsonLines input (NotJson line column) = ⊥
-NoJsonLines input NotPairs = IsUnreadLine input None
-NoJsonLines input (NotPair bad) = IsUnreadLine input (Some bad)
-NoJsonLines input (Keys s) = ⊥
-NoJsonLines input (SumTooLarge k) = ⊥
-NoJsonLines input (Refused e) = ⊥
-NoJsonLines input (IndexRefused e) = ⊥
-NoJsonLines input OutOfMemory = Unit {0}
+abbrev pub NoJsonLines : Names → List ℕ → MakeError → Type 0
+NoJsonLines names input (NotText other) = IsOther input (Some other)
+NoJsonLines names input (Line number bad) = ⊥
+NoJsonLines names input (NotJson line column) = ⊥
+NoJsonLines names input NotPairs = IsUnreadLine names input None
+NoJsonLines names input (NotPair bad) = IsUnreadLine names input (Some bad)
+NoJsonLines names input (Keys s) = ⊥
+NoJsonLines names input (SumTooLarge k) = ⊥
+NoJsonLines names input (Refused e) = ⊥
+NoJsonLines names input (IndexRefused e) = ⊥
+NoJsonLines names input OutOfMemory = Unit {0}
 
 -- why an input is no pairs
 abbrev pub NoPairs : Source → List ℕ → MakeError → Type 0
-NoPairs (Text format end header) input e = NoText format end header input e
+NoPairs (Text form) input e = NoText form input e
 NoPairs Json input e = NoJson input e
-NoPairs JsonLines input e = NoJsonLines input e
+NoPairs (JsonLines names) input e = NoJsonLines names input e

@@ -13,19 +13,17 @@ use zerotrie_lines::{Table, read_items, read_pairs};
 
 /// Reads the pairs of an input, in their order, whose keys borrow it. `None` if `read_input` has to
 /// copy them.
-pub(crate) fn items_in(
+pub(crate) fn items_in<'a>(
     alloc: Global,
-    read: ReadPlan,
-    input: &[u8],
-) -> Result<Option<Vec<(&[u8], usize)>>, AllocError>
+    read: ReadPlan<'_>,
+    input: &'a [u8],
+) -> Result<Option<Vec<(&'a [u8], usize)>>, AllocError>
     ensures { IfOk result (λ items. IfSome items (λ items. (pairs : Pairs)
-        × IsPairs read.source input.now pairs
-        × (pairs_of items.items ≡ lowered read.lower_case pairs))) }
+        × IsPairs read.entry.source input.now pairs
+        × (pairs_of items.items ≡ lowered read.entry.lower_case pairs))) }
 {
     match read.source {
-        Source::Text(format, end, header) if !read.lower_case => {
-            read_items(alloc, format, end, header, input)
-        }
+        Source::Text(form) if !read.lower_case => read_items(alloc, form, input),
         _ => Ok(None),
     }
 }
@@ -43,16 +41,20 @@ fn lowered(lower_case: bool, pairs: Table) -> Table
 
 /// Reads the pairs of an input, in their order. If the plan says so, the ASCII letters of their keys
 /// become lower case.
-pub(crate) fn read_input(alloc: Global, read: ReadPlan, input: &[u8]) -> Result<Table, MakeError>
-    ensures ok { IfOk result (λ table. (pairs : Pairs) × IsPairs read.source input.now pairs
-        × (table ≡ lowered read.lower_case pairs)) }
-    ensures err { IfErr result (λ e. NoPairs read.source input.now e) }
+pub(crate) fn read_input(
+    alloc: Global,
+    read: ReadPlan<'_>,
+    input: &[u8],
+) -> Result<Table, MakeError>
+    ensures ok { IfOk result (λ table. (pairs : Pairs) × IsPairs read.entry.source input.now pairs
+        × (table ≡ lowered read.entry.lower_case pairs)) }
+    ensures err { IfErr result (λ e. NoPairs read.entry.source input.now e) }
 {
     match read.source {
-        Source::Text(format, end, header) => {
-            Ok(read_pairs(alloc, format, end, header, read.lower_case, input)?)
-        }
+        Source::Text(form) => Ok(read_pairs(alloc, form, read.lower_case, input)?),
         Source::Json => Ok(lowered(read.lower_case, read_json(alloc, input)?)),
-        Source::JsonLines => Ok(lowered(read.lower_case, read_json_lines(alloc, input)?)),
+        Source::JsonLines(names) => {
+            Ok(lowered(read.lower_case, read_json_lines(alloc, names, input)?))
+        }
     }
 }

@@ -5,31 +5,31 @@ ghost use Rattle.zerotrie_making.specs.Sources.{rows_before};
 
 use crate::duplicates::Duplicates;
 use zerotrie_core::TrieKind;
-use zerotrie_lines::{Format, Header, LineEnd};
+use zerotrie_lines::{Names, TextForm};
 use zerotrie_sets::{Rule, Selection};
 
 /// How an input is pairs.
 #[derive(Clone, Copy, PartialEq, Eq, Debug)]
-pub enum Source {
-    /// Lines or records, one a pair, with what ends them, and whether a header is in front.
-    Text(Format, LineEnd, Header),
+pub enum Source<'a> {
+    /// Lines or records of this form, one a pair.
+    Text(TextForm<'a>),
     /// A JSON value: an object from keys to numbers, or a list of pairs. A pair is a list of two, a
     /// key and a number, and a key is a text or a list of bytes. The pairs are in the order of the
     /// text; a name that comes twice is a key that two pairs have.
     Json,
-    /// Lines, each a JSON value: such a pair, or an object whose members `key` and `value` are the
-    /// two. Other members count for nothing.
-    JsonLines,
+    /// Lines, each a JSON value: such a pair, or an object whose members with these names are the two.
+    /// Other members count for nothing.
+    JsonLines(Names<'a>),
 }
 
-impl Source {
+impl Source<'_> {
     /// Returns how many lines or records are in front of the pairs.
     pub(crate) fn rows_before(self) -> usize
-        ensures { result ≡ rows_before self }
+        ensures { result ≡ rows_before self.entry }
     {
         match self {
-            Source::Text(_, _, header) => header.rows(),
-            Source::Json | Source::JsonLines => 0,
+            Source::Text(form) => form.header.rows(),
+            Source::Json | Source::JsonLines(_) => 0,
         }
     }
 }
@@ -49,9 +49,9 @@ pub enum FileForm {
 
 /// How the pairs of an input are read.
 #[derive(Clone, Copy, PartialEq, Eq, Debug)]
-pub struct ReadPlan {
+pub struct ReadPlan<'a> {
     /// How the input is pairs.
-    pub source: Source,
+    pub source: Source<'a>,
     /// Whether the ASCII letters of the keys become lower case.
     pub lower_case: bool,
     /// What is done with pairs that have one key.
@@ -72,9 +72,9 @@ pub struct FilePlan {
 
 /// How a file is made of the pairs of an input.
 #[derive(Clone, Copy, PartialEq, Eq, Debug)]
-pub struct Plan {
+pub struct Plan<'a> {
     /// How the pairs are read.
-    pub read: ReadPlan,
+    pub read: ReadPlan<'a>,
     /// What file is made of them.
     pub file: FilePlan,
 }

@@ -18,7 +18,7 @@ use Rattle.zerotrie_queries.specs.declared.question.Spelling.{Spelling}
 use Rattle.zerotrie_queries.specs.declared.question.Spelling.TheVariants.{Plain, Escaped}
 use Rattle.zerotrie_queries.specs.declared.question.Query.{Query}
 use Rattle.zerotrie_queries.specs.Printed.{value_line, value_lines, key_line, found_line, fronts_text, first_key_line, are_found}
-use Rattle.zerotrie_queries.specs.Answers.{IsAnswer, IsAnswerAs, AddsAnswer, IsAdded, IsAddedAt, AreAddedAt, Belongs, AreAnswered, AreAnsweredInPart, as_is, with_escapes}
+use Rattle.zerotrie_queries.specs.Answers.{IsAnswer, IsAnswerAs, AddsAnswer, IsAdded, IsAddedAt, AreAddedAt, Belongs, AreAnswered, AreAnsweredInPart, as_is, with_escapes, fronts_at}
 use Rattle.zerotrie_queries.specs.Finders.{Dictionary, TrieFinds, IndexFinds, asks_keys, dictionary_of}
 use Rattle.zerotrie_index.specs.Layout.{IsIndex}
 use Rattle.zerotrie_index.specs.Placed as placed
@@ -93,8 +93,8 @@ plain_has Longest d text =
     let r = found_in d.value_of text (length text) in (found_line text r.0, is_some r.0, (r.0, r.1, refl, refl))
 plain_has (LongestAt border) d text =
     let r = found_in (at_borders (border ∷ []) text d.value_of) text (length text) in (found_line text r.0, is_some r.0, (r.0, r.1, refl, refl))
-plain_has Prefixes d text =
-    let keys = fronts d.value_of 0 text in (fronts_text text keys, nat_lt 0 (length keys), (refl, refl))
+plain_has (Prefixes border) d text =
+    let keys = fronts_at border text (fronts d.value_of 0 text) in (fronts_text text keys, nat_lt 0 (length keys), (refl, refl))
 plain_has KeyOf d text = elim (number_or_none text) [
   | inl number ↦ let key = d.key_of number.0 in (first_key_line key, is_some key, (key, inl (number.0, number.1, refl), refl, refl))
   | inr none ↦ (first_key_line None, false, (None, inr (none, refl), refl, refl))

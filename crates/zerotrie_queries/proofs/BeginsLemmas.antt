@@ -2,8 +2,7 @@
 use Rattle.std.proofs.Common.{◌≡◌, ◌∙◌, ℕ, List, [], ◌∷◌, Bool, true, false, Option, Some, None, refl, ap}
 use Rattle.std.specs.Prelude.{◌||◌}
 use Rattle.zerotrie_search.specs.Sets.{some_front, some_front_from}
-use Rattle.zerotrie_queries.specs.Chosen.{found_from}
-use Rattle.zerotrie_queries.specs.Found.{found_left}
+use Rattle.zerotrie_queries.specs.Found.{found_from, found_left}
 
 -- fronts are accepted alike
 front_alike : (p q : List ℕ → Bool) → ((key : List ℕ) → p key ≡ q key) → (key : List ℕ) → some_front p key ≡ some_front q key

@@ -18,7 +18,8 @@ use Rattle.zerotrie_core.specs.declared.TrieKind.TheVariants.{Simple, Ignore, Ha
 use Rattle.zerotrie_index.specs.Tries.{folded_key}
 use Rattle.zerotrie_search.specs.Automata.{edits_to, finds_by, finds_in, ignores_case, most_by, word_by}
 use Rattle.zerotrie_search.specs.Sets.{by_bytes, some_front}
-use Rattle.zerotrie_queries.specs.Chosen.{at_edits, by_edits, found_from, sought_at, closest, edits_matched, edits_of, folded_bound, measured, is_in, is_kept, is_matched, is_chosen, is_word, told_edits, word_of, chosen, IsFolded, AreWordsOf, HasWords}
+use Rattle.zerotrie_queries.specs.Chosen.{at_edits, by_edits, sought_at, closest, edits_matched, edits_of, folded_bound, measured, is_in, is_kept, is_matched, is_chosen, is_word, told_edits, word_of, chosen, IsFolded, AreWordsOf, HasWords}
+use Rattle.zerotrie_queries.specs.Found.{found_from}
 use Rattle.zerotrie_queries.specs.Near.{edits_from}
 use Rattle.zerotrie_queries.specs.Sorted.{is_free, is_prefix_alone, picked}
 use Rattle.zerotrie_queries.specs.declared.folding.FoldedWords.{FoldedWords}

@@ -26,10 +26,13 @@ use Rattle.zerotrie_queries.specs.Chosen.{at_edits, begins_of, chosen, closest, 
 use Rattle.zerotrie_queries.specs.Listed.{limited, first_left, first_picked, printed, Gives, IsPrintable, AreListed, AreListedInPart, AreUnprintable}
 use Rattle.zerotrie_queries.specs.Near.{edits_from}
 use Rattle.zerotrie_queries.specs.Printed.{are_printable, can_print, edits_line, listed, IsFirstUnprintable}
+use Rattle.zerotrie_queries.specs.Pairs.{AreChosenValid, left_of_chosen}
+use Rattle.zerotrie_queries.specs.Ranked.{greatest, ranked, topped}
 use Rattle.zerotrie_queries.specs.Sorted.{found_between, is_prefix_alone, picked, AreWithin}
 use Rattle.zerotrie_queries.specs.declared.folding.FoldedWords.{FoldedWords}
 use Rattle.zerotrie_queries.specs.declared.print.Form.{Form}
 use Rattle.zerotrie_queries.specs.declared.print.Form.TheVariants.{Lines, Distances, Json, Count}
+use Rattle.zerotrie_queries.specs.declared.listing.listed.ChosenPairs.{ChosenPairs}
 use Rattle.zerotrie_queries.specs.declared.question.Choice.{Choice}
 use Rattle.zerotrie_queries.specs.declared.question.Order.{Order}
 use Rattle.zerotrie_queries.specs.declared.question.Order.TheVariants.{Stored, ByBytes, Closest, Nearest}
@@ -38,6 +41,7 @@ use Rattle.zerotrie_queries.proofs.ChoiceLemmas.{accepted_alike, by_all, few_acc
 use Rattle.zerotrie_queries.proofs.FoldLemmas.{picked_folded}
 use Rattle.zerotrie_queries.proofs.NearLemmas.{few_of_nearest, near_kept, two_as_one}
 use Rattle.zerotrie_queries.proofs.PartLemmas.{part_none}
+use Rattle.zerotrie_queries.proofs.RankLemmas.{ranked_len}
 use Rattle.zerotrie_queries.proofs.SortedLemmas.{chosen_within, gives_between}
 
 -- of the pairs that its word finds those of which the other conditions of a choice hold
@@ -125,12 +129,19 @@ has_any IsValid left kind c bytes p (Ok found) gives none = λ m means.
     subst (λ l. (length l == 0) ≡ not found) is (none given.0)
 has_any IsValid left kind c bytes p (Err e) gives none = tt
 
+-- those of them that have the greatest values
+pub gives_greatest : (most : ℕ) (pick : Pairs → Pairs) (kind : TrieKind) (bytes : List ℕ) (p s : ChosenPairs) → AreChosenValid s → (AreChosenValid p → left_of_chosen s ≡ to_come (accepted (λ _. true) (greatest most (left_of_chosen p).pairs)))
+    → Gives AreChosenValid left_of_chosen pick kind bytes p → Gives AreChosenValid left_of_chosen (λ all. greatest most (pick all)) kind bytes s
+gives_greatest most pick kind bytes p s valid left h pairs lists =
+    let given = h pairs lists in
+    (valid, left given.0 ∙ ap to_come (all_accepted (greatest most (left_of_chosen p).pairs) ∙ ap (λ l. greatest most l.pairs) given.1))
+
 -- the first of them, of a choice with folded words
 pub gives_first : {P : Type 0} (IsValid : P → Type 0) (left : P → Left) (kind : TrieKind) (s : ListQuery) (words : FoldedWords) (d : Choice) (bytes : List ℕ) (p : P) → AreWordsOf kind s.choice words → HasWords words s.choice d
-    → Gives IsValid left (picked s.order kind d) kind bytes p → (pairs : Pairs) → Lists (kind_of kind) bytes pairs → IsValid p × (first_left false s.limit (left p) ≡ to_come (first_picked s kind pairs))
+    → Gives IsValid left (λ all. topped s.top (picked s.order kind d all)) kind bytes p → (pairs : Pairs) → Lists (kind_of kind) bytes pairs → IsValid p × (first_left false s.limit (left p) ≡ to_come (first_picked s kind pairs))
 gives_first IsValid left kind s words d bytes p are has h pairs lists =
     let given = h pairs lists in
-    (given.0, ap (first_left false s.limit) (given.1 ∙ ap to_come (picked_folded kind s.choice words d are has s.order pairs)))
+    (given.0, ap (first_left false s.limit) (given.1 ∙ ap (λ l. to_come (topped s.top l)) (picked_folded kind s.choice words d are has s.order pairs)))
 
 -- they are no more than all
 few_taken : (n : ℕ) (pairs : Pairs) → length (take n pairs) ≤ length pairs
@@ -141,6 +152,10 @@ few_taken (suc n) (e ∷ pairs) = let rest = few_taken n pairs in omega (arith, 
 few_limited : (limit : Option ℕ) (pairs : Pairs) → length (limited limit pairs) ≤ length pairs
 few_limited None pairs = omega arith
 few_limited (Some n) pairs = few_taken n pairs
+
+few_topped : (top : Option ℕ) (pairs : Pairs) → length (topped top pairs) ≤ length pairs
+few_topped None pairs = omega arith
+few_topped (Some most) pairs = let few = few_taken most (ranked pairs) in let all = ranked_len (λ e. e.1) [] pairs in omega (arith, few, all)
 
 few_closest : (kind : TrieKind) (c : Choice) (pairs : Pairs) (e n : ℕ) → length (closest kind c pairs e n) ≤ length pairs
 few_closest kind c pairs e zero = few_accepted (is_chosen kind (at_edits e c)) pairs
@@ -162,10 +177,11 @@ few_picked Nearest kind c pairs = let few = few_of_nearest (measured kind c) (en
 
 pub few_first : (s : ListQuery) (kind : TrieKind) (bytes : List ℕ) → length bytes < 2 ^ 64 → (pairs : Pairs) → Lists (kind_of kind) bytes pairs → length (first_picked s kind pairs) < 2 ^ 64
 few_first s kind bytes short pairs lists =
-    let first = few_limited s.limit (picked s.order kind s.choice pairs) in
+    let first = few_limited s.limit (topped s.top (picked s.order kind s.choice pairs)) in
+    let top = few_topped s.top (picked s.order kind s.choice pairs) in
     let few = few_picked s.order kind s.choice pairs in
     let all = lists_few lists in
-    omega (arith, first, few, all, short)
+    omega (arith, first, top, few, all, short)
 
 -- what is not begun is written in part
 pub none_written : (form : Form) (s : ListQuery) (kind : TrieKind) (bytes : List ℕ) (old : Option (List ℕ)) → AreListedInPart form s kind bytes old old

@@ -12,6 +12,7 @@ pub mod PartLemmas
 mod LongestLemmas
 mod FrontLemmas
 mod LimitLemmas
+pub mod RankLemmas
 mod SortedLemmas
 pub mod RecasedLemmas
 mod DiffLemmas

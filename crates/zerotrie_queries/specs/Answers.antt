@@ -1,16 +1,17 @@
 -- What is printed of keys and texts that a trie is asked for.
-use Rattle.std.specs.Prelude.{◌≡◌, ◌⊎◌, ℕ, List, [], ◌∷◌, ◌++◌, ◌&&◌, map, length, nat_lt, Option, None, Bool, true, false, is_some, codes}
+use Rattle.std.specs.Prelude.{◌≡◌, ◌⊎◌, ℕ, List, [], ◌∷◌, ◌++◌, ◌&&◌, map, length, nat_lt, Option, Some, None, Bool, true, false, is_some, codes}
 use Rattle.std.specs.Borrow.{Bor}
 use Rattle.std.specs.Io.KnownBytes.{Appends}
+use Rattle.std.specs.List.{filter}
 use Rattle.zerotrie_core.specs.Kind.{Kind}
 use Rattle.zerotrie_core.specs.Maps.{Map, look}
 use Rattle.zerotrie_core.specs.Prefixes.{IsLongest, fronts}
-use Rattle.zerotrie_core.specs.Borders.{at_borders}
+use Rattle.zerotrie_core.specs.Borders.{at_borders, is_border}
 use Rattle.zerotrie_files.specs.Parts.{AppendsPart}
 use Rattle.zerotrie_lines.specs.Escapes.{Spells}
 use Rattle.zerotrie_lines.specs.Numbers.{IsNumber}
 use Rattle.zerotrie_queries.specs.Finders.{Dictionary, IndexFinds}
-use Rattle.zerotrie_queries.specs.Printed.{value_line, key_line, found_line, fronts_text, first_key_line}
+use Rattle.zerotrie_queries.specs.Printed.{value_line, key_line, found_line, front_lines, fronts_text, first_key_line}
 use Rattle.zerotrie_queries.specs.declared.question.Asked.{Asked}
 use Rattle.zerotrie_queries.specs.declared.question.Asked.TheVariants.{Value, Pair, Longest, LongestAt, Prefixes, KeyOf}
 use Rattle.zerotrie_queries.specs.declared.question.Spelling.{Spelling}
@@ -29,6 +30,19 @@ IsNoNumber text = (value : ℕ) → IsNumber text value → ⊥
 abbrev pub IsKeyOf : (ℕ → Option (List ℕ)) → (text : List ℕ) → Option (List ℕ) → Type 0
 IsKeyOf key_of text key = ((value : ℕ) × IsNumber text value × (key ≡ key_of value)) ⊎ (IsNoNumber text × (key ≡ None))
 
+-- whether a key of this length, with which a text begins, ends at a border of the text, if that is asked for
+abbrev pub ends_at : (border : Option ℕ) → (text : List ℕ) → (len : ℕ) → Bool
+ends_at None text len = true
+ends_at (Some delimiter) text len = is_border (delimiter ∷ []) text len
+
+-- those of the keys that a text begins with that do
+abbrev pub fronts_at : (border : Option ℕ) → (text : List ℕ) → List (ℕ × ℕ) → List (ℕ × ℕ)
+fronts_at border text keys = filter (λ (r : ℕ × ℕ). ends_at border text r.0) keys
+
+-- their lines were added, and it is known whether there is one
+abbrev pub AddsFronts : (border : Option ℕ) → (text old new : List ℕ) → (keys : List (ℕ × ℕ)) → (found : Bool) → Type 0
+AddsFronts border text old new keys found = (new ≡ old ++ front_lines text (fronts_at border text keys)) × (found ≡ nat_lt 0 (length (fronts_at border text keys)))
+
 -- what is printed of a text that was asked for, and whether it was found
 abbrev pub IsAnswer : Asked → Dictionary → (text printed : List ℕ) → (found : Bool) → Type 0
 IsAnswer Value d key printed found = let value = d.value_of key in (printed ≡ value_line value) × (found ≡ is_some value)
@@ -36,7 +50,7 @@ IsAnswer Pair d key printed found = let value = d.value_of key in (printed ≡ k
 IsAnswer Longest d text printed found = (r : Option (ℕ × ℕ)) × IsLongest d.value_of text (length text) r × (printed ≡ found_line text r) × (found ≡ is_some r)
 IsAnswer (LongestAt delimiter) d text printed found = (r : Option (ℕ × ℕ)) × IsLongest (at_borders (delimiter ∷ []) text d.value_of) text (length text) r
     × (printed ≡ found_line text r) × (found ≡ is_some r)
-IsAnswer Prefixes d text printed found = let keys = fronts d.value_of 0 text in (printed ≡ fronts_text text keys) × (found ≡ nat_lt 0 (length keys))
+IsAnswer (Prefixes border) d text printed found = let keys = fronts_at border text (fronts d.value_of 0 text) in (printed ≡ fronts_text text keys) × (found ≡ nat_lt 0 (length keys))
 IsAnswer KeyOf d text printed found = (key : Option (List ℕ)) × IsKeyOf d.key_of text key × (printed ≡ first_key_line key) × (found ≡ is_some key)
 
 -- an escape of a text is malformed, so it spells nothing

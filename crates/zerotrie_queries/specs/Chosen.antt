@@ -13,13 +13,14 @@ use Rattle.zerotrie_index.specs.Tries.{folded_key}
 use Rattle.zerotrie_search.specs.Automata.{any_edits_to, any_most, edits_to, finds_by, ignores_case, most_by, word_by}
 use Rattle.zerotrie_search.specs.Nearest.{measured_up_to}
 use Rattle.zerotrie_search.specs.Searches.{accepted}
-use Rattle.zerotrie_search.specs.Sets.{by_bytes, some_front}
+use Rattle.zerotrie_search.specs.Sets.{by_bytes}
 use Rattle.zerotrie_search.specs.Globs as globs
 use Rattle.zerotrie_search.specs.declared.TheConstants.{WORD_LIMIT}
 use Rattle.zerotrie_search.specs.declared.any.AnyAutomaton.{AnyAutomaton}
 use Rattle.zerotrie_search.specs.declared.any.SearchBy.{SearchBy}
 use Rattle.zerotrie_search.specs.declared.any.SearchBy.TheVariants as by
 use Rattle.zerotrie_search.specs.declared.range.KeyRange.{KeyRange}
+use Rattle.zerotrie_queries.specs.Found.{found_from}
 use Rattle.zerotrie_queries.specs.Near.{edits_from}
 use Rattle.zerotrie_queries.specs.declared.folding.FoldedWords.{FoldedWords}
 use Rattle.zerotrie_queries.specs.declared.question.Choice.{Choice}
@@ -50,10 +51,6 @@ folded_bound kind bound = bound_map (folded_key (kind_of kind)) bound
 -- whether a key is between the bounds of a range
 abbrev pub is_in : TrieKind → KeyRange → List ℕ → Bool
 is_in kind r key = bounds_contain by_bytes (folded_bound kind (bound_map (λ b. b.now) r.from)) (folded_bound kind (bound_map (λ b. b.now) r.to)) (folded_key (kind_of kind) key)
-
--- whether a key is found, or if that is asked, begins with a key that is
-abbrev pub found_from : (begins : Bool) → (finds : List ℕ → Bool) → List ℕ → Bool
-found_from begins finds key = if begins then some_front finds key else finds key
 
 -- whether keys need only begin with one that the word finds
 abbrev pub begins_of : Option Sought → Bool

@@ -34,7 +34,7 @@ asks_keys Value = true
 asks_keys Pair = true
 asks_keys Longest = false
 asks_keys (LongestAt delimiter) = false
-asks_keys Prefixes = false
+asks_keys (Prefixes border) = false
 asks_keys KeyOf = false
 
 -- it is that of the index that bytes are, which is asked for the values of keys alone

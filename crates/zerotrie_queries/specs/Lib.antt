@@ -2,6 +2,7 @@ pub mod Texts
 pub mod Files
 pub mod Json
 pub mod Printed
+pub mod Ranked
 pub mod Near
 pub mod Chosen
 pub mod Found

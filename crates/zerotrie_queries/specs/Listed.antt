@@ -11,6 +11,7 @@ use Rattle.zerotrie_files.specs.Faults.{IsOutOfMemory}
 use Rattle.zerotrie_index.specs.Tries.{folded_key}
 use Rattle.zerotrie_queries.specs.Chosen.{told_by, told_edits}
 use Rattle.zerotrie_queries.specs.Printed.{IsFirstUnprintable, are_printable, can_print, listed}
+use Rattle.zerotrie_queries.specs.Ranked.{topped}
 use Rattle.zerotrie_queries.specs.Sorted.{picked}
 use Rattle.zerotrie_queries.specs.declared.print.Form.{Form}
 use Rattle.zerotrie_queries.specs.declared.question.ListQuery.{ListQuery}
@@ -42,9 +43,9 @@ first_left false limit left = record { pairs = limited limit left.pairs; ended =
 abbrev pub Gives : {P : Type 0} → (IsValid : P → Type 0) → (left : P → Left) → (pick : Pairs → Pairs) → TrieKind → (bytes : List ℕ) → P → Type 0
 Gives IsValid left pick kind bytes p = (pairs : Pairs) → Lists (kind_of kind) bytes pairs → IsValid p × (left p ≡ to_come (pick pairs))
 
--- the pairs of a selection
+-- the pairs of a selection: the first that are picked, or of those that have the greatest values
 abbrev pub first_picked : ListQuery → TrieKind → Pairs → Pairs
-first_picked s kind pairs = limited s.limit (picked s.order kind s.choice pairs)
+first_picked s kind pairs = limited s.limit (topped s.top (picked s.order kind s.choice pairs))
 
 -- pairs can be printed so
 abbrev pub IsPrintable : Form → Pairs → Type 0

@@ -1,10 +1,12 @@
 -- What is known of the listings of a choice.
 use Rattle.std.specs.Prelude.{ℕ, List, length}
+use Rattle.std.specs.Vec.Iter.{into_iter_items}
 use Rattle.zerotrie_core.specs.Listings.{Left}
 use Rattle.zerotrie_core.specs.WellFormed.{IsWellFormed}
 use Rattle.zerotrie_search.specs.Searches.{accepted_left}
 use Rattle.zerotrie_queries.specs.Listed.{first_left}
 use Rattle.zerotrie_queries.specs.Kept.{keeps, may_keep}
+use Rattle.zerotrie_queries.specs.Ranked.{left_of_held}
 use Rattle.zerotrie_queries.specs.declared.first_pairs.FirstPairs.{FirstPairs}
 use Rattle.zerotrie_queries.specs.declared.listing.listed.ChosenPairs.{ChosenPairs}
 use Rattle.zerotrie_queries.specs.declared.listing.listed.ListedPairs.{ListedPairs}
@@ -27,6 +29,7 @@ IsValid (pairs.NearFuzzy s) = IsWellFormed s.kind s.bytes
 IsValid (pairs.NearFuzzyChars s) = IsWellFormed s.kind s.bytes
 IsValid (pairs.NearSwaps s) = IsWellFormed s.kind s.bytes
 IsValid (pairs.NearSwapsChars s) = IsWellFormed s.kind s.bytes
+IsValid (pairs.Held s) = Unit {0}
 
 -- what is left
 abbrev pub left_of : ListedPairs → Left
@@ -45,6 +48,7 @@ left_of (pairs.NearFuzzy s) = s.left
 left_of (pairs.NearFuzzyChars s) = s.left
 left_of (pairs.NearSwaps s) = s.left
 left_of (pairs.NearSwapsChars s) = s.left
+left_of (pairs.Held s) = left_of_held s
 
 -- the current pair
 abbrev pub now_of : ListedPairs → List ℕ × ℕ
@@ -63,6 +67,7 @@ now_of (pairs.NearFuzzy s) = (s.key, s.value)
 now_of (pairs.NearFuzzyChars s) = (s.key, s.value)
 now_of (pairs.NearSwaps s) = (s.key, s.value)
 now_of (pairs.NearSwapsChars s) = (s.key, s.value)
+now_of (pairs.Held s) = (s.now.0.items, s.now.1)
 
 -- at most how many pairs are to come on any bytes
 abbrev pub most_of : ListedPairs → ℕ
@@ -81,6 +86,7 @@ most_of (pairs.NearFuzzy s) = s.most
 most_of (pairs.NearFuzzyChars s) = s.most
 most_of (pairs.NearSwaps s) = s.most
 most_of (pairs.NearSwapsChars s) = s.most
+most_of (pairs.Held s) = length (into_iter_items s.rest)
 
 -- the same of those that are chosen, and of the first of these
 abbrev pub AreChosenValid : ChosenPairs → Type 0

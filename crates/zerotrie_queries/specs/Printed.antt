@@ -53,10 +53,10 @@ abbrev pub front_lines : List ℕ → List (ℕ × ℕ) → List ℕ
 front_lines text [] = []
 front_lines text (r ∷ found) = front_line text r ++ front_lines text found
 
--- how many keys a text begins with, and the line of each
+-- the line of each key that a text begins with
 abbrev pub fronts_text : List ℕ → List (ℕ × ℕ) → List ℕ
 fronts_text text [] = codes "none\n"
-fronts_text text (r ∷ found) = decimal (length (r ∷ found)) ++ (codes " found\n" ++ front_lines text (r ∷ found))
+fronts_text text (r ∷ found) = front_lines text (r ∷ found)
 
 -- a byte that a field of CSV has without quotes: printable ASCII but a quotation mark and a comma
 abbrev pub is_csv_plain : ℕ → Bool

@@ -1,8 +1,7 @@
 //! The keys that a word finds, or those that begin with one.
 
 ghost use Rattle.std.specs.Prelude.{IfSome};
-ghost use Rattle.zerotrie_queries.specs.Chosen.{found_from};
-ghost use Rattle.zerotrie_queries.specs.Found.{found_left};
+ghost use Rattle.zerotrie_queries.specs.Found.{found_from, found_left};
 
 use zerotrie_core::ByteSet;
 use zerotrie_search::{Automaton, BeginsWith};

@@ -11,6 +11,7 @@ ghost use Rattle.zerotrie_queries.specs.declared.listing.ListError.TheVariants.{
 
 mod distances;
 mod forms;
+mod greatest;
 mod json_object;
 mod listed;
 mod printable;
@@ -120,6 +121,7 @@ fn write_selection<W: Write>(
 /// let nearest = ListQuery {
 ///     choice,
 ///     order: Order::Nearest,
+///     top: None,
 ///     limit: None,
 /// };
 /// let mut lines = Noted::new(Vec::new(rt.alloc()));

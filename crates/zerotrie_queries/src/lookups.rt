@@ -1,6 +1,6 @@
 //! Look-ups of keys, of the keys that texts begin with, and of values.
 
-ghost use Rattle.std.specs.Prelude.{◌≡◌, ◌++◌, map, length, true, IfOk, OnErr};
+ghost use Rattle.std.specs.Prelude.{◌≡◌, map, true, IfOk, OnErr};
 ghost use Rattle.zerotrie_core.specs.Kind.{simple_ascii};
 ghost use Rattle.zerotrie_core.specs.Maps.{Map, Pairs, look, value_at};
 ghost use Rattle.zerotrie_core.specs.Prefixes.{Leaves, fronts_left};
@@ -8,9 +8,8 @@ ghost use Rattle.zerotrie_core.specs.Texts.{Lists, Means};
 ghost use Rattle.zerotrie_core.specs.Kinds.{kind_of};
 ghost use Rattle.zerotrie_files.specs.Faults.{IsNoted};
 ghost use Rattle.zerotrie_index.specs.Placed.{MayStill};
-ghost use Rattle.zerotrie_queries.specs.Printed.{front_lines};
 ghost use Rattle.zerotrie_queries.specs.Finders.{Finds, IndexFinds, asks_keys, dictionary_of};
-ghost use Rattle.zerotrie_queries.specs.Answers.{as_is, with_escapes, AddsAnswer, IsAdded, IsAddedAt, AreAddedAt, AreAnswered, AreAnsweredInPart};
+ghost use Rattle.zerotrie_queries.specs.Answers.{as_is, ends_at, with_escapes, AddsAnswer, AddsFronts, IsAdded, IsAddedAt, AreAddedAt, AreAnswered, AreAnsweredInPart};
 ghost use Rattle.zerotrie_queries.specs.declared.question.Asked.TheVariants.{Prefixes};
 
 mod first_keys;
@@ -26,52 +25,62 @@ use std::io::Write;
 use zerotrie_core::{CommonPrefixes, Trie, TrieRef};
 use zerotrie_files::Noted;
 use zerotrie_index::{ReadAt, get, get_at};
-use zerotrie_lines::{unescape, write_number};
+use zerotrie_lines::unescape;
 
-/// Adds the lines of the keys to come that a text begins with, and returns how many there are.
+/// Returns whether a key of this length, with which a text begins, ends at a border of the text, if that is asked
+/// for.
+fn ends_at(border: Option<u8>, text: &[u8], len: usize) -> bool
+    ensures { result ≡ ends_at border text.now len }
+{
+    match (border, text.get(len)) {
+        (Some(delimiter), Some(next)) => len == 0 || delimiter == *next,
+        (Some(_), None) | (None, _) => true,
+    }
+}
+
+/// Adds the lines of the keys to come that a text begins with, or of those that end at a border. Returns whether
+/// there is one.
 fn add_fronts(
     lines: &mut Vec<u8>,
     text: &[u8],
+    border: Option<u8>,
     fronts: &mut CommonPrefixes<'_, '_>,
-) -> Result<usize, AllocError>
+) -> Result<bool, AllocError>
     requires { (fronts.old.text ≡ text.now) }
-    ensures { IfOk result (λ count. (pairs : Pairs) → Leaves fronts.old pairs
-        → (lines.new.items ≡ lines.old.items ++ front_lines text.now (fronts_left fronts.old pairs))
-        × (count ≡ length (fronts_left fronts.old pairs))) }
+    ensures { IfOk result (λ found. (pairs : Pairs) → Leaves fronts.old pairs
+        → AddsFronts border text.now lines.old.items lines.new.items (fronts_left fronts.old pairs)
+        found) }
 {
-    let mut count: usize = 0;
+    let mut found = false;
     while let Some((len, value)) = fronts.next() {
-        add_front(lines, text, len, value)?;
-        count += 1;
+        if ends_at(border, text, len) {
+            add_front(lines, text, len, value)?;
+            found = true;
+        }
     }
-    Ok(count)
+    Ok(found)
 }
 
-/// Adds a line that says how many keys a text begins with and the line of each, or `none`. Returns
+/// Adds the line of each key that a text begins with, or of those that end at a border, or `none`. Returns
 /// whether there is one.
 fn add_prefixes(
-    alloc: Global,
     text: &mut Vec<u8>,
     trie: &TrieRef<'_>,
+    border: Option<u8>,
     asked: &[u8],
 ) -> Result<bool, AllocError>
     ensures { IfOk result (λ found. (m : Map) (pairs : Pairs)
         → Means (kind_of trie.now.kind) trie.now.bytes.now m
         → Lists (kind_of trie.now.kind) trie.now.bytes.now pairs
-        → AddsAnswer (as_is Prefixes) (dictionary_of (look (kind_of trie.now.kind) m) pairs)
+        → AddsAnswer (as_is (Prefixes border)) (dictionary_of (look (kind_of trie.now.kind) m) pairs)
         asked.now text.old.items text.new.items found) }
 {
-    let mut lines = Vec::new(alloc);
     let mut fronts = trie.common_prefixes(asked);
-    let count = add_fronts(&mut lines, asked, &mut fronts)?;
-    if count == 0 {
+    let found = add_fronts(text, asked, border, &mut fronts)?;
+    if !found {
         text.extend_from_slice(b"none\n")?;
-        return Ok(false);
     }
-    write_number(text, count)?;
-    text.extend_from_slice(b" found\n")?;
-    text.extend_from_slice(lines.as_slice())?;
-    Ok(true)
+    Ok(found)
 }
 
 /// Adds what a trie was asked of a text, and returns whether it was found.
@@ -109,7 +118,7 @@ fn add_trie_answer(
             add_found(line, text, found)?;
             Ok(found.is_some())
         }
-        Asked::Prefixes => add_prefixes(alloc, line, trie, text),
+        Asked::Prefixes(border) => add_prefixes(line, trie, border, text),
         Asked::KeyOf => add_key_by_scan(alloc, line, trie, text),
     }
 }
@@ -131,7 +140,7 @@ fn add_indexed(
             add_key_value(line, key, value)?;
             Ok(value.is_some())
         }
-        Asked::Value | Asked::Longest | Asked::LongestAt(_) | Asked::Prefixes | Asked::KeyOf => {
+        Asked::Value | Asked::Longest | Asked::LongestAt(_) | Asked::Prefixes(_) | Asked::KeyOf => {
             add_value(line, value)?;
             Ok(value.is_some())
         }
@@ -310,8 +319,7 @@ fn write_each<W: Write>(
 
 /// Writes the answer to each text: what was looked up, or `none`. Returns whether all was found.
 ///
-/// An answer is one line, but for `Asked::Prefixes`: then it is `none`, or a line with the number
-/// of keys, as `2 found`, and a line of each. A key is written with escapes, a tab and its value;
+/// An answer is one line, but for `Asked::Prefixes`: then it is `none`, or a line of each key. A key is written with escapes, a tab and its value;
 /// after the tab is `none` if `Asked::Pair` looked for an absent key. With `Spelling::Escaped` the
 /// answer is that to the bytes that the text spells, and a line `none` if an escape is malformed.
 /// `Asked::KeyOf` looks for a key in the order of the trie: a table finds each by a search, and a trie
@@ -341,7 +349,7 @@ pub fn write_answers<W: Write>(
         (Finder::Trie(_), Asked::Value, Spelling::Escaped)
         | (
             Finder::Trie(_),
-            Asked::Pair | Asked::Longest | Asked::LongestAt(_) | Asked::Prefixes | Asked::KeyOf,
+            Asked::Pair | Asked::Longest | Asked::LongestAt(_) | Asked::Prefixes(_) | Asked::KeyOf,
             Spelling::Plain | Spelling::Escaped,
         )
         | (Finder::Index(_) | Finder::Table(_), _, _) => write_each(

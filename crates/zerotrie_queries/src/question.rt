@@ -34,8 +34,9 @@ pub enum Asked {
     /// value. A border is the end of the text, or a place with this byte next. The empty key always
     /// counts.
     LongestAt(u8),
-    /// All keys that the text begins with, the shortest first, each with its value.
-    Prefixes,
+    /// All keys that the text begins with, the shortest first, each with its value, or those that end at a
+    /// border if a byte is given.
+    Prefixes(Option<u8>),
     /// The text is a value, in decimal: the first key in the order of the trie that has it.
     KeyOf,
 }
@@ -214,6 +215,9 @@ pub struct ListQuery<'a> {
     pub choice: Choice<'a>,
     /// Their order.
     pub order: Order,
+    /// If it is not `None`, only those that have the greatest values, at most this many, the greatest first, and
+    /// those of one value in their order.
+    pub top: Option<usize>,
     /// At most how many of them, the first ones. If `None`, all.
     pub limit: Option<usize>,
 }

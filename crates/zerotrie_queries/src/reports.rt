@@ -2,6 +2,7 @@
 
 ghost use Rattle.std.specs.Prelude.{◌≡◌, ◌++◌, OnOk, OnErr};
 ghost use Rattle.std.specs.Io.KnownBytes.{Appends};
+ghost use Rattle.std.specs.Option.{option_map};
 ghost use Rattle.zerotrie_files.specs.Faults.{IsNoted};
 ghost use Rattle.zerotrie_files.specs.Parts.{AppendsPart};
 ghost use Rattle.zerotrie_queries.specs.reports.Reports.{report_of};
@@ -12,7 +13,7 @@ mod count;
 mod lines;
 mod object;
 
-use crate::reports::lines::add_report;
+use crate::reports::lines::{add_heading, add_report};
 use crate::reports::object::add_report_object;
 pub use branches::Branches;
 pub use count::Report;
@@ -31,31 +32,42 @@ pub enum ReportForm {
     Json,
 }
 
-fn add_in_form(text: &mut Vec<u8>, form: ReportForm, report: &Report) -> Result<(), AllocError>
-    ensures { OnOk result (text.new.items ≡ text.old.items ++ reported form report.now) }
+fn add_in_form(
+    text: &mut Vec<u8>,
+    form: ReportForm,
+    name: Option<&str>,
+    report: &Report,
+) -> Result<(), AllocError>
+    ensures { OnOk result (text.new.items
+        ≡ text.old.items ++ reported form (option_map (λ n. n.now) name.entry) report.now) }
 {
     match form {
-        ReportForm::Lines => add_report(text, report),
-        ReportForm::Json => add_report_object(text, report),
+        ReportForm::Lines => {
+            add_heading(text, name)?;
+            add_report(text, report)
+        }
+        ReportForm::Json => add_report_object(text, name, report),
     }
 }
 
-/// Writes the report of a trie. If it fails, a beginning of it was written.
+/// Writes the report of a trie, with the name of its file if one is given: as a line in front, or as a member. If
+/// it fails, a beginning of it was written.
 pub fn write_trie_report<W: Write>(
     alloc: Global,
     trie: &TrieRef<'_>,
     form: ReportForm,
+    name: Option<&str>,
     output: &mut Noted<W>,
 ) -> io::Result<()>
     ensures all { OnOk result (Appends (W.contents output.old.inner) (W.contents output.new.inner)
-        (reported form (report_of trie.now.kind trie.now.bytes.now))) }
+        (reported form (option_map (λ n. n.now) name.entry) (report_of trie.now.kind trie.now.bytes.now))) }
     ensures part { OnErr result (AppendsPart (W.contents output.old.inner)
         (W.contents output.new.inner)
-        (reported form (report_of trie.now.kind trie.now.bytes.now))) }
+        (reported form (option_map (λ n. n.now) name.entry) (report_of trie.now.kind trie.now.bytes.now))) }
     ensures noted { IsNoted result output.old.failed output.new.failed }
 {
     let report = Report::of(alloc, trie)?;
     let mut text = Vec::new(alloc);
-    add_in_form(&mut text, form, &report)?;
+    add_in_form(&mut text, form, name, &report)?;
     output.write_bytes(text.as_slice())
 }

@@ -1,5 +1,6 @@
 -- A question that was answered, and the flush after it.
 use Rattle.std.proofs.Common.{◌≡◌, ◌⊎◌, ◌∙◌, ℕ, List, Option, Some, Bool, true, refl, sym, subst, inl, inr}
+use Rattle.std.specs.Option.{option_map}
 use Rattle.std.specs.Io.KnownBytes.{Keeps}
 use Rattle.std.proofs.KnownBytes.{Appends-kept, Keeps-trans}
 use Rattle.zerotrie_core.specs.Kinds.{kind_of}
@@ -49,7 +50,7 @@ kept_answer (LookUp of keys) input kind bytes a b c all h k = (h.0, h.1, kept_te
 kept_answer (Listing form s) input kind bytes a b c all h k = (h.0, λ pairs lists. let x = h.1 pairs lists in (x.0, Appends-kept a b c (printed form s kind pairs) x.1 k))
 kept_answer (Code language name) input kind bytes a b c all h k = (h.0, Appends-kept a b c (whole_code language kind name.now bytes) h.1 k)
 kept_answer Verify input kind bytes a b c all h k = (h.0, Keeps-trans a b c h.1 k)
-kept_answer (Report form) input kind bytes a b c all h k = (h.0, Appends-kept a b c (reported form (report_of kind bytes)) h.1 k)
+kept_answer (Report form name) input kind bytes a b c all h k = (h.0, Appends-kept a b c (reported form (option_map (λ n. n.now) name) (report_of kind bytes)) h.1 k)
 kept_answer (View view) input kind bytes a b c all h k = (h.0, Appends-kept a b c (shown view kind bytes) h.1 k)
 
 kept_index : (q : Question) (input : Option (List ℕ)) (bytes : List ℕ) (a b c : Option (List ℕ)) (all : Bool) → IndexAnswers q input bytes a b all → Keeps b c → IndexAnswers q input bytes a c all
@@ -57,7 +58,7 @@ kept_index (LookUp of keys) input bytes a b c all h k = (h.0, h.1, kept_texts of
 kept_index (Listing form s) input bytes a b c all h k = (h.0, Keeps-trans a b c h.1 k)
 kept_index (Code language name) input bytes a b c all h k = (h.0, Keeps-trans a b c h.1 k)
 kept_index Verify input bytes a b c all h k = (h.0, Keeps-trans a b c h.1 k)
-kept_index (Report form) input bytes a b c all h k = (h.0, Keeps-trans a b c h.1 k)
+kept_index (Report form name) input bytes a b c all h k = (h.0, Keeps-trans a b c h.1 k)
 kept_index (View view) input bytes a b c all h k = (h.0, Keeps-trans a b c h.1 k)
 
 pub kept_content : (x : Content) (q : Question) (input : Option (List ℕ)) (a b c : Option (List ℕ)) (all : Bool) → ContentAnswers x q input a b all → Keeps b c → ContentAnswers x q input a c all
@@ -81,7 +82,7 @@ other_input (LookUp of keys) i j kind bytes a b all apart h = (h.0, (other_keys 
 other_input (Listing form s) i j kind bytes a b all apart h = h
 other_input (Code language name) i j kind bytes a b all apart h = h
 other_input Verify i j kind bytes a b all apart h = h
-other_input (Report form) i j kind bytes a b all apart h = h
+other_input (Report form name) i j kind bytes a b all apart h = h
 other_input (View view) i j kind bytes a b all apart h = h
 
 other_input_index : (q : Question) (i j : Option (List ℕ)) (bytes : List ℕ) (a b : Option (List ℕ)) (all : Bool) → (of_lines q ≡ true → ⊥) → IndexAnswers q i bytes a b all → IndexAnswers q j bytes a b all
@@ -89,7 +90,7 @@ other_input_index (LookUp of keys) i j bytes a b all apart h = (h.0, (other_keys
 other_input_index (Listing form s) i j bytes a b all apart h = h
 other_input_index (Code language name) i j bytes a b all apart h = h
 other_input_index Verify i j bytes a b all apart h = h
-other_input_index (Report form) i j bytes a b all apart h = h
+other_input_index (Report form name) i j bytes a b all apart h = h
 other_input_index (View view) i j bytes a b all apart h = h
 
 other_input_content : (x : Content) (q : Question) (i j : Option (List ℕ)) (a b : Option (List ℕ)) (all : Bool) → (of_lines q ≡ true → ⊥) → ContentAnswers x q i a b all → ContentAnswers x q j a b all
@@ -127,7 +128,7 @@ trie_in_part (LookUp of keys) input kind bytes a b all h = keys_in_part of keys 
 trie_in_part (Listing form s) input kind bytes a b all h = λ pairs lists. part_all a b (printed form s kind pairs) (h.1 pairs lists).1
 trie_in_part (Code language name) input kind bytes a b all h = part_all a b (whole_code language kind name.now bytes) h.1
 trie_in_part Verify input kind bytes a b all h = h.1
-trie_in_part (Report form) input kind bytes a b all h = part_all a b (reported form (report_of kind bytes)) h.1
+trie_in_part (Report form name) input kind bytes a b all h = part_all a b (reported form (option_map (λ n. n.now) name) (report_of kind bytes)) h.1
 trie_in_part (View view) input kind bytes a b all h = part_all a b (shown view kind bytes) h.1
 
 index_in_part : (q : Question) (input : Option (List ℕ)) (bytes : List ℕ) (a b : Option (List ℕ)) (all : Bool) → IndexAnswers q input bytes a b all → IndexAnswersInPart q input bytes a b
@@ -135,7 +136,7 @@ index_in_part (LookUp of keys) input bytes a b all h = keys_in_part of keys inpu
 index_in_part (Listing form s) input bytes a b all h = h.1
 index_in_part (Code language name) input bytes a b all h = h.1
 index_in_part Verify input bytes a b all h = h.1
-index_in_part (Report form) input bytes a b all h = h.1
+index_in_part (Report form name) input bytes a b all h = h.1
 index_in_part (View view) input bytes a b all h = h.1
 
 pub answer_in_part : (x : Content) (q : Question) (input : Option (List ℕ)) (a b : Option (List ℕ)) (all : Bool) → ContentAnswers x q input a b all → ContentAnswersInPart x q input a b
@@ -149,7 +150,7 @@ other_part (LookUp of keys) i j kind bytes a b apart h = (h.0, other_keys keys i
 other_part (Listing form s) i j kind bytes a b apart h = h
 other_part (Code language name) i j kind bytes a b apart h = h
 other_part Verify i j kind bytes a b apart h = h
-other_part (Report form) i j kind bytes a b apart h = h
+other_part (Report form name) i j kind bytes a b apart h = h
 other_part (View view) i j kind bytes a b apart h = h
 
 other_part_index : (q : Question) (i j : Option (List ℕ)) (bytes : List ℕ) (a b : Option (List ℕ)) → (of_lines q ≡ true → ⊥) → IndexAnswersInPart q i bytes a b → IndexAnswersInPart q j bytes a b
@@ -157,7 +158,7 @@ other_part_index (LookUp of keys) i j bytes a b apart h = (h.0, other_keys keys 
 other_part_index (Listing form s) i j bytes a b apart h = h
 other_part_index (Code language name) i j bytes a b apart h = h
 other_part_index Verify i j bytes a b apart h = h
-other_part_index (Report form) i j bytes a b apart h = h
+other_part_index (Report form name) i j bytes a b apart h = h
 other_part_index (View view) i j bytes a b apart h = h
 
 other_part_content : (x : Content) (q : Question) (i j : Option (List ℕ)) (a b : Option (List ℕ)) → (of_lines q ≡ true → ⊥) → ContentAnswersInPart x q i a b → ContentAnswersInPart x q j a b
@@ -179,7 +180,7 @@ other_no_keys (LookUp of (Words words)) i j a b (Output e) apart h = h
 other_no_keys (Listing form s) i j a b e apart h = h
 other_no_keys (Code language name) i j a b e apart h = h
 other_no_keys Verify i j a b e apart h = h
-other_no_keys (Report form) i j a b e apart h = h
+other_no_keys (Report form name) i j a b e apart h = h
 other_no_keys (View view) i j a b e apart h = h
 
 pub same_keys : {R : Type 0} (place : Place) (remaining : R → Option (List ℕ)) (old new : Watched R) (q : Question) (a b : Option (List ℕ)) (e : AnswerError)
@@ -192,7 +193,7 @@ no_lines (LookUp of keys) i a b o h = h
 no_lines (Listing form s) i a b o h = absurd (cc)
 no_lines (Code language name) i a b o h = absurd (cc)
 no_lines Verify i a b o h = absurd (cc)
-no_lines (Report form) i a b o h = absurd (cc)
+no_lines (Report form name) i a b o h = absurd (cc)
 no_lines (View view) i a b o h = absurd (cc)
 
 -- what was read has no answer, and so the question ends

@@ -1,5 +1,5 @@
--- A file that is made of others: what was read of them, how the command ends, and why.
-use Rattle.std.proofs.Common.{◌≡◌, ◌<◌, ◌+◌, ◌++◌, ◌∙◌, ◌∷◌, [], ℕ, zero, suc, List, Option, Some, None, Bool, false, Vec, Global, All, map, length, take, get_or, refl, sym, ap, subst, arith, inl, inr}
+-- A file that is made of others: what was read of them, and why none is made.
+use Rattle.std.proofs.Common.{◌≡◌, ◌<◌, ◌+◌, ◌++◌, ◌∙◌, ◌∷◌, [], ℕ, zero, suc, List, Option, Some, None, Bool, Vec, Global, All, map, length, take, get_or, refl, sym, ap, subst, arith, inl, inr}
 use Rattle.std.specs.Prelude.{Any, option_map}
 use Rattle.std.specs.List.{AllZip, slice_get}
 use Rattle.std.proofs.Math.Seq.{take-suc}
@@ -9,23 +9,19 @@ use Rattle.zerotrie_core.specs.Kinds.{kind_of}
 use Rattle.zerotrie_core.specs.WellFormed.{IsWellFormed}
 use Rattle.zerotrie_core.specs.declared.TrieRef.{TrieRef}
 use Rattle.zerotrie_files.specs.Disks.{Story}
-use Rattle.zerotrie_queries.specs.declared.file.OpenError.{OpenError}
-use Rattle.zerotrie_queries.specs.declared.file.OpenError.TheVariants as unopened
 use Rattle.zerotrie_making.specs.Combinations.{Meant, IsMeant, OfMeant, ExplainsMaps, IsMadeOfMaps}
 use Rattle.zerotrie_making.specs.declared.error.CombinationError.TheVariants as combination
 use Rattle.zerotrie_making.specs.declared.error.MakeError.{MakeError}
 use Rattle.zerotrie_making.specs.declared.error.MakeError.TheVariants as made
 use Rattle.zerotrie_making.specs.declared.plan.Made.{Made}
-use Rattle.zerotrie_run.specs.Runs.{world, HasNoTrie, IsRead, IsRefusedUnread, OpensBy}
-use Rattle.zerotrie_run.specs.declared.front.Hint.{Hint}
-use Rattle.zerotrie_run.specs.Combined.{AreRead, AreUnopened, EndsCombine, HasCombineCause, HasMap, HasNoTrieAt, IsMadeSo, IsNumbered, IsRefusedIn, IsUncombined, IsUnopenedAt, OfHeld, are_several, combine_refusal, file_of}
-use Rattle.zerotrie_run.specs.declared.build.BuildError.TheVariants as build
-use Rattle.zerotrie_run.specs.declared.combine.CombineError.{CombineError}
-use Rattle.zerotrie_run.specs.declared.combine.CombineError.TheVariants.{Unopened, NoTrie, NoValue, NotBuilt}
+use Rattle.zerotrie_making.specs.declared.plan.Combination.{Combination}
+use Rattle.zerotrie_run.specs.Combined.{AreRead, HasMap, IsMadeSo, OfHeld, are_several}
+use Rattle.zerotrie_run.specs.Makings.{AreUnopened, IsUnopenedAt}
+use Rattle.zerotrie_run.specs.Runs.{IsRead, OpensBy}
 use Rattle.zerotrie_run.specs.declared.command.Check.TheVariants.{Full}
-use Rattle.zerotrie_run.specs.declared.command.Combine.{Combine}
 use Rattle.zerotrie_run.specs.declared.command.Place.{Place}
-use Rattle.zerotrie_run.proofs.FrontLemmas.{unknown_by}
+use Rattle.zerotrie_run.specs.declared.making.MakingError.{MakingError}
+use Rattle.zerotrie_run.specs.declared.making.MakingError.TheVariants.{Taken, Unfound, Unread, NoTrie, NotMade, Unwritten}
 
 -- ---- two lists of which a relation holds place by place
 
@@ -42,27 +38,23 @@ zip_next R xs i d ys y inside a r =
     let e : i + 1 ≡ suc i = omega arith in
     subst (λ zs. AllZip R zs (ys ++ y ∷ [])) (sym (ap (λ n. take n xs) e ∙ take-suc xs i d inside)) (zip_more R (take i xs) ys (get_or xs i d) y a r)
 
--- the element that is at the place of another
-zip_at : {A B : Type 0} (R : A → B → Type 0) (xs : List A) (ys : List B) (k : ℕ) (y : B) → AllZip R xs ys → slice_get ys k ≡ Some y → (x : A) × (slice_get xs k ≡ Some x) × R x y
-zip_at R [] [] k y a is = absurd (cc)
-zip_at R [] (w ∷ ys) k y a is = absurd a
-zip_at R (z ∷ xs) [] k y a is = absurd a
-zip_at R (z ∷ xs) (w ∷ ys) zero y a is = let same : w ≡ y = cc in (z, refl, subst (R z) same a.0)
-zip_at R (z ∷ xs) (w ∷ ys) (suc k) y a is = zip_at R xs ys k y a.1 is
+-- the elements at one place of both
+pub zip_both : {A B : Type 0} (R : A → B → Type 0) (xs : List A) (ys : List B) (k : ℕ) (x : A) (y : B) → AllZip R xs ys → slice_get xs k ≡ Some x → slice_get ys k ≡ Some y → R x y
+zip_both R [] ys k x y a at is = absurd (cc)
+zip_both R (z ∷ xs) [] k x y a at is = absurd a
+zip_both R (z ∷ xs) (w ∷ ys) zero x y a at is = let one : z ≡ x = cc in let other : w ≡ y = cc in subst (λ v. R v y) one (subst (R z) other a.0)
+zip_both R (z ∷ xs) (w ∷ ys) (suc k) x y a at is = zip_both R xs ys k x y a.1 at is
+
+-- both have as many
+pub zip_len : {A B : Type 0} (R : A → B → Type 0) (xs : List A) (ys : List B) → AllZip R xs ys → length ys ≡ length xs
+zip_len R [] [] a = refl
+zip_len R [] (w ∷ ys) a = absurd a
+zip_len R (z ∷ xs) [] a = absurd a
+zip_len R (z ∷ xs) (w ∷ ys) a = ap suc (zip_len R xs ys a.1)
 
 -- one of a list
-any_of : {A : Type 0} (P : A → Type 0) (xs : List A) (k : ℕ) (x : A) → slice_get xs k ≡ Some x → P x → Any P xs
+pub any_of : {A : Type 0} (P : A → Type 0) (xs : List A) (k : ℕ) (x : A) → slice_get xs k ≡ Some x → P x → Any P xs
 any_of P xs k x is h = (k, x, slice_get_within xs k x is, get_or_from_slice_get xs k x x is, h)
-
--- a number below theirs is that of a file
-pub numbered_at : (places : List Place) (i : ℕ) → i < length places → (place : Place) × IsNumbered places i place
-numbered_at [] i inside = absurd (omega (arith, inside))
-numbered_at (p ∷ places) zero inside = (p, refl)
-numbered_at (p ∷ places) (suc i) inside = numbered_at places i (omega (arith, inside))
-
--- it is one of the files
-pub file_there : (P : Place → Type 0) (places : List Place) (number : ℕ) (place : Place) → IsNumbered places number place → P place → Any P places
-file_there P places number place is h = any_of P places number place is h
 
 -- ---- what was read
 
@@ -106,11 +98,11 @@ pub of_held : (held : List (Vec ℕ Global)) (tries : List TrieRef) (Fact : List
 of_held held tries Fact h fact = let o = are_opened held tries h in (o.maps, o.has, fact o.maps o.meant)
 
 -- a file was made of them, and it is known whether they have several kinds
-pub made_so : (c : Combine) (held : List (Vec ℕ Global)) (tries : List TrieRef) (file : Made) (several : Bool) → AllZip OpensTrie held tries → OfMeant tries (λ maps. IsMadeOfMaps c.combination maps file)
-    → several ≡ are_several c.combination.kind (map (λ trie. trie.kind) tries) → OfHeld (map bytes_in held) (λ maps. IsMadeSo c maps file several)
+pub made_so : (c : Combination) (held : List (Vec ℕ Global)) (tries : List TrieRef) (file : Made) (several : Bool) → AllZip OpensTrie held tries → OfMeant tries (λ maps. IsMadeOfMaps c maps file)
+    → several ≡ are_several c.kind (map (λ trie. trie.kind) tries) → OfHeld (map bytes_in held) (λ maps. IsMadeSo c maps file several)
 made_so c held tries file several h fact is =
     let o = are_opened held tries h in
-    (o.maps, o.has, (fact o.maps o.meant, is ∙ ap (are_several c.combination.kind) (sym o.kinds)))
+    (o.maps, o.has, (fact o.maps o.meant, is ∙ ap (are_several c.kind) (sym o.kinds)))
 
 -- what holds of the first and of each behind it
 pub all_cons : {X : Type 0} (P : X → Type 0) (x : X) (xs : List X) → P x → All P xs → (k : ℕ) (d : X) → k < length (x ∷ xs) → P (get_or (x ∷ xs) k d)
@@ -128,38 +120,41 @@ all_well (b ∷ held) [] h = absurd h
 all_well (b ∷ held) (t ∷ tries) h = all_cons IsTrie t tries h.0.1 (all_well held tries h.1)
 
 -- the file with a number has no trie
-pub none_at : (held : List (Vec ℕ Global)) (number : ℕ) (d : Vec ℕ Global) (e : CombineError) → number < length held → IsUnopenedAt number (get_or held number d).items e → AreUnopened (map bytes_in held) e
-none_at held number d (Unopened other e) inside h = absurd h
-none_at held number d (NoTrie other why t) inside h =
-    let at = slice_get-map bytes_in held number ∙ ap (λ found. option_map bytes_in found) (slice_get-get_or held number d inside) in
-    ((get_or held number d).items, subst (λ n. slice_get (map bytes_in held) n ≡ Some (get_or held number d).items) (sym h.0) at, h.1, h.2)
-none_at held number d (NoValue why key) inside h = absurd h
-none_at held number d (NotBuilt e) inside h = absurd h
+pub none_at : (places : List Place) (held : List (Vec ℕ Global)) (number : ℕ) (d : Place) (bytes : Vec ℕ Global) (e : MakingError) → number < length held → length held ≡ length places
+    → IsUnopenedAt (get_or places number d) (get_or held number bytes).items e → AreUnopened places (map bytes_in held) e
+none_at places held number d bytes Taken inside same h = absurd h
+none_at places held number d bytes (Unfound e) inside same h = absurd h
+none_at places held number d bytes (Unread place e) inside same h = absurd h
+none_at places held number d bytes (NoTrie place why t) inside same h =
+    let at = slice_get-map bytes_in held number ∙ ap (λ found. option_map bytes_in found) (slice_get-get_or held number bytes inside) in
+    (number, rw h.0 (slice_get-get_or places number d (omega (arith, inside, same))), (get_or held number bytes).items, at, h.1, h.2)
+none_at places held number d bytes (NotMade e) inside same h = absurd h
+none_at places held number d bytes (Unwritten e) inside same h = absurd h
 
--- ---- how the command ends
+-- ---- why no file is made of maps
 
 -- no file is made of maps because what was read is another file, or no pairs
-none_text : (c : Combine) (other : _) (maps : List Meant) → ExplainsMaps c.combination maps (combination.NotMade (made.NotText other)) → ⊥
+none_text : (c : Combination) (other : _) (maps : List Meant) → ExplainsMaps c maps (combination.NotMade (made.NotText other)) → ⊥
 none_text c other maps (inl is) = cc
 none_text c other maps (inr h) = h.fact
 
-none_line : (c : Combine) (number : ℕ) (bad : _) (maps : List Meant) → ExplainsMaps c.combination maps (combination.NotMade (made.Line number bad)) → ⊥
+none_line : (c : Combination) (number : ℕ) (bad : _) (maps : List Meant) → ExplainsMaps c maps (combination.NotMade (made.Line number bad)) → ⊥
 none_line c number bad maps (inl is) = cc
 none_line c number bad maps (inr h) = h.fact
 
-none_json : (c : Combine) (line column : ℕ) (maps : List Meant) → ExplainsMaps c.combination maps (combination.NotMade (made.NotJson line column)) → ⊥
+none_json : (c : Combination) (line column : ℕ) (maps : List Meant) → ExplainsMaps c maps (combination.NotMade (made.NotJson line column)) → ⊥
 none_json c line column maps (inl is) = cc
 none_json c line column maps (inr h) = h.fact
 
-none_pairs : (c : Combine) (maps : List Meant) → ExplainsMaps c.combination maps (combination.NotMade made.NotPairs) → ⊥
+none_pairs : (c : Combination) (maps : List Meant) → ExplainsMaps c maps (combination.NotMade made.NotPairs) → ⊥
 none_pairs c maps (inl is) = cc
 none_pairs c maps (inr h) = h.fact
 
-none_pair : (c : Combine) (bad : _) (maps : List Meant) → ExplainsMaps c.combination maps (combination.NotMade (made.NotPair bad)) → ⊥
+none_pair : (c : Combination) (bad : _) (maps : List Meant) → ExplainsMaps c maps (combination.NotMade (made.NotPair bad)) → ⊥
 none_pair c bad maps (inl is) = cc
 none_pair c bad maps (inr h) = h.fact
 
-none_sum : (c : Combine) (key : _) (maps : List Meant) → ExplainsMaps c.combination maps (combination.NotMade (made.SumTooLarge key)) → ⊥
+none_sum : (c : Combination) (key : _) (maps : List Meant) → ExplainsMaps c maps (combination.NotMade (made.SumTooLarge key)) → ⊥
 none_sum c key maps (inl is) = cc
 none_sum c key maps (inr h) = h.fact
 
@@ -170,7 +165,7 @@ pub data IsOfPairs : MakeError → Type 0 where
   index_refused : (why : _) → IsOfPairs (made.IndexRefused why)
   memory : IsOfPairs made.OutOfMemory
 
-pub of_pairs : (c : Combine) (e : MakeError) (maps : List Meant) → ExplainsMaps c.combination maps (combination.NotMade e) → IsOfPairs e
+pub of_pairs : (c : Combination) (e : MakeError) (maps : List Meant) → ExplainsMaps c maps (combination.NotMade e) → IsOfPairs e
 of_pairs c (made.NotText other) maps h = absurd (none_text c other maps h)
 of_pairs c (made.Line number bad) maps h = absurd (none_line c number bad maps h)
 of_pairs c (made.NotJson line column) maps h = absurd (none_json c line column maps h)
@@ -181,71 +176,3 @@ of_pairs c (made.SumTooLarge key) maps h = absurd (none_sum c key maps h)
 of_pairs c (made.Refused why) maps h = refused why
 of_pairs c (made.IndexRefused why) maps h = index_refused why
 of_pairs c made.OutOfMemory maps h = memory
-
-made_ends : (c : Combine) (i : Option (List ℕ)) (files left : Option Story) (printed : Option (List ℕ)) (held : List (List ℕ)) (e : MakeError) → AreRead c.from.now i files held → left ≡ files
-    → OfHeld held (λ maps. ExplainsMaps c.combination maps (combination.NotMade e)) → IsOfPairs e → EndsCombine c i (world files printed) (world left printed) (combine_refusal (NotBuilt (build.NotMade e)))
-made_ends c i files left printed held _ read same h (keys s) = (combination.NotMade (made.Keys s), (held, read, h), refl, (refl, same))
-made_ends c i files left printed held _ read same h (refused why) = (combination.NotMade (made.Refused why), (held, read, h), refl, (refl, same))
-made_ends c i files left printed held _ read same h (index_refused why) = (combination.NotMade (made.IndexRefused why), (held, read, h), refl, (refl, same))
-made_ends c i files left printed held _ read same h memory = inl (refl, same)
-
--- one of the files has no trie
-one_has_none : (c : Combine) (i : Option (List ℕ)) (files : Option Story) (held : List (List ℕ)) (number : ℕ) (why : OpenError) (t : Hint) → AreRead c.from.now i files held → HasNoTrieAt held number why t
-    → Any (λ place. HasNoTrie (file_of place) i files) c.from.now
-one_has_none c i files held number why t read h =
-    let at = zip_at (λ place b. IsRead place i files b) c.from.now held number h.0 read h.1 in
-    any_of (λ place. HasNoTrie (file_of place) i files) c.from.now number at.0 at.1 (h.0, at.2, why, h.2)
-
--- one of the files is refused by its front
-number_is : (places : List Place) (i : ℕ) (d : Place) → i < length places → IsNumbered places i (get_or places i d)
-number_is [] i d inside = absurd (omega (arith, inside))
-number_is (p ∷ places) zero d inside = refl
-number_is (p ∷ places) (suc i) d inside = number_is places i d (omega (arith, inside))
-
-pub refused_at : (places : List Place) (number : ℕ) (d : Place) (files : Option Story) (why : OpenError) (hint : Hint) → number < length places
-    → IsRefusedUnread (file_of (get_or places number d)) false files why hint → IsRefusedIn places files number why hint
-refused_at places number d files why hint inside h = (get_or places number d, number_is places number d inside, h)
-
--- a file is refused by its front, and so the command ends, for this reason
-pub refused_ends : (c : Combine) (i : Option (List ℕ)) (files : Option Story) (printed : Option (List ℕ)) (number : ℕ) (why : OpenError) (hint : Hint) → IsRefusedIn c.from.now files number why hint
-    → EndsCombine c i (world files printed) (world files printed) (combine_refusal (NoTrie number why hint))
-refused_ends c i files printed number (unopened.BadTag why) t h =
-    let r = h.2 i in (any_of (λ place. HasNoTrie (file_of place) i files) c.from.now number h.0 h.1 (r.0, r.1, unopened.BadTag why, r.2.0), (refl, refl))
-refused_ends c i files printed number (unopened.Damaged why) t h =
-    let r = h.2 i in (any_of (λ place. HasNoTrie (file_of place) i files) c.from.now number h.0 h.1 (r.0, r.1, unopened.Damaged why, r.2.0), (refl, refl))
-refused_ends c i files printed number (unopened.NotWellFormed k f) t h = absurd (h.2 i).2.0
-refused_ends c i files printed number unopened.OutOfMemory t h = inl (refl, refl)
-
-pub refused_cause : (c : Combine) (i : Option (List ℕ)) (files : Option Story) (number : ℕ) (why : OpenError) (hint : Hint) → IsRefusedIn c.from.now files number why hint
-    → HasCombineCause c i files (NoTrie number why hint)
-refused_cause c i files number why t h = let r = h.2 i in (h.0, h.1, r.0, r.1, unknown_by (file_of h.0).check None r.0 why r.2.0, r.3)
-
--- nothing is made of what was read, and so the command ends
-pub uncombined_ends : (c : Combine) (i : Option (List ℕ)) (files left : Option Story) (printed : Option (List ℕ)) (held : List (List ℕ)) (e : CombineError) → AreRead c.from.now i files held → left ≡ files
-    → IsUncombined c held e → EndsCombine c i (world files printed) (world left printed) (combine_refusal e)
-uncombined_ends c i files left printed held (Unopened number e) read same h = absurd h
-uncombined_ends c i files left printed held (NoTrie number (unopened.BadTag why) t) read same h = (one_has_none c i files held number (unopened.BadTag why) t read h, (refl, same))
-uncombined_ends c i files left printed held (NoTrie number (unopened.Damaged why) t) read same h = (one_has_none c i files held number (unopened.Damaged why) t read h, (refl, same))
-uncombined_ends c i files left printed held (NoTrie number (unopened.NotWellFormed k f) t) read same h = (one_has_none c i files held number (unopened.NotWellFormed k f) t read h, (refl, same))
-uncombined_ends c i files left printed held (NoTrie number unopened.OutOfMemory t) read same h = inl (refl, same)
-uncombined_ends c i files left printed held (NoValue why key) read same h = (combination.NoValue why key, (held, read, h), refl, (refl, same))
-uncombined_ends c i files left printed held (NotBuilt (build.Unread e)) read same h = absurd h
-uncombined_ends c i files left printed held (NotBuilt (build.NotMade e)) read same (inl none) = rw none (inl (refl, same))
-uncombined_ends c i files left printed held (NotBuilt (build.NotMade e)) read same (inr h) = made_ends c i files left printed held e read same h (of_pairs c e h.0 h.2)
-uncombined_ends c i files left printed held (NotBuilt (build.Unwritten e)) read same h = absurd h
-uncombined_ends c i files left printed held (NotBuilt build.Taken) read same h = absurd h
-uncombined_ends c i files left printed held (NotBuilt (build.Unfound e)) read same h = absurd h
-
--- why is so of the files
-pub uncombined_cause : (c : Combine) (i : Option (List ℕ)) (files : Option Story) (held : List (List ℕ)) (e : CombineError) → AreRead c.from.now i files held → IsUncombined c held e → HasCombineCause c i files e
-uncombined_cause c i files held (Unopened number e) read h = absurd h
-uncombined_cause c i files held (NoTrie number why t) read h =
-    let at = zip_at (λ place b. IsRead place i files b) c.from.now held number h.0 read h.1 in
-    (at.0, at.1, h.0, at.2, h.2, h.3)
-uncombined_cause c i files held (NoValue why key) read h = (held, read, h)
-uncombined_cause c i files held (NotBuilt (build.Unread e)) read h = tt
-uncombined_cause c i files held (NotBuilt (build.NotMade e)) read (inl none) = inl none
-uncombined_cause c i files held (NotBuilt (build.NotMade e)) read (inr h) = inr (held, read, h)
-uncombined_cause c i files held (NotBuilt (build.Unwritten e)) read h = tt
-uncombined_cause c i files held (NotBuilt build.Taken) read h = absurd h
-uncombined_cause c i files held (NotBuilt (build.Unfound e)) read h = tt

@@ -1,5 +1,5 @@
 -- Two files that are compared.
-use Rattle.std.proofs.Common.{◌≡◌, ◌⊎◌, ◌++◌, ◌∙◌, ℕ, List, Option, Bool, false, Result, Ok, Err, refl, sym, ap, subst, inl, inr}
+use Rattle.std.proofs.Common.{◌≡◌, ◌⊎◌, ◌++◌, ◌∙◌, ℕ, List, Option, None, Bool, false, Result, Ok, Err, refl, sym, ap, subst, inl, inr}
 use Rattle.std.specs.Prelude.{IfOk}
 use Rattle.std.specs.Io.KnownBytes.{Keeps}
 use Rattle.std.proofs.KnownBytes.{Appends-kept, Appends-trans}
@@ -14,7 +14,7 @@ use Rattle.zerotrie_queries.proofs.PartLemmas.{part_all}
 use Rattle.zerotrie_run.specs.Runs.{HasNumberToo, IsDoubtful, IsRead, IsRefusedUnread, ask_refusal, IsUnasked, IsUnopened}
 use Rattle.zerotrie_run.specs.Messages.{source_name}
 use Rattle.zerotrie_run.specs.Told.{HasReason, HasDiffReason, IsPlaceOf, IsTold, TellsMore}
-use Rattle.zerotrie_run.specs.Diffs.{old_file, new_file, IsFileOf, IsDiffed, IsDiffedInPart, EndsDiff, HasNoTrieIn, IsEitherDoubtful, IsUnanswered, NotesNumbers, TellsIfDoubtful, AreHeldCompared, AreHeldComparedInPart, AreUncompared}
+use Rattle.zerotrie_run.specs.Diffs.{old_file, new_file, IsFileOf, IsDiffed, IsDiffedInPart, EndsDiff, HasNoTrieIn, IsEitherDoubtful, IsUnanswered, IsUnread, NotesNumbers, TellsIfDoubtful, AreHeldCompared, AreHeldComparedInPart, AreUncompared}
 use Rattle.zerotrie_run.specs.declared.front.Hint.{Hint}
 use Rattle.zerotrie_run.specs.declared.ask.AskError.{AskError}
 use Rattle.zerotrie_run.specs.declared.ask.AskError.TheVariants as ask
@@ -103,16 +103,33 @@ ends_unopened diff file input files held a b (ask.Unprintable form key) of r h s
 ends_unopened diff file input files held a b (ask.Unanswered e) of r h same = absurd h
 
 -- a file is refused by its front, and so the comparison ends, for this reason
-pub ends_refused : (diff : Diff) (file : TrieFile) (input : Option (List ℕ)) (files : Option Story) (a : Option (List ℕ)) (why : OpenError) (hint : Hint) → IsFileOf diff file
+ends_refused : (diff : Diff) (file : TrieFile) (input : Option (List ℕ)) (files : Option Story) (a : Option (List ℕ)) (why : OpenError) (hint : Hint) → IsFileOf diff file
     → IsRefusedUnread file false files why hint → EndsDiff diff input files a a (ask_refusal (ask.NoTrie why hint))
 ends_refused diff file input files a (BadTag why) t of h = let r = h input in ((file, of, (r.0, r.1, BadTag why, unknown_by file.check file.bare r.0 (BadTag why) r.2.0)), refl)
 ends_refused diff file input files a (Damaged why) t of h = let r = h input in ((file, of, (r.0, r.1, Damaged why, unknown_by file.check file.bare r.0 (Damaged why) r.2.0)), refl)
 ends_refused diff file input files a (NotWellFormed k f) t of h = absurd (h input).2.0
 ends_refused diff file input files a unopened.OutOfMemory t of h = inl refl
 
-pub reason_refused : (file : TrieFile) (input : Option (List ℕ)) (files : Option Story) (why : OpenError) (hint : Hint) → IsRefusedUnread file false files why hint
+reason_refused : (file : TrieFile) (input : Option (List ℕ)) (files : Option Story) (why : OpenError) (hint : Hint) → IsRefusedUnread file false files why hint
     → HasReason (IsUnopened file) file Verify input files (ask.NoTrie why hint)
 reason_refused file input files why hint h = let r = h input in (r.0, r.1, unknown_by file.check file.bare r.0 why r.2.0, r.3)
+
+-- a file is not read, and so it ends, for this reason
+pub ends_unread : (diff : Diff) (file : TrieFile) (input : Option (List ℕ)) (files : Option Story) (a : Option (List ℕ)) (e : AskError) → IsFileOf diff file → IsUnread file files e → EndsDiff diff input files a a (ask_refusal e)
+ends_unread diff file input files a (ask.Unread e) of h = inl refl
+ends_unread diff file input files a (ask.NoTrie why t) of h = ends_refused diff file input files a why t of h
+ends_unread diff file input files a (ask.Unprintable form key) of h = absurd h
+ends_unread diff file input files a (ask.Unanswered e) of h = absurd h
+
+unread_reason : (file : TrieFile) (input : Option (List ℕ)) (files : Option Story) (e : AskError) → IsUnread file files e → HasReason (IsUnopened file) file Verify input files e
+unread_reason file input files (ask.Unread e) h = tt
+unread_reason file input files (ask.NoTrie why t) h = reason_refused file input files why t h
+unread_reason file input files (ask.Unprintable form key) h = absurd h
+unread_reason file input files (ask.Unanswered e) h = absurd h
+
+pub reason_unread : (diff : Diff) (file : TrieFile) (input : Option (List ℕ)) (files : Option Story) (e : DiffError) → IsFileOf diff file → (e.file ≡ file) × IsUnread file files e.error → HasDiffReason diff input files e
+reason_unread diff file input files e of h =
+    (subst (IsFileOf diff) (sym h.0) of, subst (λ f. HasReason (IsUnopened f) f Verify input files e.error) (sym h.0) (unread_reason file input files e.error h.1))
 
 -- a beginning was printed, and so it ends
 ends_begun : (diff : Diff) (input : Option (List ℕ)) (files : Option Story) (a b : Option (List ℕ)) (e : AskError) → IsUnanswered e → IsDiffedInPart diff input files a b → EndsDiff diff input files a b (ask_refusal e)
@@ -154,7 +171,7 @@ reason_uncompared diff input files held other a b e r s (inr h) = (h.0, reason_u
 
 -- a question that an index does not answer
 abbrev pub a_report : Question
-a_report = Report Lines
+a_report = Report Lines None
 
 no_index_asked : (file : TrieFile) (held : List ℕ) (why : OpenError) → IsUnasked file a_report held why → IsUnopened file held why
 no_index_asked file held why (inl none) = none

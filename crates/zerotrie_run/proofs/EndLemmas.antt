@@ -3,26 +3,22 @@ use Rattle.std.proofs.Common.{◌≡◌, ◌⊎◌, ℕ, List, Option, Some, Non
 use Rattle.std.specs.Prelude.{◌||◌, IsTrue, unwrap_or}
 use Rattle.std.specs.Io.KnownBytes.{Appends}
 use Rattle.std.specs.declared.alloc.AllocError.{AllocError}
-use Rattle.std.proofs.lemmas.Option.{slice_get_within}
 use Rattle.zerotrie_files.specs.Disks.{Story}
 use Rattle.zerotrie_queries.specs.declared.file.OpenError.TheVariants as unopened
 use Rattle.zerotrie_making.specs.declared.error.MakeError.{MakeError}
 use Rattle.zerotrie_making.specs.declared.error.MakeError.TheVariants as made
-use Rattle.zerotrie_run.specs.Combined.{EndsCombine, combine_refusal}
+use Rattle.zerotrie_making.specs.declared.error.CombinationError.TheVariants as combination
+use Rattle.zerotrie_run.specs.Makings.{making_refusal}
 use Rattle.zerotrie_run.specs.Diffs.{EndsDiff}
 use Rattle.zerotrie_run.specs.Commands.{Ends, LeavesInput, LeavesInputBy, ReadsTwice, Runs, command_refusal}
-use Rattle.zerotrie_run.specs.Runs.{EndsAsk, EndsBuild, World, ask_refusal, build_refusal}
+use Rattle.zerotrie_run.specs.Runs.{EndsAsk, World, ask_refusal}
 use Rattle.zerotrie_run.specs.Statuses.{failure, made_refusal}
-use Rattle.zerotrie_run.specs.Told.{HasCommandCause, IsTold, NamesItsFile, TellsCommand, TellsMore, ended, last_text}
+use Rattle.zerotrie_run.specs.Told.{HasCommandCause, IsTold, TellsCommand, TellsMore, ended, last_text}
 use Rattle.zerotrie_run.specs.declared.ask.AskError.{AskError}
 use Rattle.zerotrie_run.specs.declared.ask.AskError.TheVariants as ask
 use Rattle.zerotrie_run.specs.declared.stdin_lines.AnswerError.TheVariants as answer
-use Rattle.zerotrie_run.specs.declared.build.BuildError.{BuildError}
-use Rattle.zerotrie_run.specs.declared.build.BuildError.TheVariants as build
-use Rattle.zerotrie_run.specs.declared.combine.CombineError.{CombineError}
-use Rattle.zerotrie_run.specs.declared.combine.CombineError.TheVariants as combine
-use Rattle.zerotrie_run.specs.declared.command.Build.{Build}
-use Rattle.zerotrie_run.specs.declared.command.Combine.{Combine}
+use Rattle.zerotrie_run.specs.declared.making.MakingError.{MakingError}
+use Rattle.zerotrie_run.specs.declared.making.MakingError.TheVariants as making
 use Rattle.zerotrie_run.specs.declared.command.Command.{Command}
 use Rattle.zerotrie_run.specs.declared.command.Command.TheVariants as commands
 use Rattle.zerotrie_run.specs.declared.command.Diff.{Diff}
@@ -32,9 +28,9 @@ use Rattle.zerotrie_run.specs.declared.error.CommandError.{CommandError}
 use Rattle.zerotrie_run.specs.declared.error.CommandError.TheVariants as error
 use Rattle.zerotrie_run.specs.declared.status.Status.{Status}
 use Rattle.zerotrie_run.specs.declared.status.Status.TheVariants.{Done, Absent, Refused, Taken, BadUsage, BadInput, BadKeys, Unread, Unwritten, OutOfMemory, Closed}
-use Rattle.zerotrie_run.proofs.CombinedTold.{combine_text_told}
 use Rattle.zerotrie_run.proofs.DiffLemmas.{a_report, as_asked, told_of}
-use Rattle.zerotrie_run.proofs.ToldLemmas.{ask_text_told, build_text_told, no_memory}
+use Rattle.zerotrie_run.proofs.MakingTold.{build_told, combine_told}
+use Rattle.zerotrie_run.proofs.ToldLemmas.{ask_text_told, no_memory}
 
 -- what is known of the end, by whether the command is refused
 data Refusal : Option Status → Type 0 where
@@ -56,13 +52,6 @@ of_make (made.Refused why) = is_refused
 of_make (made.IndexRefused why) = is_refused
 of_make made.OutOfMemory = is_failed
 
-of_build : (e : BuildError) → Refusal (build_refusal e)
-of_build (build.Unread e) = is_failed
-of_build (build.NotMade e) = of_make e
-of_build (build.Unwritten e) = is_failed
-of_build build.Taken = is_taken
-of_build (build.Unfound e) = is_failed
-
 of_ask : (e : AskError) → Refusal (ask_refusal e)
 of_ask (ask.Unread e) = is_failed
 of_ask (ask.NoTrie (unopened.BadTag why) t) = is_input
@@ -74,26 +63,41 @@ of_ask (ask.Unanswered (answer.NoLines o)) = is_keys
 of_ask (ask.Unanswered (answer.Output e)) = is_failed
 of_ask (ask.Unprintable form key) = is_refused
 
-of_combine : (e : CombineError) → Refusal (combine_refusal e)
-of_combine (combine.Unopened number e) = is_failed
-of_combine (combine.NoTrie number (unopened.BadTag why) t) = is_input
-of_combine (combine.NoTrie number (unopened.Damaged why) t) = is_input
-of_combine (combine.NoTrie number (unopened.NotWellFormed k f) t) = is_input
-of_combine (combine.NoTrie number unopened.OutOfMemory t) = is_failed
-of_combine (combine.NoValue why key) = is_refused
-of_combine (combine.NotBuilt e) = of_build e
+of_making : (e : MakingError) → Refusal (making_refusal e)
+of_making making.Taken = is_taken
+of_making (making.Unfound e) = is_failed
+of_making (making.Unread place e) = is_failed
+of_making (making.NoTrie place (unopened.BadTag why) t) = is_input
+of_making (making.NoTrie place (unopened.Damaged why) t) = is_input
+of_making (making.NoTrie place (unopened.NotWellFormed k f) t) = is_input
+of_making (making.NoTrie place unopened.OutOfMemory t) = is_failed
+of_making (making.NotMade (combination.NoValue why key)) = is_refused
+of_making (making.NotMade (combination.NotMade e)) = of_make e
+of_making (making.Unwritten e) = is_failed
 
 of_command : (e : CommandError) → Refusal (command_refusal e)
-of_command (error.Build b e) = of_build e
+of_command (error.Build b e) = of_making e
 of_command (error.Ask file q e) = of_ask e
 of_command (error.Diff d e) = of_ask e.error
-of_command (error.Combine c e) = of_combine e
+of_command (error.Combine c e) = of_making e
+
+-- no making is refused for bad usage
+not_usage : (refusal : Option Status) → Refusal refusal → refusal ≡ Some BadUsage → ⊥
+not_usage _ is_failed is = cc
+not_usage _ is_refused is = cc
+not_usage _ is_taken is = cc
+not_usage _ is_input is = cc
+not_usage _ is_keys is = cc
+
+pub combine_leaves : {P : Type 0} (e : MakingError) → (making_refusal e ≡ Some BadUsage) ⊎ P → P
+combine_leaves e (inl is) = absurd (not_usage (making_refusal e) (of_making e) is)
+combine_leaves e (inr left) = left
+
+pub combined_leaves : {P : Type 0} → (None ≡ Some BadUsage) ⊎ P → P
+combined_leaves (inl is) = absurd (cc)
+combined_leaves (inr left) = left
 
 -- how each command ends, by its own definition
-pub build_ends : (b : Build) (i : Option (List ℕ)) (before after : World) (refusal : Option Status) → EndsBuild b i before after refusal → Ends (commands.Build b) i before after refusal
-build_ends b i before after None h = h
-build_ends b i before after (Some s) h = h
-
 pub ask_ends : (file : TrieFile) (q : Question) (i : Option (List ℕ)) (before after : World) (refusal : Option Status) → after.files ≡ before.files → EndsAsk file q i before.files before.printed after.printed refusal
     → Ends (commands.Ask file q) i before after refusal
 ask_ends file q i before after None same h = (same, h)
@@ -103,10 +107,6 @@ pub diff_ends : (d : Diff) (i : Option (List ℕ)) (before after : World) (refus
     → Ends (commands.Diff d) i before after refusal
 diff_ends d i before after None same h = (same, h)
 diff_ends d i before after (Some s) same h = (same, h)
-
-pub combine_ends : (c : Combine) (i : Option (List ℕ)) (before after : World) (refusal : Option Status) → EndsCombine c i before after refusal → Ends (commands.Combine c) i before after refusal
-combine_ends c i before after None h = h
-combine_ends c i before after (Some s) h = h
 
 -- ---- what holds at its end
 
@@ -271,12 +271,12 @@ end_not_closed read write closed more refusal s end is shut = or_false closed mo
 
 text_told : (command : Command) (input : Option (List ℕ)) (files : Option Story) (a b c : Option (List ℕ)) (text : List ℕ) (read write closed : Bool) (e : CommandError) → HasCommandCause command input files e → TellsCommand e text
     → TellsMore a b → Appends b c text → IsTold command input files a c (unwrap_or (command_refusal e) (failure read write closed))
-text_told command input files a b c text read write closed (error.Build build e) cause tells more h = rw cause.0 (build_text_told build input files a b c text read write closed e cause.1 tells more h)
+text_told command input files a b c text read write closed (error.Build build e) cause tells more h = rw cause.0 (build_told build cause.1.0 input files a b c text read write closed e cause.1.1 cause.1.2 tells more h)
 text_told command input files a b c text read write closed (error.Ask file q e) cause tells more h = rw cause.0 (ask_text_told file q input files a b c text read write closed e cause.1 tells more h)
 text_told command input files a b c text read write closed (error.Diff diff e) cause tells more h =
     rw cause.0 (told_of diff e.file input files a c (unwrap_or (ask_refusal e.error) (failure read write closed)) cause.1.0
     (ask_text_told e.file a_report input files a b c text read write closed e.error (as_asked e.file input files e.error cause.1.1) tells more h))
-text_told command input files a b c text read write closed (error.Combine o e) cause tells more h = rw cause.0 (combine_text_told o input files a b c text read write closed e cause.1 tells more h)
+text_told command input files a b c text read write closed (error.Combine o e) cause tells more h = rw cause.0 (combine_told o input files a b c text read write closed e cause.1 tells more h)
 
 told_by : (command : Command) (input : Option (List ℕ)) (files : Option Story) (a b c : Option (List ℕ)) (read write closed : Bool) (e : CommandError) (status : Status) (r : Result (Vec ℕ Global) AllocError)
     → HasCommandCause command input files e → status ≡ unwrap_or (command_refusal e) (failure read write closed) → IfOk r (λ text. TellsCommand e text.items) → TellsMore a b → Appends b c (last_text r)
@@ -290,13 +290,3 @@ pub command_told : (command : Command) (input : Option (List ℕ)) (files : Opti
     → IsTold command input files a c result
 command_told command input files a b c read write closed e status result r cause is tells more at (inl silent) = rw silent tt
 command_told command input files a b c read write closed e status result r cause is tells more at (inr h) = rw at (told_by command input files a b c read write closed e status r cause is tells more h)
-
--- an error that names a file by its number names one of the command
-pub names_its_file : (command : Command) (input : Option (List ℕ)) (files : Option Story) (e : CommandError) → HasCommandCause command input files e → NamesItsFile e
-names_its_file command input files (error.Build b e) cause = tt
-names_its_file command input files (error.Ask f q e) cause = tt
-names_its_file command input files (error.Diff d e) cause = tt
-names_its_file command input files (error.Combine c (combine.Unopened number e)) cause = slice_get_within c.from.now number cause.1.0 cause.1.1
-names_its_file command input files (error.Combine c (combine.NoTrie number why t)) cause = slice_get_within c.from.now number cause.1.0 cause.1.1
-names_its_file command input files (error.Combine c (combine.NoValue why key)) cause = tt
-names_its_file command input files (error.Combine c (combine.NotBuilt e)) cause = tt

@@ -1,7 +1,6 @@
 -- What the front of a file shows is so of all of it.
 use Rattle.std.proofs.Common.{◌≡◌, ◌∙◌, ◌≤◌, ◌<◌, ◌^◌, ◌+◌, ℕ, List, [], ◌∷◌, ◌++◌, length, take, drop, Option, Some, None, Bool, true, false, refl, sym, ap, subst, inl, inr, arith, length-append}
 use Rattle.std.specs.Prelude.{IfSome, nat_lt, ◌-◌, if◌then◌else◌}
-use Rattle.std.specs.Borrow.{Bor}
 use Rattle.std.specs.Int.{w16, from_le_bytes}
 use Rattle.std.proofs.lemmas.List.{drop-append-le, take-append-drop, take-append-le, length-drop}
 use Rattle.zerotrie_core.specs.Kinds.{kind_of, IsTag}
@@ -16,7 +15,7 @@ use Rattle.std.proofs.lemmas.Bool.{le-ltb, lt-ltb}
 use Rattle.std.proofs.lemmas.Nat.{from_le_bytes-to_le_bytes_2}
 use Rattle.zerotrie_base.specs.Kind.{Kind, simple_ascii, ignore_case, perfect_hash, extended_capacity}
 use Rattle.zerotrie_base.specs.declared.kind.TrieKind.TheVariants.{Simple, Ignore, Hash, Ext}
-use Rattle.zerotrie_files.specs.Disks.{Story, IsPartOfFile}
+use Rattle.zerotrie_files.specs.Disks.{Story, IsPartFrom}
 use Rattle.zerotrie_making.specs.Others.{IsOther}
 use Rattle.zerotrie_making.specs.declared.others.OtherFile.{OtherFile}
 use Rattle.zerotrie_queries.specs.Files.{IsUnknown}
@@ -24,15 +23,17 @@ use Rattle.zerotrie_queries.specs.Texts.{looks_like_text}
 use Rattle.zerotrie_queries.specs.declared.file.OpenError.{OpenError}
 use Rattle.zerotrie_queries.specs.declared.file.OpenError.TheVariants.{BadTag, Damaged, NotWellFormed, OutOfMemory}
 use Rattle.zerotrie_run.specs.Fronts.{HasNothing, IsHint, IsSettled, begins_as_text, front_len, is_cut_text}
-use Rattle.zerotrie_run.specs.Runs.{EndsAsk, IsRead, IsRefusedUnread, IsUnasked, IsUnopenedBy, IsUnopenedFor, ask_refusal, asks_index}
+use Rattle.zerotrie_run.specs.Runs.{EndsAsk, IsOpenAt, IsRead, IsRefusedUnread, IsUnasked, IsUnopenedBy, IsUnopenedFor, ask_refusal, asks_index}
 use Rattle.zerotrie_run.specs.Told.{HasReason}
 use Rattle.zerotrie_run.specs.declared.ask.AskError.TheVariants.{NoTrie}
-use Rattle.zerotrie_run.specs.declared.command.Place.TheVariants.{File}
+use Rattle.zerotrie_run.specs.declared.command.Place.{Place}
+use Rattle.zerotrie_run.specs.declared.command.Place.TheVariants.{File, Stream}
 use Rattle.zerotrie_run.specs.declared.command.Check.{Check}
 use Rattle.zerotrie_run.specs.declared.command.Check.TheVariants as check
 use Rattle.zerotrie_run.specs.declared.command.Question.{Question}
 use Rattle.zerotrie_run.specs.declared.command.TrieFile.{TrieFile}
 use Rattle.zerotrie_run.specs.declared.front.Hint.{Hint}
+use Rattle.zerotrie_run.specs.declared.place.Opened.TheVariants as opened
 use Rattle.zerotrie_run.specs.declared.front.Hint.TheVariants.{Text, Other, Nothing}
 
 -- ---- the numbers in a header
@@ -173,18 +174,24 @@ same_hint front more Nothing long h = (same_front front more None long h.0, same
 
 -- ---- a file of which the front was read
 
-pub refused_unread : (file : TrieFile) (path : Bor (List ℕ)) (takes : Bool) (files : Option Story) (front : List ℕ) (why : OpenError) (hint : Hint) → file.place ≡ File path → 65537 ≤ length front
-    → ((more : List ℕ) → HasNothing file.bare takes (front ++ more) why) → IsHint front hint → IfSome files (IsPartOfFile path.now 0 front) → IsRefusedUnread file takes files why hint
-refused_unread file path takes None front why hint at long nothing looks part = λ input.
-    (front ++ [], subst (λ p. IsRead p input None (front ++ [])) (sym at) tt, nothing [], same_hint front [] hint long looks)
-refused_unread file path takes (Some known) front why hint at long nothing looks part = λ input.
-    let rest = drop (length front) part.0 in
-    let all : front ++ rest ≡ part.0 = ap (λ l. l ++ rest) part.2 ∙ take-append-drop (length front) part.0 in (
-      part.0,
-      subst (λ p. IsRead p input (Some known) part.0) (sym at) part.1,
-      subst (λ held. HasNothing file.bare takes held why) all (nothing rest),
-      subst (λ held. IsHint held hint) all (same_hint front rest hint long looks),
-    )
+pub refused_unread : {F : Type 0} (shown : F → Option (List ℕ)) (f : F) (file : TrieFile) (takes : Bool) (files : Option Story) (front : List ℕ) (why : OpenError) (hint : Hint) → 65537 ≤ length front
+    → ((more : List ℕ) → HasNothing file.bare takes (front ++ more) why) → IsHint front hint → IfSome (shown f) (IsPartFrom 0 front) → IsOpenAt shown file.place files (opened.File f)
+    → IsRefusedUnread file takes files why hint
+refused_unread {F} shown f file takes files front why hint long nothing looks part is = by file.place files refl is
+  where
+    by : (place : Place) (story : Option Story) → file.place ≡ place → IsOpenAt shown place story (opened.File f) → IsRefusedUnread file takes story why hint
+    by (File path) None at h = λ input.
+        (front ++ [], subst (λ p. IsRead p input None (front ++ [])) (sym at) tt, nothing [], same_hint front [] hint long looks)
+    by (File path) (Some known) at h = λ input.
+        let begins : IsPartFrom 0 front h.0 = subst (λ held. IfSome held (IsPartFrom 0 front)) h.2 part in
+        let rest = drop (length front) h.0 in
+        let all : front ++ rest ≡ h.0 = ap (λ l. l ++ rest) begins ∙ take-append-drop (length front) h.0 in (
+          h.0,
+          subst (λ p. IsRead p input (Some known) h.0) (sym at) h.1,
+          subst (λ held. HasNothing file.bare takes held why) all (nothing rest),
+          subst (λ held. IsHint held hint) all (same_hint front rest hint long looks),
+        )
+    by Stream story at h = absurd h
 
 -- so a question to it ends, for this reason
 pub ends_refused : (file : TrieFile) (q : Question) (input : Option (List ℕ)) (files : Option Story) (a : Option (List ℕ)) (why : OpenError) (hint : Hint) → IsRefusedUnread file (asks_index q) files why hint

@@ -8,10 +8,10 @@ mod ToldLemmas
 mod NoteLemmas
 mod RefusedLemmas
 mod FileLemmas
-mod SpareLemmas
 mod DiffLemmas
 mod StreamLemmas
 mod CombinedLemmas
-mod CombinedTold
+mod MakingLemmas
+mod MakingTold
 mod EndLemmas
 mod CombinedLaws

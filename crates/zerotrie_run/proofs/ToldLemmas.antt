@@ -1,16 +1,14 @@
 -- What is told last of a run.
-use Rattle.std.proofs.Common.{◌≡◌, ◌++◌, ◌∙◌, subst, ℕ, List, Option, Bool, true, false, codes, refl, inl, inr}
+use Rattle.std.proofs.Common.{◌≡◌, ◌++◌, subst, ℕ, List, Option, Bool, true, false, codes, refl, inl, inr}
 use Rattle.std.specs.Prelude.{unwrap_or}
 use Rattle.std.specs.Io.KnownBytes.{Appends}
 use Rattle.std.proofs.KnownBytes.{Appends-trans}
 use Rattle.zerotrie_files.specs.Disks.{Story}
 use Rattle.zerotrie_queries.specs.declared.file.OpenError.TheVariants as unopened
-use Rattle.zerotrie_making.specs.declared.error.MakeError.TheVariants as made
 use Rattle.zerotrie_run.specs.Statuses.{failure}
-use Rattle.zerotrie_run.specs.Messages.{IsLineOn, TellsAsk, TellsBuild, line_front, no_keys_line, source_name, taken_line, target_name, unit_of, unprintable_line}
-use Rattle.zerotrie_run.specs.Runs.{ask_refusal, build_refusal, IsUnasked}
-use Rattle.zerotrie_run.specs.Told.{TellsMore, ToldLast, LineTold, IsPlaceOf, HasReason, HasCause, IsTold, told_made}
-use Rattle.zerotrie_run.specs.declared.command.Build.{Build}
+use Rattle.zerotrie_run.specs.Messages.{IsLineOn, TellsAsk, line_front, no_keys_line, source_name, unprintable_line}
+use Rattle.zerotrie_run.specs.Runs.{ask_refusal, IsUnasked}
+use Rattle.zerotrie_run.specs.Told.{TellsMore, ToldLast, LineTold, IsPlaceOf, HasReason, IsTold}
 use Rattle.zerotrie_run.specs.declared.command.TrieFile.{TrieFile}
 use Rattle.zerotrie_run.specs.declared.command.Question.{Question}
 use Rattle.zerotrie_run.specs.declared.command.Command.{Command}
@@ -18,8 +16,6 @@ use Rattle.zerotrie_run.specs.declared.command.Command.TheVariants as commands
 use Rattle.zerotrie_run.specs.declared.ask.AskError.{AskError}
 use Rattle.zerotrie_run.specs.declared.ask.AskError.TheVariants as ask
 use Rattle.zerotrie_run.specs.declared.stdin_lines.AnswerError.TheVariants as answer
-use Rattle.zerotrie_run.specs.declared.build.BuildError.{BuildError}
-use Rattle.zerotrie_run.specs.declared.build.BuildError.TheVariants as unmade
 
 -- a text that is told after some words is told last
 pub told_last : (a b c : Option (List ℕ)) (text : List ℕ) → TellsMore a b → Appends b c text → ToldLast a c text
@@ -40,24 +36,6 @@ failure_told command input files a b c text name false false closed place line m
 failure_told command input files a b c text name false true true place line more h = tt
 failure_told command input files a b c text name false true false place line more h = (name, place, (text, line, told_last a b c text more h))
 
--- what is told last if no file is made or written
-pub build_text_told : (build : Build) (input : Option (List ℕ)) (files : Option Story) (a b c : Option (List ℕ)) (text : List ℕ) (read write closed : Bool) (e : BuildError) → HasCause build input files e → TellsBuild (source_name build.from) (target_name build.to) (unit_of build.plan.read.source) e text
-    → TellsMore a b → Appends b c text → IsTold (commands.Build build) input files a c (unwrap_or (build_refusal e) (failure read write closed))
-build_text_told build input files a b c text read write closed (unmade.Unread e) cause tells more h = failure_told (commands.Build build) input files a b c text (source_name build.from) read write closed (inl refl) tells more h
-build_text_told build input files a b c text read write closed (unmade.NotMade (made.NotText other)) cause tells more h = (cause.0, cause.1, made.NotText other, cause.2, refl, text, tells, told_last a b c text more h)
-build_text_told build input files a b c text read write closed (unmade.NotMade (made.Line n bad)) cause tells more h = (cause.0, cause.1, made.Line n bad, cause.2, refl, text, tells, told_last a b c text more h)
-build_text_told build input files a b c text read write closed (unmade.NotMade (made.NotJson l k)) cause tells more h = (cause.0, cause.1, made.NotJson l k, cause.2, refl, text, tells, told_last a b c text more h)
-build_text_told build input files a b c text read write closed (unmade.NotMade made.NotPairs) cause tells more h = (cause.0, cause.1, made.NotPairs, cause.2, refl, text, tells, told_last a b c text more h)
-build_text_told build input files a b c text read write closed (unmade.NotMade (made.NotPair bad)) cause tells more h = (cause.0, cause.1, made.NotPair bad, cause.2, refl, text, tells, told_last a b c text more h)
-build_text_told build input files a b c text read write closed (unmade.NotMade (made.Keys s)) cause tells more h = (cause.0, cause.1, made.Keys s, cause.2, refl, text, tells, told_last a b c text more h)
-build_text_told build input files a b c text read write closed (unmade.NotMade (made.SumTooLarge k)) cause tells more h = (cause.0, cause.1, made.SumTooLarge k, cause.2, refl, text, tells, told_last a b c text more h)
-build_text_told build input files a b c text read write closed (unmade.NotMade (made.Refused why)) cause tells more h = (cause.0, cause.1, made.Refused why, cause.2, refl, text, tells, told_last a b c text more h)
-build_text_told build input files a b c text read write closed (unmade.NotMade (made.IndexRefused why)) cause tells more h = (cause.0, cause.1, made.IndexRefused why, cause.2, refl, text, tells, told_last a b c text more h)
-build_text_told build input files a b c text read write closed (unmade.NotMade made.OutOfMemory) cause tells more h = failure_told (commands.Build build) input files a b c text (source_name build.from) read write closed (inl refl) (tells.0, tells.2) more h
-build_text_told build input files a b c text read write closed (unmade.Unwritten e) cause tells more h = failure_told (commands.Build build) input files a b c text (target_name build.to) read write closed (inr refl) tells more h
-build_text_told build input files a b c text read write closed unmade.Taken cause tells more h = told_exactly a b c text (taken_line (target_name build.to)) tells more h
-build_text_told build input files a b c text read write closed (unmade.Unfound e) cause tells more h = failure_told (commands.Build build) input files a b c text (target_name build.to) read write closed (inr refl) tells more h
-
 -- what is told last if a question has no answer
 pub ask_text_told : (file : TrieFile) (q : Question) (input : Option (List ℕ)) (files : Option Story) (a b c : Option (List ℕ)) (text : List ℕ) (read write closed : Bool) (e : AskError) → HasReason (IsUnasked file q) file q input files e → TellsAsk file e text
     → TellsMore a b → Appends b c text → IsTold (commands.Ask file q) input files a c (unwrap_or (ask_refusal e) (failure read write closed))
@@ -73,7 +51,3 @@ ask_text_told file q input files a b c text read write closed (ask.Unanswered (a
     failure_told (commands.Ask file q) input files a b c text (codes "standard output") read write closed (inr (inr refl)) tells more h
 ask_text_told file q input files a b c text read write closed (ask.Unanswered (answer.NoLines o)) cause tells more h = (o, cause, told_exactly a b c text (no_keys_line o) tells more h)
 ask_text_told file q input files a b c text read write closed (ask.Unprintable form key) cause tells more h = (form, key.items, cause, told_exactly a b c text (unprintable_line (source_name file.place) form key.items) tells more h)
-
--- what is told of a place and a length is told of those that are the same
-pub made_is : (told : Bool) (text words place name : List ℕ) (keys len n : ℕ) → text ≡ words → words ≡ told_made told place keys len → place ≡ name → len ≡ n → text ≡ told_made told name keys n
-made_is told text words place name keys len n same is p l = same ∙ subst (λ m. words ≡ told_made told name keys m) l (subst (λ q. words ≡ told_made told q keys len) p is)

@@ -1,26 +1,21 @@
 -- What comes of a command that makes a file of the tries of others.
-use Rattle.std.specs.Prelude.{◌≡◌, ◌⊎◌, ◌<◌, ℕ, List, [], ◌∷◌, length, map, Any, Option, Some, None, Result, Ok, Err, Bool, false, is_none}
-use Rattle.std.specs.List.{AllZip, slice_get}
+use Rattle.std.specs.Prelude.{◌≡◌, ◌⊎◌, ℕ, List, [], ◌∷◌, map, Any, Option, Some, None, Bool, false, is_none}
+use Rattle.std.specs.List.{AllZip}
 use Rattle.zerotrie_core.specs.Kinds.{kind_of}
 use Rattle.zerotrie_core.specs.Texts.{Means}
 use Rattle.zerotrie_core.specs.declared.TrieKind.{TrieKind}
 use Rattle.zerotrie_files.specs.Disks.{Story}
 use Rattle.zerotrie_queries.specs.Files.{Holds}
-use Rattle.zerotrie_run.specs.Fronts.{IsHint}
-use Rattle.zerotrie_run.specs.declared.front.Hint.{Hint}
 use Rattle.zerotrie_queries.specs.declared.file.OpenError.{OpenError}
 use Rattle.zerotrie_queries.specs.declared.file.OpenError.TheVariants as unopened
 use Rattle.zerotrie_making.specs.Combinations.{Meant, IsMadeOfMaps, ExplainsMaps, kind_kept}
 use Rattle.zerotrie_making.specs.declared.error.CombinationError.{CombinationError}
 use Rattle.zerotrie_making.specs.declared.error.CombinationError.TheVariants as combination
 use Rattle.zerotrie_making.specs.declared.error.MakeError.TheVariants as made
+use Rattle.zerotrie_making.specs.declared.plan.Combination.{Combination}
 use Rattle.zerotrie_making.specs.declared.plan.Made.{Made}
-use Rattle.zerotrie_run.specs.Runs.{World, HaveTwoStreams, IsFreshAt, IsKept, IsRead, IsRefusedUnread, IsSparedAt, IsThere, IsUnopened, IsUnopenedBy, IsWritten, HasNoTrie, Untouched, build_refusal}
+use Rattle.zerotrie_run.specs.Runs.{World, HaveTwoStreams, IsFreshAt, IsKept, IsRead, IsSparedAt, IsWritten, HasNoTrie, Untouched}
 use Rattle.zerotrie_run.specs.Statuses.{made_refusal}
-use Rattle.zerotrie_run.specs.declared.build.BuildError.{BuildError}
-use Rattle.zerotrie_run.specs.declared.build.BuildError.TheVariants as build
-use Rattle.zerotrie_run.specs.declared.combine.CombineError.{CombineError}
-use Rattle.zerotrie_run.specs.declared.combine.CombineError.TheVariants.{Unopened, NoTrie, NoValue, NotBuilt}
 use Rattle.zerotrie_run.specs.declared.command.Check.TheVariants.{Full}
 use Rattle.zerotrie_run.specs.declared.command.Combine.{Combine}
 use Rattle.zerotrie_run.specs.declared.command.Place.{Place}
@@ -54,8 +49,8 @@ are_several named [] = false
 are_several named (kind ∷ kinds) = is_none (kind_kept named (kind ∷ kinds))
 
 -- the file is made of these maps, and it is known whether no kind is named for it and their tries have several
-abbrev pub IsMadeSo : Combine → List Meant → Made → Bool → Type 0
-IsMadeSo c maps made several = IsMadeOfMaps c.combination maps made × (several ≡ are_several c.combination.kind (map (λ m. m.0) maps))
+abbrev pub IsMadeSo : Combination → List Meant → Made → Bool → Type 0
+IsMadeSo c maps made several = IsMadeOfMaps c maps made × (several ≡ are_several c.kind (map (λ m. m.0) maps))
 
 -- The file was made of the maps of the files, and written.
 pub record IsCombination (c : Combine) (input : Option (List ℕ)) (before after : World) : Type 0 where
@@ -98,93 +93,9 @@ RunsCombine c input before after Unwritten = FailsCombine c input before after
 RunsCombine c input before after OutOfMemory = FailsCombine c input before after
 RunsCombine c input before after Closed = FailsCombine c input before after
 
--- the same, if only that something failed is known
-abbrev pub EndsCombine : Combine → Option (List ℕ) → World → World → Option Status → Type 0
-EndsCombine c input before after None = FailsCombine c input before after
-EndsCombine c input before after (Some status) = RunsCombine c input before after status
-
 -- how a run ends if a file has no trie; none if memory for the search of its first fault was refused
 abbrev pub unopened_refusal : OpenError → Option Status
 unopened_refusal (unopened.BadTag why) = Some BadInput
 unopened_refusal (unopened.Damaged why) = Some BadInput
 unopened_refusal (unopened.NotWellFormed kind fault) = Some BadInput
 unopened_refusal unopened.OutOfMemory = None
-
--- how a run ends if it is refused; none if something failed
-abbrev pub combine_refusal : CombineError → Option Status
-combine_refusal (Unopened number e) = None
-combine_refusal (NoTrie number why hint) = unopened_refusal why
-combine_refusal (NoValue why key) = Some Refused
-combine_refusal (NotBuilt e) = build_refusal e
-
--- whether something failed: a file was neither made nor refused
-abbrev pub combine_fails : {A : Type 0} → Result A CombineError → Bool
-combine_fails (Ok made) = false
-combine_fails (Err e) = is_none (combine_refusal e)
-
--- the file with this number, from 0 on, is at this place
-abbrev pub IsNumbered : List Place → ℕ → Place → Type 0
-IsNumbered places number place = slice_get places number ≡ Some place
-
--- an allocation failed
-abbrev pub IsNoMemory : BuildError → Type 0
-IsNoMemory e = e ≡ build.NotMade made.OutOfMemory
-
--- why files are not read: one of them can't be
-abbrev pub IsUnread : List Place → CombineError → Type 0
-IsUnread places (Unopened number e) = (place : Place) × IsNumbered places number place
-IsUnread places (NoTrie number why hint) = ⊥
-IsUnread places (NoValue why key) = ⊥
-IsUnread places (NotBuilt e) = IsNoMemory e
-
--- the file with this number is refused by its front: all of it has no trie
-abbrev pub IsRefusedIn : List Place → Option Story → ℕ → OpenError → Hint → Type 0
-IsRefusedIn places files number why hint = (place : Place) × IsNumbered places number place × IsRefusedUnread (file_of place) false files why hint
-
--- the file with this number holds these bytes, which are no trie
-abbrev pub IsUnopenedAt : ℕ → List ℕ → CombineError → Type 0
-IsUnopenedAt number held (Unopened other e) = ⊥
-IsUnopenedAt number held (NoTrie other why hint) = (other ≡ number) × IsUnopenedBy Full None held why × IsHint held hint
-IsUnopenedAt number held (NoValue why key) = ⊥
-IsUnopenedAt number held (NotBuilt e) = ⊥
-
--- the file with this number has no trie, for this reason
-abbrev pub HasNoTrieAt : List (List ℕ) → ℕ → OpenError → Hint → Type 0
-HasNoTrieAt held number why hint = (bytes : List ℕ) × (slice_get held number ≡ Some bytes) × IsUnopenedBy Full None bytes why × IsHint bytes hint
-
--- why what the files hold is not opened: one of them has no trie
-abbrev pub AreUnopened : List (List ℕ) → CombineError → Type 0
-AreUnopened held (Unopened number e) = ⊥
-AreUnopened held (NoTrie number why hint) = HasNoTrieAt held number why hint
-AreUnopened held (NoValue why key) = ⊥
-AreUnopened held (NotBuilt e) = IsNoMemory e
-
--- why nothing is made of what the files hold: one of them has no trie, or no file is made of their maps
-abbrev pub IsUncombined : Combine → List (List ℕ) → CombineError → Type 0
-IsUncombined c held (Unopened number e) = ⊥
-IsUncombined c held (NoTrie number why hint) = HasNoTrieAt held number why hint
-IsUncombined c held (NoValue why key) = OfHeld held (λ maps. ExplainsMaps c.combination maps (combination.NoValue why key))
-IsUncombined c held (NotBuilt (build.Unread e)) = ⊥
-IsUncombined c held (NotBuilt (build.NotMade e)) = (e ≡ made.OutOfMemory) ⊎ OfHeld held (λ maps. ExplainsMaps c.combination maps (combination.NotMade e))
-IsUncombined c held (NotBuilt (build.Unwritten e)) = ⊥
-IsUncombined c held (NotBuilt build.Taken) = ⊥
-IsUncombined c held (NotBuilt (build.Unfound e)) = ⊥
-
--- why no file was made or written is so of the files and of the new one
-abbrev pub HasCombineCause : Combine → Option (List ℕ) → Option Story → CombineError → Type 0
-HasCombineCause c input files (Unopened number e) = (place : Place) × IsNumbered c.from.now number place
-HasCombineCause c input files (NoTrie number why hint) = (place : Place) × IsNumbered c.from.now number place
-    × (held : List ℕ) × IsRead place input files held × IsUnopened (file_of place) held why × IsHint held hint
-HasCombineCause c input files (NoValue why key) = OfFiles c input files (λ maps. ExplainsMaps c.combination maps (combination.NoValue why key))
-HasCombineCause c input files (NotBuilt (build.Unread e)) = Unit {0}
-HasCombineCause c input files (NotBuilt (build.NotMade e)) = (e ≡ made.OutOfMemory) ⊎ OfFiles c input files (λ maps. ExplainsMaps c.combination maps (combination.NotMade e))
-HasCombineCause c input files (NotBuilt (build.Unwritten e)) = Unit {0}
-HasCombineCause c input files (NotBuilt build.Taken) = IsThere c.to files
-HasCombineCause c input files (NotBuilt (build.Unfound e)) = Unit {0}
-
--- the number that an error has for a file is that of one
-abbrev pub NamesFile : Combine → CombineError → Type 0
-NamesFile c (Unopened number e) = number < length c.from.now
-NamesFile c (NoTrie number why hint) = number < length c.from.now
-NamesFile c (NoValue why key) = Unit {0}
-NamesFile c (NotBuilt e) = Unit {0}

@@ -1,9 +1,10 @@
 -- What each command does with its input, prints and leaves in files, and how it ends.
-use Rattle.std.specs.Prelude.{◌≡◌, ◌⊎◌, ℕ, List, Option, Some, None, Bool, true, false, Result, Ok, Err, is_none, unwrap_or}
+use Rattle.std.specs.Prelude.{◌≡◌, ◌⊎◌, ℕ, List, length, Option, Some, None, Bool, true, false, Result, Ok, Err, is_none, unwrap_or}
 use Rattle.zerotrie_files.specs.Disks.{Story}
-use Rattle.zerotrie_run.specs.Runs.{World, AreAllFiles, AreFiles, AreOneStream, HaveTwoStreams, IsDoubtful, LeavesInputOf, RunsAsk, RunsBuild, ask_refusal, build_refusal, of_lines}
+use Rattle.zerotrie_run.specs.Runs.{World, AreAllFiles, AreFiles, AreOneStream, HaveTwoStreams, IsDoubtful, LeavesInputOf, RunsAsk, RunsBuild, ask_refusal, of_lines}
 use Rattle.zerotrie_run.specs.Diffs.{IsEitherDoubtful, RunsDiff}
-use Rattle.zerotrie_run.specs.Combined.{RunsCombine, combine_refusal}
+use Rattle.zerotrie_run.specs.Combined.{RunsCombine}
+use Rattle.zerotrie_run.specs.Makings.{making_refusal}
 use Rattle.zerotrie_run.specs.declared.command.Command.{Command}
 use Rattle.zerotrie_run.specs.declared.command.Command.TheVariants as commands
 use Rattle.zerotrie_run.specs.declared.command.Place.TheVariants.{Stream}
@@ -27,6 +28,13 @@ ReadsTwice (commands.Build build) = ⊥
 ReadsTwice (commands.Ask file question) = (file.place ≡ Stream) × (of_lines question ≡ true)
 ReadsTwice (commands.Diff diff) = AreOneStream diff.old diff.new
 ReadsTwice (commands.Combine c) = HaveTwoStreams c.from.now
+
+-- how many files and streams a command reads
+abbrev pub inputs : Command → ℕ
+inputs (commands.Build build) = 1
+inputs (commands.Ask file question) = 1
+inputs (commands.Diff diff) = 2
+inputs (commands.Combine c) = length c.from.now
 
 -- a command that is refused so, or is not, doesn't read standard input
 abbrev pub LeavesInputBy : Command → Option Status → Type 0
@@ -66,10 +74,10 @@ found false = Absent
 
 -- how a run ends if its command is refused; none if something failed
 abbrev pub command_refusal : CommandError → Option Status
-command_refusal (error.Build build e) = build_refusal e
+command_refusal (error.Build build e) = making_refusal e
 command_refusal (error.Ask file question e) = ask_refusal e
 command_refusal (error.Diff diff e) = ask_refusal e.error
-command_refusal (error.Combine c e) = combine_refusal e
+command_refusal (error.Combine c e) = making_refusal e
 
 -- the same of a command that may have come to its end
 abbrev pub refusal_of : Result Bool CommandError → Option Status

@@ -6,7 +6,7 @@ use Rattle.zerotrie_files.specs.Disks.{Story}
 use Rattle.zerotrie_queries.specs.Diffs.{AreCompared, AreComparedInPart}
 use Rattle.zerotrie_run.specs.Fronts.{IsHint}
 use Rattle.zerotrie_run.specs.Messages.{IsNumberLine, source_name}
-use Rattle.zerotrie_run.specs.Runs.{AreOneStream, IsRead, Opens, IsUnopened, HasNoTrie, HasNumberToo, IsDoubtful, ask_refusal}
+use Rattle.zerotrie_run.specs.Runs.{AreOneStream, IsRead, IsRefusedUnread, Opens, IsUnopened, HasNoTrie, HasNumberToo, IsDoubtful, ask_refusal}
 use Rattle.zerotrie_run.specs.declared.ask.AskError.{AskError}
 use Rattle.zerotrie_run.specs.declared.ask.AskError.TheVariants as ask
 use Rattle.zerotrie_run.specs.declared.stdin_lines.AnswerError.TheVariants.{Input, NoLines, Output}
@@ -83,8 +83,8 @@ EndsDiff diff input files old new None = FailsDiff diff input files old new
 EndsDiff diff input files old new (Some status) = RunsDiff diff input files old new status
 
 -- whether a comparison failed: it neither came to its end nor was refused
-abbrev pub diff_fails : Result Bool DiffError → Bool
-diff_fails (Ok same) = false
+abbrev pub diff_fails : {A : Type 0} → Result A DiffError → Bool
+diff_fails (Ok done) = false
 diff_fails (Err e) = is_none (ask_refusal e.error)
 
 -- what is told of a file, by what was read of it: a line on it if it is read as bare bytes and begins with the number of a kind, and nothing if not
@@ -102,12 +102,12 @@ pub record NotesNumbers (diff : Diff) (input : Option (List ℕ)) (files : Optio
   pub first : TellsIfDoubtful (old_file diff) held old between
   pub second : TellsIfDoubtful (new_file diff) other between new
 
--- why a file is not read
-abbrev pub IsUnread : AskError → Type 0
-IsUnread (ask.Unread e) = Unit {0}
-IsUnread (ask.NoTrie why hint) = ⊥
-IsUnread (ask.Unprintable form key) = ⊥
-IsUnread (ask.Unanswered e) = ⊥
+-- why a file is not read: it can't be, or it is refused by its front
+abbrev pub IsUnread : TrieFile → Option Story → AskError → Type 0
+IsUnread file files (ask.Unread e) = Unit {0}
+IsUnread file files (ask.NoTrie why hint) = IsRefusedUnread file false files why hint
+IsUnread file files (ask.Unprintable form key) = ⊥
+IsUnread file files (ask.Unanswered e) = ⊥
 
 -- why what was read of a file is not opened
 abbrev pub HasNoTrieIn : TrieFile → List ℕ → AskError → Type 0

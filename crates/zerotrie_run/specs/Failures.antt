@@ -4,10 +4,8 @@ use Rattle.std.specs.declared.io.Error.{Error}
 use Rattle.zerotrie_files.specs.Faults.{Watched, Files, IsOutOfMemory}
 use Rattle.zerotrie_run.specs.declared.ask.AskError.{AskError}
 use Rattle.zerotrie_run.specs.declared.ask.AskError.TheVariants as ask
-use Rattle.zerotrie_run.specs.declared.build.BuildError.{BuildError}
-use Rattle.zerotrie_run.specs.declared.build.BuildError.TheVariants as build
-use Rattle.zerotrie_run.specs.declared.combine.CombineError.{CombineError}
-use Rattle.zerotrie_run.specs.declared.combine.CombineError.TheVariants as combine
+use Rattle.zerotrie_run.specs.declared.making.MakingError.{MakingError}
+use Rattle.zerotrie_run.specs.declared.making.MakingError.TheVariants as making
 use Rattle.zerotrie_run.specs.declared.stdin_lines.AnswerError.{AnswerError}
 use Rattle.zerotrie_run.specs.declared.stdin_lines.AnswerError.TheVariants.{Input, NoLines, Output}
 
@@ -41,16 +39,10 @@ AskFailed read write (ask.Unprintable form key) = Unit {0}
 AskFailed read write (ask.Unanswered e) = AnswerFailed read write e
 
 -- of one that no file is made
-abbrev pub BuildFailed : (read write : Type 0) → BuildError → Type 0
-BuildFailed read write (build.Unread e) = IsFailureOf read e
-BuildFailed read write (build.NotMade e) = Unit {0}
-BuildFailed read write (build.Unwritten e) = IsFailureOf write e
-BuildFailed read write build.Taken = Unit {0}
-BuildFailed read write (build.Unfound e) = IsFailureOf read e
-
--- of one that none is made of others
-abbrev pub CombineFailed : (read write : Type 0) → CombineError → Type 0
-CombineFailed read write (combine.Unopened number e) = IsFailureOf read e
-CombineFailed read write (combine.NoTrie number why hint) = Unit {0}
-CombineFailed read write (combine.NoValue why key) = Unit {0}
-CombineFailed read write (combine.NotBuilt e) = BuildFailed read write e
+abbrev pub MakingFailed : (read write : Type 0) → MakingError → Type 0
+MakingFailed read write making.Taken = Unit {0}
+MakingFailed read write (making.Unfound e) = IsFailureOf read e
+MakingFailed read write (making.Unread place e) = IsFailureOf read e
+MakingFailed read write (making.NoTrie place why hint) = Unit {0}
+MakingFailed read write (making.NotMade e) = Unit {0}
+MakingFailed read write (making.Unwritten e) = IsFailureOf write e

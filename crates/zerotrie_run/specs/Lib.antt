@@ -3,6 +3,7 @@ pub mod Fronts
 pub mod Runs
 pub mod Diffs
 pub mod Combined
+pub mod Makings
 pub mod Commands
 pub mod Laws
 pub mod CombinedLaws

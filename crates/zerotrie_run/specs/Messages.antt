@@ -8,6 +8,7 @@ use Rattle.zerotrie_core.specs.Faults.{rule_text}
 use Rattle.zerotrie_any.specs.declared.bytes.TagError.{TagError}
 use Rattle.zerotrie_any.specs.declared.bytes.TagError.TheVariants.{Empty, InvalidTag}
 use Rattle.zerotrie_lines.specs.Escapes.{escaped}
+use Rattle.zerotrie_lines.specs.declared.reading.Format.{Format}
 use Rattle.zerotrie_lines.specs.declared.reading.Format.TheVariants.{Lines, Tsv, TsvRaw, Csv}
 use Rattle.zerotrie_lines.specs.declared.fault.BadLine.{BadLine}
 use Rattle.zerotrie_lines.specs.declared.fault.BadLine.TheVariants as bad
@@ -34,20 +35,17 @@ use Rattle.zerotrie_core.specs.Kinds.{kind_name}
 use Rattle.zerotrie_core.specs.declared.TrieKind.{TrieKind}
 use Rattle.zerotrie_making.specs.declared.error.CombinationError.{CombinationError}
 use Rattle.zerotrie_making.specs.declared.error.CombinationError.TheVariants as combination
-use Rattle.zerotrie_run.specs.Combined.{IsNumbered, file_of}
+use Rattle.zerotrie_run.specs.Combined.{file_of}
 use Rattle.zerotrie_run.specs.declared.front.Hint.{Hint}
 use Rattle.zerotrie_run.specs.declared.front.Hint.TheVariants.{Text, Other, Nothing}
-use Rattle.zerotrie_run.specs.declared.command.Combine.{Combine}
 use Rattle.zerotrie_run.specs.declared.command.TrieFile.{TrieFile}
 use Rattle.zerotrie_run.specs.declared.command.Place.{Place}
 use Rattle.zerotrie_run.specs.declared.command.Place.TheVariants.{File, Stream}
 use Rattle.zerotrie_run.specs.declared.stdin_lines.AnswerError.TheVariants.{Input, NoLines, Output}
 use Rattle.zerotrie_run.specs.declared.ask.AskError.{AskError}
 use Rattle.zerotrie_run.specs.declared.ask.AskError.TheVariants as ask
-use Rattle.zerotrie_run.specs.declared.build.BuildError.{BuildError}
-use Rattle.zerotrie_run.specs.declared.build.BuildError.TheVariants as build
-use Rattle.zerotrie_run.specs.declared.combine.CombineError.{CombineError}
-use Rattle.zerotrie_run.specs.declared.combine.CombineError.TheVariants as combine
+use Rattle.zerotrie_run.specs.declared.making.MakingError.{MakingError}
+use Rattle.zerotrie_run.specs.declared.making.MakingError.TheVariants as making
 use Rattle.zerotrie_run.specs.declared.messages.pairs.PairUnit.{PairUnit}
 use Rattle.zerotrie_run.specs.declared.messages.pairs.PairUnit.TheVariants as unit
 
@@ -79,14 +77,17 @@ line_on place words = (line_front place ++ words) ++ 10 ∷ []
 abbrev pub IsLineOn : List ℕ → List ℕ → Type 0
 IsLineOn place text = (words : List ℕ) × (text ≡ line_on place words)
 
--- what holds one pair of a source
+-- what holds one pair of a format, and of a source
+abbrev pub unit_of_format : Format → PairUnit
+unit_of_format Lines = unit.Line
+unit_of_format Tsv = unit.Line
+unit_of_format TsvRaw = unit.Line
+unit_of_format Csv = unit.Record
+
 abbrev pub unit_of : Source → PairUnit
-unit_of (source.Text Lines ended header) = unit.Line
-unit_of (source.Text Tsv ended header) = unit.Line
-unit_of (source.Text TsvRaw ended header) = unit.Line
-unit_of (source.Text Csv ended header) = unit.Record
+unit_of (source.Text form) = unit_of_format form.format
 unit_of source.Json = unit.Pair
-unit_of source.JsonLines = unit.Line
+unit_of (source.JsonLines names) = unit.Line
 
 -- the word before its number
 abbrev pub unit_word : PairUnit → List ℕ
@@ -151,7 +152,7 @@ no_pair_words (Item number) =
 no_pair_words (Line number) =
     codes "line "
     ++ (decimal number
-    ++ codes ": no JSON list [key, value], and no object {\"key\": key, \"value\": value}, whose value is written as a whole number below 2^64")
+    ++ codes ": no JSON list [key, value], and no object {\"key\": key, \"value\": value} or with the names of --key and --value, whose value is written as a whole number below 2^64")
 
 -- a value is none for no other reason that is known
 abbrev pub is_other : ValueFault → Bool
@@ -177,19 +178,49 @@ bad_hint unit number bad.Empty = []
 bad_hint unit number bad.NoTab = codes "; if the input has another form, name it by --format"
 bad_hint unit number bad.Escape = []
 bad_hint unit number (bad.Value v) = if number == 1 then header_hint unit v.fault else []
-bad_hint unit number bad.Fields = []
+bad_hint unit number (bad.Fields found wanted) = []
+bad_hint unit number (bad.NoColumn name) = []
+bad_hint unit number (bad.SameColumns name) = []
 
--- what a field begins with that is no value, in quotes
+-- a field or a name in quotes
+abbrev pub quoted_words : List ℕ → List ℕ
+quoted_words field = (codes ": \"" ++ escaped field) ++ codes "\""
+
+-- what a field begins with that is no value, the name of a column, or how many fields there are
 abbrev pub field_words : BadLine → List ℕ
 field_words bad.Empty = []
 field_words bad.NoTab = []
 field_words bad.Escape = []
-field_words (bad.Value v) = (codes ": \"" ++ escaped v.front.items) ++ codes "\""
-field_words bad.Fields = []
+field_words (bad.Value v) = quoted_words v.front.items
+field_words (bad.Fields found wanted) = codes ": " ++ (decimal found ++ (codes ", not " ++ decimal wanted))
+field_words (bad.NoColumn name) = quoted_words name.items
+field_words (bad.SameColumns name) = quoted_words name.items
+
+-- what is wrong with a field that is no value
+abbrev pub value_fault_words : ValueFault → List ℕ
+value_fault_words fault.Empty = codes "the value is missing"
+value_fault_words fault.Sign = codes "the value has a sign"
+value_fault_words fault.Blank = codes "a blank is in the value"
+value_fault_words fault.CarriageReturn = codes "a carriage return is at the end of the value"
+value_fault_words fault.Hexadecimal = codes "the value is hexadecimal, not decimal"
+value_fault_words fault.Fraction = codes "the value is a fraction or has an exponent"
+value_fault_words fault.TooLong = codes "the value has more than 20 digits"
+value_fault_words fault.TooGreat = codes "the value is 2^64 or more"
+value_fault_words fault.Other = codes "the value is no decimal number"
+
+-- why a line or record is no pair
+abbrev pub bad_line_words : BadLine → List ℕ
+bad_line_words bad.Empty = codes "an empty line"
+bad_line_words bad.NoTab = codes "no tab between a key and its value"
+bad_line_words bad.Escape = codes "a backslash that begins no escape; the escapes are \\t \\n \\r \\\\ \\xHH"
+bad_line_words (bad.Value v) = value_fault_words v.fault
+bad_line_words (bad.Fields found wanted) = codes "wrong number of fields"
+bad_line_words (bad.NoColumn name) = codes "no column has this name"
+bad_line_words (bad.SameColumns name) = codes "more than one column has this name"
 
 -- which line or record is no pair, and why
-abbrev pub bad_words : PairUnit → ℕ → BadLine → (why : List ℕ) → List ℕ
-bad_words unit number bad why = ((unit_word unit ++ (codes " " ++ (decimal number ++ (codes ": " ++ why)))) ++ field_words bad) ++ bad_hint unit number bad
+abbrev pub bad_words : PairUnit → ℕ → BadLine → List ℕ
+bad_words unit number bad = ((unit_word unit ++ (codes " " ++ (decimal number ++ (codes ": " ++ bad_line_words bad)))) ++ field_words bad) ++ bad_hint unit number bad
 
 -- what may help if a text is no JSON value from here on
 abbrev pub json_hint : (line column : ℕ) → List ℕ
@@ -242,10 +273,10 @@ other_words Utf16 = codes "it looks like UTF-16: make it UTF-8 by iconv -f UTF-1
 other_words Gzip = codes "it looks like a file of gzip: gunzip it first"
 other_words Sealed = codes "it is a trie or an index that zerotrie made: list prints the pairs of a trie"
 
--- why no file is made of pairs; why a line is none is said by the crate that reads it
+-- why no file is made of pairs
 abbrev pub AreMadeWords : PairUnit → MakeError → List ℕ → Type 0
 AreMadeWords unit (made.NotText other) words = words ≡ other_words other
-AreMadeWords unit (made.Line number bad) words = (why : List ℕ) × (words ≡ bad_words unit number bad why)
+AreMadeWords unit (made.Line number bad) words = words ≡ bad_words unit number bad
 AreMadeWords unit (made.NotJson line column) words = words ≡ json_words line column
 AreMadeWords unit made.NotPairs words = words ≡ codes "neither an object nor a list"
 AreMadeWords unit (made.NotPair bad) words = words ≡ no_pair_words bad
@@ -319,15 +350,6 @@ IsNumberLine place text = (kind : TrieKind)
 abbrev pub taken_line : (place : List ℕ) → List ℕ
 taken_line place = line_on place (codes "the file is there already, and --no-clobber leaves it")
 
--- a line tells why no file was made of pairs or written, and which of these places it is about: the one that is read, or the one that
--- is written
-abbrev pub TellsBuild : (from to : List ℕ) → PairUnit → BuildError → List ℕ → Type 0
-TellsBuild from to unit (build.Unread e) text = IsLineOn from text
-TellsBuild from to unit (build.NotMade e) text = TellsMade from unit e text
-TellsBuild from to unit (build.Unwritten e) text = IsLineOn to text
-TellsBuild from to unit build.Taken text = text ≡ taken_line to
-TellsBuild from to unit (build.Unfound e) text = IsLineOn to text
-
 -- why a key that is taken gets no value
 abbrev pub value_words : RuleError → List ℕ
 value_words SeveralValues = codes "more than one file has this key; --values first, sum or another gives it one value: "
@@ -339,12 +361,16 @@ abbrev pub TellsUnmade : (place : List ℕ) → CombinationError → List ℕ �
 TellsUnmade place (combination.NoValue why key) text = text ≡ line_on place (value_words why ++ told_key key.items)
 TellsUnmade place (combination.NotMade e) text = TellsMade place unit.Pair e text
 
--- a line tells why no file was made of others, or written, and which place it is about; pairs are refused at the one that is written
-abbrev pub TellsCombine : Combine → CombineError → List ℕ → Type 0
-TellsCombine c (combine.Unopened number e) text = (place : Place) → IsNumbered c.from.now number place → IsLineOn (source_name place) text
-TellsCombine c (combine.NoTrie number why hint) text = (place : Place) → IsNumbered c.from.now number place → TellsNoTrie (file_of place) why hint text
-TellsCombine c (combine.NoValue why key) text = TellsUnmade (target_name c.to) (combination.NoValue why key) text
-TellsCombine c (combine.NotBuilt e) text = TellsBuild (target_name c.to) (target_name c.to) unit.Pair e text
+-- a line tells why no file was made, or written, and which place it is about: one that is read, the one of the pairs, or the one that is
+-- written
+abbrev pub TellsMakingError : (pairs : List ℕ) → PairUnit → (to : List ℕ) → MakingError → List ℕ → Type 0
+TellsMakingError pairs unit to making.Taken text = text ≡ taken_line to
+TellsMakingError pairs unit to (making.Unfound e) text = IsLineOn to text
+TellsMakingError pairs unit to (making.Unread place e) text = IsLineOn (source_name place) text
+TellsMakingError pairs unit to (making.NoTrie place why hint) text = TellsNoTrie (file_of place) why hint text
+TellsMakingError pairs unit to (making.NotMade (combination.NoValue why key)) text = TellsUnmade to (combination.NoValue why key) text
+TellsMakingError pairs unit to (making.NotMade (combination.NotMade e)) text = TellsMade pairs unit e text
+TellsMakingError pairs unit to (making.Unwritten e) text = IsLineOn to text
 
 -- tenths of a unit
 abbrev pub tenths_text : ℕ → List ℕ → List ℕ

@@ -1,5 +1,6 @@
 -- What each command prints, what it leaves in files, and how it ends.
 use Rattle.std.specs.Prelude.{◌≡◌, ◌≢◌, ◌⊎◌, ◌<◌, ℕ, suc, List, [], ◌∷◌, Option, Some, None, IfSome, Result, Ok, Err, Bool, true, false, is_none, map, codes}
+use Rattle.std.specs.Option.{option_map}
 use Rattle.std.specs.Io.KnownBytes.{Appends, Keeps}
 use Rattle.std.specs.Io.Buffered.{writer_buffer}
 use Rattle.std.specs.declared.io.buffered.BufWriter.{BufWriter}
@@ -33,7 +34,7 @@ use Rattle.zerotrie_queries.specs.code.Code.{whole_code}
 use Rattle.zerotrie_queries.specs.views.Views.{shown}
 use Rattle.zerotrie_queries.specs.reports.Reports.{report_of}
 use Rattle.zerotrie_queries.specs.reports.Forms.{reported}
-use Rattle.zerotrie_files.specs.Disks.{Story, Known}
+use Rattle.zerotrie_files.specs.Disks.{Story, Known, IsOpen}
 use Rattle.zerotrie_files.specs.Stores.{WasReplaced, WasKept}
 use Rattle.zerotrie_making.specs.Made.{IsFile}
 use Rattle.zerotrie_making.specs.Made as made
@@ -45,6 +46,8 @@ use Rattle.zerotrie_run.specs.declared.status.Status.{Status}
 use Rattle.zerotrie_run.specs.declared.status.Status.TheVariants.{Done, Absent, Refused, Taken, BadUsage, BadInput, BadKeys, Unread, Unwritten, OutOfMemory, Closed}
 use Rattle.zerotrie_run.specs.declared.command.Place.{Place}
 use Rattle.zerotrie_run.specs.declared.command.Place.TheVariants.{File, Stream}
+use Rattle.zerotrie_run.specs.declared.place.Opened.{Opened}
+use Rattle.zerotrie_run.specs.declared.place.Opened.TheVariants as opened
 use Rattle.zerotrie_run.specs.declared.command.Keys.{Keys}
 use Rattle.zerotrie_run.specs.declared.command.Keys.TheVariants.{Words, Lines}
 use Rattle.zerotrie_run.specs.declared.command.Question.{Question}
@@ -57,8 +60,6 @@ use Rattle.zerotrie_run.specs.declared.ask.AskError.{AskError}
 use Rattle.zerotrie_run.specs.declared.ask.AskError.TheVariants as ask
 use Rattle.zerotrie_run.specs.declared.stdin_lines.AnswerError.{AnswerError}
 use Rattle.zerotrie_run.specs.declared.stdin_lines.AnswerError.TheVariants.{Input, NoLines, Output}
-use Rattle.zerotrie_run.specs.declared.build.BuildError.{BuildError}
-use Rattle.zerotrie_run.specs.declared.build.BuildError.TheVariants as build
 
 -- What files hold and held at each moment, and what was printed: what a stream has, and then what its buffer still holds. Each as
 -- far as it is known.
@@ -82,6 +83,13 @@ Untouched before after = (after.printed ≡ before.printed) × (after.files ≡ 
 abbrev pub IsNamed : List ℕ → Place → Type 0
 IsNamed word (File path) = (path.now ≡ word) × (word ≢ codes "-")
 IsNamed word Stream = word ≡ codes "-"
+
+-- a place was opened: the file of its path, or standard input
+abbrev pub IsOpenAt : {F : Type 0} → (held : F → Option (List ℕ)) → Place → Option Story → Opened F → Type 0
+IsOpenAt held (File path) files (opened.File file) = IfSome files (IsOpen path.now (held file))
+IsOpenAt held (File path) files opened.Stream = ⊥
+IsOpenAt held Stream files (opened.File file) = ⊥
+IsOpenAt held Stream files opened.Stream = Unit {0}
 
 -- the bytes of a place: what its file holds, or all of standard input
 abbrev pub IsRead : Place → Option (List ℕ) → Option Story → List ℕ → Type 0
@@ -151,7 +159,7 @@ abbrev pub of_lines : Question → Bool
 of_lines (LookUp query keys) = are_lines keys
 of_lines (Listing form s) = false
 of_lines (Code language name) = false
-of_lines (Report form) = false
+of_lines (Report form name) = false
 of_lines Verify = false
 of_lines (View view) = false
 
@@ -170,7 +178,7 @@ abbrev pub asks_index : Question → Bool
 asks_index (LookUp query keys) = asks_keys query.asked
 asks_index (Listing form s) = false
 asks_index (Code language name) = false
-asks_index (Report form) = false
+asks_index (Report form name) = false
 asks_index Verify = true
 asks_index (View view) = false
 
@@ -196,7 +204,7 @@ asks_places (LookUp query (Words words)) = asks_keys query.asked
 asks_places (LookUp query Lines) = false
 asks_places (Listing form s) = false
 asks_places (Code language name) = false
-asks_places (Report form) = false
+asks_places (Report form name) = false
 asks_places Verify = false
 asks_places (View view) = false
 
@@ -271,7 +279,7 @@ Answers (LookUp query keys) input kind bytes old new all = KeysAnswered query ke
 Answers (Listing form s) input kind bytes old new all = AreFound s kind bytes all × AreListed form s kind bytes old new
 Answers (Code language name) input kind bytes old new all = (all ≡ true) × Appends old new (whole_code language kind name.now bytes)
 Answers Verify input kind bytes old new all = (all ≡ true) × Keeps old new
-Answers (Report form) input kind bytes old new all = (all ≡ true) × Appends old new (reported form (report_of kind bytes))
+Answers (Report form name) input kind bytes old new all = (all ≡ true) × Appends old new (reported form (option_map (λ n. n.now) name) (report_of kind bytes))
 Answers (View view) input kind bytes old new all = (all ≡ true) × Appends old new (shown view kind bytes)
 
 -- the same of the bytes of an index; nothing is printed if it is only tested
@@ -280,7 +288,7 @@ IndexAnswers (LookUp query keys) input bytes old new all = KeysAnswered query ke
 IndexAnswers (Listing form s) input bytes old new all = (all ≡ true) × Keeps old new
 IndexAnswers (Code language name) input bytes old new all = (all ≡ true) × Keeps old new
 IndexAnswers Verify input bytes old new all = (all ≡ true) × Keeps old new
-IndexAnswers (Report form) input bytes old new all = (all ≡ true) × Keeps old new
+IndexAnswers (Report form name) input bytes old new all = (all ≡ true) × Keeps old new
 IndexAnswers (View view) input bytes old new all = (all ≡ true) × Keeps old new
 
 -- the same of what a file has: in right blocks, of each index that has them
@@ -299,7 +307,7 @@ AnswersInPart (LookUp query keys) input kind bytes old new = KeysAnsweredInPart 
 AnswersInPart (Listing form s) input kind bytes old new = AreListedInPart form s kind bytes old new
 AnswersInPart (Code language name) input kind bytes old new = AppendsPart old new (whole_code language kind name.now bytes)
 AnswersInPart Verify input kind bytes old new = Keeps old new
-AnswersInPart (Report form) input kind bytes old new = AppendsPart old new (reported form (report_of kind bytes))
+AnswersInPart (Report form name) input kind bytes old new = AppendsPart old new (reported form (option_map (λ n. n.now) name) (report_of kind bytes))
 AnswersInPart (View view) input kind bytes old new = AppendsPart old new (shown view kind bytes)
 
 -- the same of the bytes of an index
@@ -308,7 +316,7 @@ IndexAnswersInPart (LookUp query keys) input bytes old new = KeysAnsweredInPart 
 IndexAnswersInPart (Listing form s) input bytes old new = Keeps old new
 IndexAnswersInPart (Code language name) input bytes old new = Keeps old new
 IndexAnswersInPart Verify input bytes old new = Keeps old new
-IndexAnswersInPart (Report form) input bytes old new = Keeps old new
+IndexAnswersInPart (Report form name) input bytes old new = Keeps old new
 IndexAnswersInPart (View view) input bytes old new = Keeps old new
 
 -- the same of what a file has
@@ -323,7 +331,7 @@ IsUnprintable (LookUp query keys) kind bytes form key = ⊥
 IsUnprintable (Listing asked s) kind bytes form key = (asked ≡ form) × AreUnprintable form s kind bytes key
 IsUnprintable (Code language name) kind bytes form key = ⊥
 IsUnprintable Verify kind bytes form key = ⊥
-IsUnprintable (Report asked) kind bytes form key = ⊥
+IsUnprintable (Report asked name) kind bytes form key = ⊥
 IsUnprintable (View view) kind bytes form key = ⊥
 
 -- the keys of a question are to be lines of standard input, which is this other file
@@ -332,7 +340,7 @@ HasNoLines (LookUp query keys) input other = AreNoLines keys input other
 HasNoLines (Listing form s) input other = ⊥
 HasNoLines (Code language name) input other = ⊥
 HasNoLines Verify input other = ⊥
-HasNoLines (Report form) input other = ⊥
+HasNoLines (Report form name) input other = ⊥
 HasNoLines (View view) input other = ⊥
 
 -- how a run ends if keys are not answered; none if something failed
@@ -352,7 +360,7 @@ HasNoKeys (LookUp query keys) input old new e = AreNoKeys keys input old new e
 HasNoKeys (Listing form s) input old new e = answer_refusal e ≡ None
 HasNoKeys (Code language name) input old new e = answer_refusal e ≡ None
 HasNoKeys Verify input old new e = answer_refusal e ≡ None
-HasNoKeys (Report form) input old new e = answer_refusal e ≡ None
+HasNoKeys (Report form name) input old new e = answer_refusal e ≡ None
 HasNoKeys (View view) input old new e = answer_refusal e ≡ None
 
 -- why there is no answer, or not all of it: the pairs can't be printed so, and nothing was; or something failed, and a beginning of
@@ -411,11 +419,6 @@ IsUnanswered file question input held old new (ask.Unread e) = ⊥
 IsUnanswered file question input held old new (ask.NoTrie why hint) = IsUnopenedFor file question held why × IsHint held hint × (new ≡ old)
 IsUnanswered file question input held old new (ask.Unprintable form key) = (kind : TrieKind) × (bytes : List ℕ) × Opens file held kind bytes × IsUnprintable question kind bytes form key.items × (new ≡ old)
 IsUnanswered file question input held old new (ask.Unanswered e) = (content : Content) × OpensFor file question held content × ContentAnswersInPart content question input old new × HasNoKeys question input old new e
-
--- what the file of a path holds, if that is known
-abbrev pub held_at : Option Story → List ℕ → Option (List ℕ)
-held_at None path = None
-held_at (Some known) path = known.now path
 
 -- this is what is printed of keys, and whether all was found, by each index that has the right blocks behind the front of a file that holds
 -- this
@@ -539,32 +542,6 @@ RunsBuild build input before after Unread = FailsBuild build input before after
 RunsBuild build input before after Unwritten = FailsBuild build input before after
 RunsBuild build input before after OutOfMemory = FailsBuild build input before after
 RunsBuild build input before after Closed = FailsBuild build input before after
-
--- the same, if only that something failed is known
-abbrev pub EndsBuild : Build → Option (List ℕ) → World → World → Option Status → Type 0
-EndsBuild build input before after None = FailsBuild build input before after
-EndsBuild build input before after (Some status) = RunsBuild build input before after status
-
--- how a run ends if a build is refused; none if something failed
-abbrev pub build_refusal : BuildError → Option Status
-build_refusal (build.Unread e) = None
-build_refusal (build.NotMade e) = made_refusal e
-build_refusal (build.Unwritten e) = None
-build_refusal build.Taken = Some Taken
-build_refusal (build.Unfound e) = None
-
--- why a build is not begun: its file is there already and is to be left as it is, or that can't be found out
-abbrev pub IsNotBegun : Place → Bool → Option Story → BuildError → Type 0
-IsNotBegun to no_clobber files (build.Unread e) = ⊥
-IsNotBegun to no_clobber files (build.NotMade e) = ⊥
-IsNotBegun to no_clobber files (build.Unwritten e) = ⊥
-IsNotBegun to no_clobber files build.Taken = (no_clobber ≡ true) × IsThere to files
-IsNotBegun to no_clobber files (build.Unfound e) = Unit {0}
-
--- whether a build failed: a file was neither made nor refused
-abbrev pub build_fails : {A : Type 0} → Result A BuildError → Bool
-build_fails (Ok made) = false
-build_fails (Err e) = is_none (build_refusal e)
 
 -- the file is read as bare bytes of a kind that was named, and begins with the number of a kind, as one that has it does
 abbrev pub HasNumberToo : Option TrieKind → List ℕ → Type 0

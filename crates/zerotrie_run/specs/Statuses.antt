@@ -1,5 +1,5 @@
 -- How a run ends, and its number.
-use Rattle.std.specs.Prelude.{ℕ, Bool, true, false, ◌||◌, Option, Some, None}
+use Rattle.std.specs.Prelude.{◌≡◌, ◌+◌, ◌||◌, ℕ, nat_lt, List, [], ◌∷◌, Bool, MatchBool, true, false, Option, Some, None, if◌then◌else◌}
 use Rattle.zerotrie_files.specs.Faults.{Watched, Files}
 use Rattle.zerotrie_making.specs.declared.error.MakeError.{MakeError}
 use Rattle.zerotrie_making.specs.declared.error.MakeError.TheVariants as error
@@ -20,6 +20,39 @@ number_of Unread = 3
 number_of Unwritten = 3
 number_of OutOfMemory = 3
 number_of Closed = 4
+
+-- the status with the greater number; if both have the same, the first
+abbrev pub worse : Status → Status → Status
+worse status next = if nat_lt (number_of status) (number_of next) then next else status
+
+-- the worst of these
+abbrev pub worst_of : Status → List Status → Status
+worst_of worst [] = worst
+worst_of worst (status ∷ statuses) = worst_of (worse worst status) statuses
+
+-- whether nothing is run for another file if the worst is so: the words are wrong, which is told once, or the output is closed
+abbrev pub ends_all : Status → Bool
+ends_all Done = false
+ends_all Absent = false
+ends_all Refused = false
+ends_all Taken = false
+ends_all BadUsage = true
+ends_all BadInput = false
+ends_all BadKeys = false
+ends_all Unread = false
+ends_all Unwritten = false
+ends_all OutOfMemory = false
+ends_all Closed = true
+
+-- the runs for the files from one on, up to this many, end so, each by a relation of the file's number, if this is the worst of those before:
+-- one for each file, but none after the worst ends all
+abbrev pub AreRunsFrom : (ℕ → Status → Type 0) → Status → (file files : ℕ) → List Status → Type 0
+AreRunsFrom Runs worst file files [] = file ≡ files
+AreRunsFrom Runs worst file files (status ∷ statuses) = Runs file status
+    × MatchBool (ends_all (worse worst status)) (statuses ≡ []) (AreRunsFrom Runs (worse worst status) (file + 1) files statuses)
+
+abbrev pub AreRuns : (ℕ → Status → Type 0) → ℕ → List Status → Type 0
+AreRuns Runs files statuses = AreRunsFrom Runs Done 0 files statuses
 
 -- how a run ends if its input makes no file; none if it is out of memory
 abbrev pub made_refusal : MakeError → Option Status

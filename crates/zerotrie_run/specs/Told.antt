@@ -17,12 +17,13 @@ use Rattle.zerotrie_making.specs.declared.plan.FileForm.TheVariants as form
 use Rattle.zerotrie_making.specs.declared.plan.Made.{Made}
 use Rattle.zerotrie_core.specs.declared.TrieKind.{TrieKind}
 use Rattle.zerotrie_run.specs.Statuses.{made_refusal}
-use Rattle.zerotrie_run.specs.Messages.{IsLine, IsLineOn, IsNumberLine, TellsAsk, TellsBuild, TellsCombine, TellsMade, TellsNoTrie, TellsUnmade, kind_line, made_line, no_keys_line, removed_line, source_name, taken_line, target_name, unit_of, unprintable_line}
-use Rattle.zerotrie_run.specs.Runs.{IsRead, IsThere, IsUnasked, IsUnopened, IsUnprinted, HasNoLines, HasNumberToo}
+use Rattle.zerotrie_run.specs.Messages.{IsLine, IsLineOn, IsNumberLine, TellsAsk, TellsMade, TellsMakingError, TellsNoTrie, TellsUnmade, kind_line, made_line, no_keys_line, removed_line, source_name, taken_line, target_name, unit_of, unprintable_line}
+use Rattle.zerotrie_run.specs.Runs.{IsRead, IsUnasked, IsUnopened, IsUnprinted, HasNoLines, HasNumberToo}
 use Rattle.zerotrie_run.specs.Diffs.{IsFileOf, NotesNumbers}
 use Rattle.zerotrie_run.specs.declared.command.Diff.{Diff}
 use Rattle.zerotrie_run.specs.declared.diff.DiffError.{DiffError}
-use Rattle.zerotrie_run.specs.Combined.{HasCombineCause, IsMadeSo, NamesFile, OfFiles, file_of, unmade_refusal}
+use Rattle.zerotrie_run.specs.Combined.{OfFiles, file_of, unmade_refusal}
+use Rattle.zerotrie_run.specs.Makings.{HasMakingCause, IsMadeBy, OfBuild, OfRead, of_combine}
 use Rattle.zerotrie_run.specs.Commands.{may_tell}
 use Rattle.zerotrie_run.specs.declared.status.Status.{Status}
 use Rattle.zerotrie_run.specs.declared.status.Status.TheVariants.{Done, Absent, Refused, Taken, BadUsage, BadInput, BadKeys, Unread, Unwritten, OutOfMemory, Closed}
@@ -39,8 +40,10 @@ use Rattle.zerotrie_run.specs.declared.command.Combine.{Combine}
 use Rattle.zerotrie_run.specs.declared.ask.AskError.{AskError}
 use Rattle.zerotrie_run.specs.declared.ask.AskError.TheVariants as ask
 use Rattle.zerotrie_run.specs.declared.stdin_lines.AnswerError.TheVariants.{Input, NoLines, Output}
-use Rattle.zerotrie_run.specs.declared.build.BuildError.{BuildError}
-use Rattle.zerotrie_run.specs.declared.build.BuildError.TheVariants as unmade
+use Rattle.zerotrie_run.specs.declared.making.Making.{Making}
+use Rattle.zerotrie_run.specs.declared.making.Recipe.{Recipe}
+use Rattle.zerotrie_run.specs.declared.making.Recipe.TheVariants.{Pairs, Tries}
+use Rattle.zerotrie_run.specs.declared.messages.pairs.PairUnit.TheVariants as unit
 use Rattle.zerotrie_run.specs.declared.error.CommandError.{CommandError}
 use Rattle.zerotrie_run.specs.declared.error.CommandError.TheVariants as error
 
@@ -88,35 +91,20 @@ HasReason IsWhy file question input files (ask.Unprintable form key) = IsUnprint
 abbrev pub HasDiffReason : Diff → Option (List ℕ) → Option Story → DiffError → Type 0
 HasDiffReason diff input files e = IsFileOf diff e.file × HasReason (IsUnopened e.file) e.file Verify input files e.error
 
--- why no file was made is so of what was read
-abbrev pub HasCause : Build → Option (List ℕ) → Option Story → BuildError → Type 0
-HasCause build input files (unmade.Unread e) = Unit {0}
-HasCause build input files (unmade.NotMade e) = (all : List ℕ) × IsRead build.from input files all × made.Explains build.plan all e
-HasCause build input files (unmade.Unwritten e) = Unit {0}
-HasCause build input files unmade.Taken = IsThere build.to files
-HasCause build input files (unmade.Unfound e) = Unit {0}
-
 -- why a command was not carried out is so of what it was to do and what was read
 abbrev pub HasCommandCause : Command → Option (List ℕ) → Option Story → CommandError → Type 0
-HasCommandCause command input files (error.Build build e) = (command ≡ commands.Build build) × HasCause build input files e
+HasCommandCause command input files (error.Build build e) = (command ≡ commands.Build build) × OfBuild build (λ m. HasMakingCause m input files e)
 HasCommandCause command input files (error.Ask file question e) =
     (command ≡ commands.Ask file question) × HasReason (IsUnasked file question) file question input files e
 HasCommandCause command input files (error.Diff diff e) = (command ≡ commands.Diff diff) × HasDiffReason diff input files e
-HasCommandCause command input files (error.Combine c e) = (command ≡ commands.Combine c) × HasCombineCause c input files e
+HasCommandCause command input files (error.Combine c e) = (command ≡ commands.Combine c) × HasMakingCause (of_combine c) input files e
 
 -- a line tells why
 abbrev pub TellsCommand : CommandError → List ℕ → Type 0
-TellsCommand (error.Build build e) text = TellsBuild (source_name build.from) (target_name build.to) (unit_of build.plan.read.source) e text
+TellsCommand (error.Build build e) text = TellsMakingError (source_name build.from) (unit_of build.plan.read.source) (target_name build.to) e text
 TellsCommand (error.Ask file question e) text = TellsAsk file e text
 TellsCommand (error.Diff diff e) text = TellsAsk e.file e.error text
-TellsCommand (error.Combine c e) text = TellsCombine c e text
-
--- the number that an error has for a file is that of one
-abbrev pub NamesItsFile : CommandError → Type 0
-NamesItsFile (error.Build build e) = Unit {0}
-NamesItsFile (error.Ask file question e) = Unit {0}
-NamesItsFile (error.Diff diff e) = Unit {0}
-NamesItsFile (error.Combine c e) = NamesFile c e
+TellsCommand (error.Combine c e) text = TellsMakingError (target_name c.to) unit.Pair (target_name c.to) e text
 
 -- a line on the file is told if it is read as bare bytes and begins with the number of a kind
 abbrev pub NotesNumber : TrieFile → Option (List ℕ) → Option Story → (old new : Option (List ℕ)) → Type 0
@@ -165,16 +153,25 @@ abbrev pub told_kind : Bool → List ℕ → TrieKind → List ℕ
 told_kind true place kind = kind_line place kind
 told_kind false place kind = []
 
--- what is told of a file that was made of others, by whether no kind is named for it and their tries have several: of which kind it is,
+-- what file a recipe makes
+abbrev pub form_of : Recipe → FileForm
+form_of (Pairs plan) = plan.file.form
+form_of (Tries c) = c.form
+
+-- what is told of a file that was made, by whether no kind is named for it and the tries of its files have several: of which kind it is,
 -- unless it has none or nothing is to be told; and then how many keys it has, and how long it is, as the summary says
-abbrev pub combined_lines : Combine → Bool → Made → List ℕ
-combined_lines c several made = told_kind (several && (may_tell c.summary && has_kind c.combination.form)) (target_name c.to) made.kind
-    ++ told_made (is_told c.summary made.keys) (target_name c.to) made.keys (length made.file.items)
+abbrev pub made_lines : Making → Bool → Made → List ℕ
+made_lines m several file = told_kind (several && (may_tell m.summary && has_kind (form_of m.recipe))) (target_name m.to) file.kind
+    ++ told_made (is_told m.summary file.keys) (target_name m.to) file.keys (length file.file.items)
+
+-- what was made is told
+abbrev pub TellsMaking : Making → Option (List ℕ) → Option Story → (old new : Option (List ℕ)) → Type 0
+TellsMaking m input files old new = (file : Made) × (several : Bool) × OfRead m input files (λ held. IsMadeBy m.recipe held file several)
+    × TellsThenLeft (made_lines m several file) m.summary m.to old new
 
 -- what a combination made is told
 abbrev pub TellsCombined : Combine → Option (List ℕ) → Option Story → (old new : Option (List ℕ)) → Type 0
-TellsCombined c input files old new = (made : Made) × (several : Bool) × OfFiles c input files (λ maps. IsMadeSo c maps made several)
-    × TellsThenLeft (combined_lines c several made) c.summary c.to old new
+TellsCombined c input files old new = TellsMaking (of_combine c) input files old new
 
 -- a line tells why a file that was read has no trie, by its first fault
 abbrev pub TellsUnopened : (List ℕ → OpenError → Type 0) → TrieFile → Option (List ℕ) → Option Story → (old new : Option (List ℕ)) → Type 0

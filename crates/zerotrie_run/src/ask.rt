@@ -1,6 +1,6 @@
 //! A question to the trie or the index of a file.
 
-ghost use Rattle.std.specs.Prelude.{◌≡◌, true, false, Err, IfOk, IfErr, MatchResult, OnOk, OnErr};
+ghost use Rattle.std.specs.Prelude.{◌≡◌, ◌≤◌, ◌+◌, true, false, Err, IfOk, IfErr, MatchResult, OnOk, OnErr};
 ghost use Rattle.std.specs.Io.KnownBytes.{Appends};
 ghost use Rattle.std.specs.Io.Buffered.{writer_contents};
 ghost use Rattle.zerotrie_files.specs.Notes.{NothingFailed, SameNotes};
@@ -22,7 +22,7 @@ use crate::found::write_found;
 use crate::front::{Hint, hint_of, refused_by_front};
 use crate::messages::ask::tell_number;
 use crate::open::{asks_index, open_index, open_trie};
-use crate::place::read_place;
+use crate::place::{open_place, read_opened};
 use crate::status::Status;
 use crate::stdin_lines::{AnswerError, answer_lines};
 use std::alloc::Global;
@@ -176,7 +176,7 @@ fn answer_by_trie<R: Read, W: Write + Drop>(
         (Asked::KeyOf, Keys::Lines) => answer_by_table(alloc, trie, query, input, output),
         (Asked::KeyOf, Keys::Words(_))
         | (
-            Asked::Value | Asked::Pair | Asked::Longest | Asked::LongestAt(_) | Asked::Prefixes,
+            Asked::Value | Asked::Pair | Asked::Longest | Asked::LongestAt(_) | Asked::Prefixes(_),
             Keys::Words(_) | Keys::Lines,
         ) => {
             let finder = Finder::Trie(*trie);
@@ -220,8 +220,8 @@ fn answer<R: Read, W: Write + Drop>(
             Ok(true)
         }
         Question::Verify => Ok(true),
-        Question::Report(form) => {
-            write_trie_report(alloc, trie, form, output)?;
+        Question::Report(form, name) => {
+            write_trie_report(alloc, trie, form, name, output)?;
             Ok(true)
         }
         Question::View(view) => {
@@ -263,7 +263,7 @@ fn answer_of_index<R: Read, W: Write + Drop>(
         Question::List(_, _)
         | Question::Code(_, _)
         | Question::Verify
-        | Question::Report(_)
+        | Question::Report(_, _)
         | Question::View(_) => Ok(true),
     }
 }
@@ -338,6 +338,7 @@ pub fn ask<D: Disk, R: Read, W: Write + Drop, M: Write>(
         (D.story files.old.disk) (writer_contents W.contents output.old.inner)
         (writer_contents W.contents output.new.inner) (ask_refusal e)) }
     ensures same { files.new.disk ≡ files.old.disk }
+    ensures once { files.new.opened ≤ files.old.opened + 1 }
     ensures handed { IfOk result (λ _. HandsOn output.old.inner output.new.inner) }
     ensures why { IfErr result (HasReason (IsUnasked file.entry question.entry) file.entry question.entry (R.remaining input.old.inner)
         (D.story files.old.disk)) }
@@ -356,14 +357,18 @@ pub fn ask<D: Disk, R: Read, W: Write + Drop, M: Write>(
     ensures unread { LeavesInputOf file.entry question.entry (asked_refusal result)
         → input.new ≡ input.old }
 {
-    if let Some((text, all)) = answer_at_places(alloc, file, question, files.disk()) {
+    let opened = match open_place(file.place, files) {
+        Ok(opened) => opened,
+        Err(error) => return Err(AskError::Unread(error)),
+    };
+    if let Some((text, all)) = answer_at_places(alloc, file, question, &opened) {
         print(text.as_slice(), output)?;
         return Ok(all);
     }
-    if let Some((why, hint)) = refused_by_front(file, asks_index(question), files.disk()) {
+    if let Some((why, hint)) = refused_by_front(file, asks_index(question), &opened) {
         return Err(AskError::NoTrie(why, hint));
     }
-    let held = match read_place(alloc, file.place, files, input) {
+    let held = match read_opened(alloc, opened, files, input) {
         Ok(held) => held,
         Err(error) => return Err(AskError::Unread(error)),
     };

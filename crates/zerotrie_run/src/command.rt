@@ -88,7 +88,7 @@ pub enum Question<'a> {
     /// Nothing: whether the file has a trie.
     Verify,
     /// What the trie is made of.
-    Report(ReportForm),
+    Report(ReportForm, Option<&'a str>),
     /// Its nodes.
     View(View),
 }
@@ -133,7 +133,7 @@ pub enum Summary {
 pub struct Build<'a> {
     pub from: Place<'a>,
     pub to: Place<'a>,
-    pub plan: Plan,
+    pub plan: Plan<'a>,
     /// Whether a file that is there already is left as it is, and the build refused.
     pub no_clobber: bool,
     /// When it is reported at the end what was made.
@@ -186,7 +186,7 @@ fn reads_lines(question: Question<'_>) -> bool
         | Question::List(_, _)
         | Question::Code(_, _)
         | Question::Verify
-        | Question::Report(_)
+        | Question::Report(_, _)
         | Question::View(_) => false,
     }
 }

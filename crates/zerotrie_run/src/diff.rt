@@ -1,30 +1,30 @@
 //! A comparison of the tries of two files.
 
-ghost use Rattle.std.specs.Prelude.{◌≡◌, ◌<◌, ◌⊎◌, true, false, Ok, Err, IfOk, IfErr, OnOk, IfSome};
+ghost use Rattle.std.specs.Prelude.{◌≡◌, ◌≤◌, ◌⊎◌, ◌+◌, true, false, Ok, Err, IfOk, IfErr};
 ghost use Rattle.std.specs.Io.Buffered.{writer_contents};
 ghost use Rattle.zerotrie_core.specs.Kinds.{kind_of};
 ghost use Rattle.zerotrie_core.specs.WellFormed.{IsWellFormed};
 ghost use Rattle.zerotrie_files.specs.Notes.{NothingFailed, SameReads};
 ghost use Rattle.zerotrie_run.specs.Failures.{AskFailed, ReadFailed, WriteFailed};
-ghost use Rattle.zerotrie_run.specs.Diffs.{old_file, new_file, IsEitherDoubtful, IsDiffed, EndsDiff, diff_fails, TellsIfDoubtful, NotesNumbers, IsFileOf, IsUnread, HasNoTrieIn, AreHeldCompared, AreUncompared};
-ghost use Rattle.zerotrie_run.specs.Runs.{AreFiles, AreOneStream, HandsOn, IsDoubtful, IsRead, IsRefusedUnread, Opens, ask_refusal};
+ghost use Rattle.zerotrie_run.specs.Diffs.{old_file, new_file, IsEitherDoubtful, IsDiffed, EndsDiff, diff_fails, TellsIfDoubtful, NotesNumbers, IsUnread, HasNoTrieIn, AreHeldCompared, AreUncompared};
+ghost use Rattle.zerotrie_run.specs.Runs.{AreFiles, AreOneStream, HandsOn, IsDoubtful, IsRead, Opens, ask_refusal};
 ghost use Rattle.zerotrie_run.specs.Told.{HasDiffReason, TellsMore};
 ghost use Rattle.zerotrie_run.specs.declared.command.Check.TheVariants.{Full};
 ghost use Rattle.zerotrie_run.specs.declared.command.Place.TheVariants.{Stream};
 
 use crate::ask::AskError;
 use crate::command::{Check, Diff, TrieFile};
-use crate::front::{Hint, hint_of, refused_by_front};
+use crate::front::{hint_of, refused_by_front};
 use crate::messages::ask::tell_number;
 use crate::open::open_in_full;
-use crate::place::read_place;
+use crate::place::{open_place, read_opened};
 use crate::stdin_lines::AnswerError;
 use std::alloc::Global;
 use std::io;
 use std::io::{BufWriter, Read, Write};
 use zerotrie_core::TrieRef;
 use zerotrie_files::{Disk, Noted, Store};
-use zerotrie_queries::{OpenError, write_diff};
+use zerotrie_queries::write_diff;
 
 /// Why two files are not compared, and which of them shows it.
 #[derive(Debug, Drop)]
@@ -55,21 +55,7 @@ fn new_file<'a>(diff: Diff<'a>) -> TrieFile<'a>
     }
 }
 
-/// Returns the first of the two files that has no trie, if its first bytes show it, and why.
-fn refused_in<'a, D: Disk>(diff: Diff<'a>, disk: &D) -> Option<(TrieFile<'a>, OpenError, Hint)>
-    ensures { IfSome result (λ r. IsFileOf diff.entry r.0
-        × IsRefusedUnread r.0 false (D.story disk.now) r.1 r.2) }
-{
-    let old = old_file(diff);
-    if let Some((why, hint)) = refused_by_front(old, false, disk) {
-        return Some((old, why, hint));
-    }
-    let new = new_file(diff);
-    let (why, hint) = refused_by_front(new, false, disk)?;
-    Some((new, why, hint))
-}
-
-/// Reads a file. If it is read as bare bytes and begins with the number of a kind, a message says
+/// Reads a file, unless its first bytes show that it has no trie. If it is read as bare bytes and begins with the number of a kind, a message says
 /// so.
 fn read_file<'a, D: Disk, R: Read, M: Write>(
     alloc: Global,
@@ -80,11 +66,14 @@ fn read_file<'a, D: Disk, R: Read, M: Write>(
 ) -> Result<Vec<u8>, DiffError<'a>>
     ensures read { IfOk result (λ held. IsRead file.entry.place (R.remaining input.old.inner)
         (D.story files.old.disk) held.items) }
-    ensures err { IfErr result (λ e. (e.file ≡ file.entry) × IsUnread e.error) }
+    ensures err { IfErr result (λ e. (e.file ≡ file.entry)
+        × IsUnread file.entry (D.story files.old.disk) e.error) }
     ensures failed { IfErr result (λ e. AskFailed (ReadFailed input.new files.new) ⊥ e.error) }
     ensures same { files.new.disk ≡ files.old.disk }
     ensures untouched { (file.entry.place ≡ Stream) ⊎ (input.new ≡ input.old) }
-    ensures noted { OnOk result (SameReads input.old input.new files.old files.new) }
+    ensures once { files.new.opened ≤ files.old.opened + 1 }
+    ensures noted { diff_fails result ≡ false
+        → SameReads input.old input.new files.old files.new }
     ensures unwritten { files.new.unwritten ≡ files.old.unwritten }
     ensures notes { IfOk result (λ held. messages.new.failed ≡ false
         → TellsIfDoubtful file.entry held.items
@@ -94,7 +83,22 @@ fn read_file<'a, D: Disk, R: Read, M: Write>(
     ensures quiet { (IsDoubtful file.entry (R.remaining input.old.inner)
         (D.story files.old.disk) → ⊥) → messages.new ≡ messages.old }
 {
-    let held = match read_place(alloc, file.place, files, input) {
+    let opened = match open_place(file.place, files) {
+        Ok(opened) => opened,
+        Err(error) => {
+            return Err(DiffError {
+                file,
+                error: AskError::Unread(error),
+            });
+        }
+    };
+    if let Some((why, hint)) = refused_by_front(file, false, &opened) {
+        return Err(DiffError {
+            file,
+            error: AskError::NoTrie(why, hint),
+        });
+    }
+    let held = match read_opened(alloc, opened, files, input) {
         Ok(held) => held,
         Err(error) => {
             return Err(DiffError {
@@ -216,18 +220,13 @@ pub fn compare<'a, D: Disk, R: Read, W: Write + Drop, M: Write>(
         × TellsMore (M.contents messages.old.inner) (M.contents messages.new.inner) }
     ensures quiet { (IsEitherDoubtful diff.entry (R.remaining input.old.inner)
         (D.story files.old.disk) → ⊥) → messages.new ≡ messages.old }
+    ensures once { files.new.opened ≤ files.old.opened + 2 }
     ensures noted { diff_fails result ≡ false
         → NothingFailed input.old input.new output.old output.new files.old files.new }
     ensures failed { IfErr result (λ e. AskFailed (ReadFailed input.new files.new)
         (WriteFailed output.new files.new) e.error) }
     ensures unread { AreFiles diff.entry.old diff.entry.new → input.new ≡ input.old }
 {
-    if let Some((file, why, hint)) = refused_in(diff, files.disk()) {
-        return Err(DiffError {
-            file,
-            error: AskError::NoTrie(why, hint),
-        });
-    }
     let held = read_file(alloc, old_file(diff), files, input, messages)?;
     let other = read_file(alloc, new_file(diff), files, input, messages)?;
     compare_and_hand_on(alloc, diff, held.as_slice(), other.as_slice(), output)

@@ -2,16 +2,16 @@
 
 ghost use Rattle.std.specs.Prelude.{◌≡◌, IfOk};
 ghost use Rattle.zerotrie_run.specs.Commands.{command_refusal};
-ghost use Rattle.zerotrie_run.specs.Told.{NamesItsFile, TellsCommand};
+ghost use Rattle.zerotrie_run.specs.Told.{TellsCommand};
 
 use crate::ask::AskError;
-use crate::build::BuildError;
-use crate::combine::CombineError;
 use crate::command::{Build, Combine, Diff, Question, TrieFile};
 use crate::diff::DiffError;
+use crate::making::MakingError;
 use crate::messages::ask::{ask_text, question_text};
-use crate::messages::build::build_text;
-use crate::messages::combine::combine_text;
+use crate::messages::build::unmade_text;
+use crate::messages::line::{source_name, target_name};
+use crate::messages::pairs::PairUnit;
 use crate::status::Status;
 use std::alloc::{AllocError, Global};
 
@@ -19,13 +19,13 @@ use std::alloc::{AllocError, Global};
 #[derive(Debug, Drop)]
 pub enum CommandError<'a> {
     /// No file is made of pairs.
-    Build(Build<'a>, BuildError),
+    Build(Build<'a>, MakingError<'a>),
     /// The question has no answer.
     Ask(TrieFile<'a>, Question<'a>, AskError),
     /// The two files are not compared.
     Diff(Diff<'a>, DiffError<'a>),
     /// No file is made of the tries of others.
-    Combine(Combine<'a>, CombineError),
+    Combine(Combine<'a>, MakingError<'a>),
 }
 
 impl<'a> CommandError<'a> {
@@ -34,25 +34,33 @@ impl<'a> CommandError<'a> {
         ensures { result ≡ command_refusal self.now }
     {
         match self {
-            CommandError::Build(_, error) => error.refusal(),
+            CommandError::Build(_, error) | CommandError::Combine(_, error) => error.refusal(),
             CommandError::Ask(_, _, error) => error.refusal(),
             CommandError::Diff(_, error) => error.error.refusal(),
-            CommandError::Combine(_, error) => error.refusal(),
         }
     }
 
     /// Returns the message that says why.
     pub fn text(&self, alloc: Global) -> Result<Vec<u8>, AllocError>
-        requires { NamesItsFile self.now }
         ensures { IfOk result (λ text. TellsCommand self.now text.items) }
     {
         match self {
-            CommandError::Build(build, error) => build_text(alloc, *build, error),
+            CommandError::Build(build, error) => unmade_text(
+                alloc,
+                source_name(build.from),
+                PairUnit::of(build.plan.read.source),
+                target_name(build.to),
+                error,
+            ),
             CommandError::Ask(file, question, error) => {
                 question_text(alloc, *file, *question, error)
             }
             CommandError::Diff(_, error) => ask_text(alloc, error.file, &error.error),
-            CommandError::Combine(combine, error) => combine_text(alloc, *combine, error),
+            // no file has the pairs that are taken, so a line on them is on the file that is made
+            CommandError::Combine(combine, error) => {
+                let to = target_name(combine.to);
+                unmade_text(alloc, to, PairUnit::Pair, to, error)
+            }
         }
     }
 }

@@ -13,16 +13,20 @@ use zerotrie_files::Noted;
 use zerotrie_queries::{Form, ListError, ListQuery, Style, write_list};
 
 /// Returns whether a listing has a pair: it reads up to the first one.
-#[tactic(auto, using(crate::proofs::FoundLemmas::none_found))]
+#[tactic(auto, using(crate::proofs::FoundLemmas::none_found, crate::proofs::FoundLemmas::none_topped))]
 fn finds_pair(alloc: Global, trie: &TrieRef<'_>, selection: ListQuery<'_>) -> io::Result<bool>
     ensures found { IfOk result (AreFound selection.entry trie.now.kind trie.now.bytes.now) }
     ensures memory { IfErr result IsOutOfMemory }
 {
+    if selection.top == Some(0) {
+        return Ok(false);
+    }
     if selection.limit == Some(0) {
         return Ok(false);
     }
     let mut lines = Noted::new(Vec::new(alloc));
     let first = ListQuery {
+        top: None,
         limit: Some(1),
         ..selection
     };

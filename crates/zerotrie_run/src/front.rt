@@ -1,12 +1,14 @@
 //! What the first bytes of a file show: that it has no trie, and what it looks like.
 
-ghost use Rattle.std.specs.Prelude.{◌≡◌, ◌≤◌, ◌++◌, ℕ, List, true, length, take, IfSome};
+ghost use Rattle.std.specs.Prelude.{◌≡◌, ◌≤◌, ◌++◌, ℕ, List, Option, true, length, take, IfSome};
+ghost use Rattle.zerotrie_files.specs.Disks.{Story};
 ghost use Rattle.zerotrie_run.specs.Fronts.{HasNothing, IsHint, IsSettled, begins_as_text, front_len, is_cut_text};
-ghost use Rattle.zerotrie_run.specs.Runs.{IsRefusedUnread};
+ghost use Rattle.zerotrie_run.specs.Runs.{IsOpenAt, IsRefusedUnread};
 
-use crate::command::{Place, TrieFile};
+use crate::command::TrieFile;
+use crate::place::Opened;
 use zerotrie_core::TrieKind;
-use zerotrie_files::{Disk, Found};
+use zerotrie_files::OpenFile;
 use zerotrie_making::{OtherFile, other_file};
 use zerotrie_queries::{OpenError, looks_like_text, open_unchecked};
 use zerotrie_sealed::{SealError, is_index_number};
@@ -111,23 +113,20 @@ fn refusal_of_front(named: Option<TrieKind>, takes_index: bool, front: &[u8]) ->
 
 /// Returns why a large file has no trie, nor an index if one is taken, and what it looks like, if its first
 /// bytes show it: only they are read then. `None` if all of it is to be read, also after a fault.
-pub fn refused_by_front<D: Disk>(
+pub fn refused_by_front<F: OpenFile>(
     file: TrieFile<'_>,
     takes_index: bool,
-    disk: &D,
+    opened: &Opened<F>,
 ) -> Option<(OpenError, Hint)>
-    ensures { IfSome result (λ r.
-        IsRefusedUnread file.entry takes_index (D.story disk.now) r.0 r.1) }
+    ensures { IfSome result (λ r. (story : Option Story)
+        → IsOpenAt F.held file.entry.place story opened.now
+        → IsRefusedUnread file.entry takes_index story r.0 r.1) }
 {
-    let Place::File(path) = file.place else {
+    let Opened::File(open) = opened else {
         return None;
     };
-    match disk.find(path) {
-        Ok(Found::File(_)) => {}
-        Ok(Found::Nothing | Found::Folder | Found::Stream) | Err(_) => return None,
-    }
     let mut front = [0; FRONT_LEN + 1];
-    match disk.read_at(path, 0, &mut front) {
+    match open.read_part(0, &mut front) {
         Ok(()) => {}
         Err(_) => return None,
     }

@@ -3,7 +3,6 @@
 
 mod ask;
 mod at_places;
-mod build;
 mod combine;
 mod command;
 mod diff;
@@ -11,13 +10,16 @@ mod error;
 mod found;
 mod front;
 pub mod laws;
+mod making;
 mod messages;
 mod open;
 mod place;
 mod program;
+mod several;
 mod status;
 mod stdin_lines;
 
 pub use command::{Build, Check, Combine, Command, Diff, Keys, Place, Question, Summary, TrieFile};
 pub use program::run;
+pub use several::run_each;
 pub use status::Status;

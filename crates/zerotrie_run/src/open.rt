@@ -55,7 +55,7 @@ pub fn asks_index(question: Question<'_>) -> bool
     match question {
         Question::LookUp(query, _) => query.asked.asks_keys(),
         Question::Verify => true,
-        Question::List(_, _) | Question::Code(_, _) | Question::Report(_) | Question::View(_) =>
+        Question::List(_, _) | Question::Code(_, _) | Question::Report(_, _) | Question::View(_) =>
             false,
     }
 }

@@ -1,22 +1,21 @@
 //! The program over files and streams.
 
-ghost use Rattle.std.specs.Prelude.{◌≡◌, ◌<◌, ◌⊎◌, false, true, unwrap_or, IfErr, IfOk};
+ghost use Rattle.std.specs.Prelude.{◌≡◌, ◌≤◌, ◌<◌, ◌⊎◌, ◌+◌, false, true, unwrap_or, IfErr, IfOk};
 ghost use Rattle.std.specs.Io.KnownBytes.{Appends};
 ghost use Rattle.std.specs.Io.Buffered.{writer_contents};
 ghost use Rattle.zerotrie_files.specs.Notes.{NothingFailed};
 ghost use Rattle.zerotrie_run.specs.Runs.{HandsOn, world};
 ghost use Rattle.zerotrie_run.specs.Failures.{ReadFailed, WasClosed, WriteFailed};
-ghost use Rattle.zerotrie_run.specs.Commands.{Ends, LeavesInput, LeavesInputBy, ReadsTwice, Runs, TellsNumber, command_fails, command_refusal, found, refusal_of, tells_made};
+ghost use Rattle.zerotrie_run.specs.Commands.{Ends, LeavesInput, LeavesInputBy, ReadsTwice, Runs, TellsNumber, command_fails, command_refusal, found, inputs, refusal_of, tells_made};
 ghost use Rattle.zerotrie_run.specs.Statuses.{failure_of, number_of};
 ghost use Rattle.zerotrie_run.specs.Told.{HasCommandCause, IsTold, Notes, TellsMore, ended, last_text};
 ghost use Rattle.zerotrie_run.specs.declared.status.Status.TheVariants.{Done, Absent, BadUsage, Unread, Unwritten, Closed};
 
 use crate::ask::ask;
-use crate::build::build;
-use crate::combine::combine;
 use crate::command::{Command, reads_twice};
 use crate::diff::compare;
 use crate::error::CommandError;
+use crate::making::{Making, Recipe, make_file};
 use crate::messages::line::{NO_MEMORY, tell, twice_line};
 use crate::status::Status;
 use std::alloc::{AllocError, Global};
@@ -115,15 +114,26 @@ fn carry_out<'a, D: Disk, R: Read, W: Write + Drop, M: Write>(
     ensures quiet { IfOk result (λ _. tells_made command.entry ≡ false
         → (TellsNumber command.entry (R.remaining input.old.inner) (D.story files.old.disk) → ⊥)
         → messages.new ≡ messages.old) }
+    ensures once { files.new.opened ≤ files.old.opened + inputs command.entry }
     ensures noted { command_fails result ≡ false
         → NothingFailed input.old input.new output.old output.new files.old files.new }
     ensures unread { LeavesInputBy command.entry (refusal_of result) → input.new ≡ input.old }
 {
     match command {
-        Command::Build(plan) => match build(alloc, plan, files, input, output, messages) {
-            Ok(()) => Ok(true),
-            Err(error) => Err(CommandError::Build(plan, error)),
-        },
+        Command::Build(build) => {
+            let from = [build.from];
+            let making = Making {
+                from: &from,
+                recipe: Recipe::Pairs(build.plan),
+                to: build.to,
+                no_clobber: build.no_clobber,
+                summary: build.summary,
+            };
+            match make_file(alloc, making, files, input, output, messages) {
+                Ok(()) => Ok(true),
+                Err(error) => Err(CommandError::Build(build, error)),
+            }
+        }
         Command::Ask(file, question) => {
             match ask(alloc, file, question, files, input, output, messages) {
                 Ok(all) => Ok(all),
@@ -134,10 +144,19 @@ fn carry_out<'a, D: Disk, R: Read, W: Write + Drop, M: Write>(
             Ok(same) => Ok(same),
             Err(error) => Err(CommandError::Diff(diff, error)),
         },
-        Command::Combine(given) => match combine(alloc, given, files, input, output, messages) {
-            Ok(()) => Ok(true),
-            Err(error) => Err(CommandError::Combine(given, error)),
-        },
+        Command::Combine(combine) => {
+            let making = Making {
+                from: combine.from,
+                recipe: Recipe::Tries(combine.combination),
+                to: combine.to,
+                no_clobber: combine.no_clobber,
+                summary: combine.summary,
+            };
+            match make_file(alloc, making, files, input, output, messages) {
+                Ok(()) => Ok(true),
+                Err(error) => Err(CommandError::Combine(combine, error)),
+            }
+        }
     }
 }
 
@@ -151,7 +170,8 @@ fn carry_out<'a, D: Disk, R: Read, W: Write + Drop, M: Write>(
 /// `Closed` only if a replacement of a file or a write to the output did: in `Closed` if it failed
 /// because the reader has closed the pipe. If nothing failed, it ends by itself or in `OutOfMemory`.
 /// If one of these did, its number is 3 or 4: otherwise nothing failed that the files and streams
-/// note. A message that can't be written changes nothing.
+/// note. A message that can't be written changes nothing. It opens no more files to read than the command
+/// names.
 ///
 /// After success, or if a key is absent, no pair is listed or pairs differ, the buffer is flushed if it
 /// was empty before. The only messages are then what a build or a combination made, as its summary says,
@@ -179,6 +199,7 @@ pub fn run<D: Disk, R: Read, W: Write + Drop, M: Write>(
     ensures not_closed { result ≡ Unwritten → WasClosed output.new files.new → ⊥ }
     ensures failed { number_of result < 3
         → NothingFailed input.old input.new output.old output.new files.old files.new }
+    ensures once { files.new.opened ≤ files.old.opened + inputs command.entry }
     ensures handed { (result ≡ Done) ⊎ (result ≡ Absent)
         → HandsOn output.old.inner output.new.inner }
     ensures told { messages.new.failed ≡ false

@@ -8,11 +8,9 @@ use Rattle.zerotrie_core.specs.WellFormed.{IsWellFormed}
 use Rattle.zerotrie_core.specs.declared.TrieKind.{TrieKind}
 use Rattle.zerotrie_core.specs.declared.ZeroTrieBuildError.TheVariants.{CouldNotSolvePerfectHash}
 use Rattle.zerotrie_index.specs.declared.error.ZeroIndexBuildError.TheVariants.{Crowded}
-use Rattle.zerotrie_lines.specs.Laws.{BadIsUnread, LinesReadBack}
+use Rattle.zerotrie_lines.specs.Laws.{BadIsUnread, LinesReadBack, tsv_form}
 use Rattle.zerotrie_lines.specs.Lines.{tsv_line, tsv_lines}
 use Rattle.zerotrie_lines.specs.Numbers.{IsNumber}
-use Rattle.zerotrie_lines.specs.declared.reading.Format.TheVariants as format
-use Rattle.zerotrie_lines.specs.declared.reading.Header.TheVariants.{Absent}
 use Rattle.zerotrie_lines.specs.declared.reading.LineEnd.TheVariants.{CrLf}
 use Rattle.zerotrie_making.specs.Json.{WholeIsNumber, whole}
 use Rattle.zerotrie_making.specs.Laws.{ListedIsMadeAgain, RefusedMakesNoFile, UnreadMakesNoFile}
@@ -47,7 +45,7 @@ same_lines kind (e ∷ pairs) = ap (λ t. tsv_line e ++ t) (same_lines kind pair
 -- no error says that they are no pairs
 lines_are_pairs : LinesReadBack → BadIsUnread → (kind : TrieKind) (pairs : Pairs) (e : MakeError) → All (λ p. p.1 < 2 ^ 64) pairs → Explains (bare_plan kind) (tsv_lines pairs) e → SaysNoPairs e → ⊥
 lines_are_pairs back bad kind pairs (NotText other) small why says = no_other pairs other why
-lines_are_pairs back bad kind pairs (Line number fault) small why says = bad format.Tsv CrLf Absent (tsv_lines pairs) number fault pairs why (back CrLf pairs small)
+lines_are_pairs back bad kind pairs (Line number fault) small why says = bad (tsv_form CrLf) (tsv_lines pairs) number fault pairs why (back CrLf pairs small)
 lines_are_pairs back bad kind pairs (NotJson line column) small why says = why
 lines_are_pairs back bad kind pairs NotPairs small why says = why
 lines_are_pairs back bad kind pairs (NotPair bad_pair) small why says = why

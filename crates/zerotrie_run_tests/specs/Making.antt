@@ -4,9 +4,8 @@ use Rattle.zerotrie_core.specs.Kinds.{kind_of}
 use Rattle.zerotrie_core.specs.Maps.{Map, Pairs, map_of}
 use Rattle.zerotrie_core.specs.Texts.{Means}
 use Rattle.zerotrie_core.specs.declared.TrieKind.{TrieKind}
+use Rattle.zerotrie_lines.specs.Laws.{tsv_form}
 use Rattle.zerotrie_lines.specs.Reads.{Reads}
-use Rattle.zerotrie_lines.specs.declared.reading.Format.TheVariants.{Tsv}
-use Rattle.zerotrie_lines.specs.declared.reading.Header.TheVariants.{Absent}
 use Rattle.zerotrie_lines.specs.declared.reading.LineEnd.TheVariants.{CrLf}
 use Rattle.zerotrie_making.specs.Made.{IsFile}
 use Rattle.zerotrie_making.specs.declared.duplicates.Duplicates.TheVariants.{Refuse}
@@ -19,7 +18,7 @@ use Rattle.zerotrie_making.specs.declared.plan.Source.TheVariants.{Text}
 
 -- a trie of this kind of the pairs of lines, as bytes alone
 abbrev pub bare_plan : TrieKind → Plan
-bare_plan kind = record { read = record { source = Text Tsv CrLf Absent; lower_case = false; duplicates = Refuse }; file = record { kind = Some kind; sorted = false; form = Bare } }
+bare_plan kind = record { read = record { source = Text (tsv_form CrLf); lower_case = false; duplicates = Refuse }; file = record { kind = Some kind; sorted = false; form = Bare } }
 
 -- the second bytes of the kind mean the map that the first mean, if these mean one
 abbrev pub MeanSame : TrieKind → (first second : List ℕ) → Type 0
@@ -27,7 +26,7 @@ MeanSame kind first second = (m : Map) → Means (kind_of kind) first m → Mean
 
 -- the lines are pairs, and both bytes of the kind mean the map of these
 abbrev pub MeanPairsOf : (lines : List ℕ) → TrieKind → (first second : List ℕ) → Type 0
-MeanPairsOf lines kind first second = (pairs : Pairs) × Reads Tsv CrLf Absent lines pairs × Means (kind_of kind) first (map_of pairs) × Means (kind_of kind) second (map_of pairs)
+MeanPairsOf lines kind first second = (pairs : Pairs) × Reads (tsv_form CrLf) lines pairs × Means (kind_of kind) first (map_of pairs) × Means (kind_of kind) second (map_of pairs)
 
 -- the plan makes no file of the input
 abbrev pub MakesNone : Plan → List ℕ → Type 0

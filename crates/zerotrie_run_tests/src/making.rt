@@ -20,7 +20,7 @@ use std::ops::Bound;
 use zerotrie_core::{TrieKind, TrieRef};
 use zerotrie_files::Noted;
 use zerotrie_lines::laws::{bad_is_unread, lines_read_back};
-use zerotrie_lines::{Format, Header, LineEnd, parse_number};
+use zerotrie_lines::{TSV, parse_number};
 use zerotrie_making::laws::{
     listed_is_made_again, refused_makes_no_file, unread_makes_no_file, whole_is_number,
 };
@@ -31,12 +31,12 @@ use zerotrie_queries::{Choice, Form, ListQuery, Order, Style, write_list};
 use zerotrie_search::KeyRange;
 
 /// Returns how a trie of this kind is made of lines, as bytes alone.
-fn plan_of(kind: TrieKind) -> Plan
+fn plan_of(kind: TrieKind) -> Plan<'static>
     ensures { result ≡ bare_plan kind }
 {
     Plan {
         read: ReadPlan {
-            source: Source::Text(Format::Tsv, LineEnd::CrLf, Header::Absent),
+            source: Source::Text(TSV),
             lower_case: false,
             duplicates: Duplicates::Refuse,
         },
@@ -65,6 +65,7 @@ fn listing_of(alloc: Global, kind: TrieKind, bytes: &[u8]) -> Result<Vec<u8>, Ma
             sought: None,
         },
         order: Order::Stored,
+        top: None,
         limit: None,
     };
     let trie = TrieRef { kind, bytes };
@@ -100,11 +101,11 @@ pub fn makes_again(alloc: Global, kind: TrieKind, lines: Vec<u8>) -> Result<(Mad
 
 /// Makes a file of an input. If the error says something of the input, the plan makes no file of it, and
 /// if it says that it is no pairs, no plan does that reads it so.
-pub fn makes(alloc: Global, plan: Plan, input: Vec<u8>) -> Result<Made, MakeError>
-    ensures made { IfOk result (IsMade plan input.items) }
+pub fn makes(alloc: Global, plan: Plan<'_>, input: Vec<u8>) -> Result<Made, MakeError>
+    ensures made { IfOk result (IsMade plan.entry input.items) }
     ensures none { IfErr result (λ e. e ≢ OutOfMemory → e ≢ Refused CouldNotSolvePerfectHash
-        → e ≢ IndexRefused Crowded → MakesNone plan input.items) }
-    ensures unread { IfErr result (λ e. SaysNoPairs e → NoPlanMakes plan.read.source input.items) }
+        → e ≢ IndexRefused Crowded → MakesNone plan.entry input.items) }
+    ensures unread { IfErr result (λ e. SaysNoPairs e → NoPlanMakes plan.entry.read.source input.items) }
 {
     refused_makes_no_file();
     unread_makes_no_file();

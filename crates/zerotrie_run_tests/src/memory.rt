@@ -11,7 +11,7 @@ ghost use Rattle.zerotrie_run_tests.specs.Steps.{deeds_after, files_after, story
 use std::alloc::Global;
 use std::io;
 use std::io::ErrorKind;
-use zerotrie_files::{Disk, Found, Mode, replace_beside};
+use zerotrie_files::{Disk, Found, Mode, OpenFile, replace_beside};
 
 /// What a disk did.
 #[derive(Drop)]
@@ -126,6 +126,30 @@ impl MemoryDisk {
     }
 }
 
+/// An open file of a disk in memory: what it held when it was opened.
+#[derive(Drop)]
+pub struct MemoryFile(Vec<u8>);
+
+impl OpenFile for MemoryFile {
+    ghost held = { λ file. Some file.0.items };
+
+    ghost is_fault = { λ _. Unit {0} };
+
+    fn read_part(&self, place: u64, room: &mut [u8]) -> io::Result<()> {
+        let bytes = self.0.as_slice();
+        let (_, behind) = bytes.split_at(bytes.len().min(place as usize));
+        let Some((part, _)) = behind.split_at_checked(room.len()) else {
+            return Err(io::Error::from(ErrorKind::UnexpectedEof));
+        };
+        room.copy_from_slice(part);
+        Ok(())
+    }
+
+    fn read_all(self, _alloc: Global) -> io::Result<Vec<u8>> {
+        Ok(self.0)
+    }
+}
+
 impl Disk for MemoryDisk {
     ghost story = { λ disk. Some (story_of disk.steps.items disk.unremoved) };
 
@@ -142,23 +166,13 @@ impl Disk for MemoryDisk {
 
     ghost is_writable = { λ _ path. starts_with eqb path (codes "locked") ≡ false };
 
-    fn read(&self, path: &str) -> io::Result<Vec<u8>> {
+    type File = MemoryFile;
+
+    fn open(&mut self, path: &str) -> io::Result<MemoryFile> {
         match self.held(path) {
-            Some(bytes) => Ok(Vec::from_slice(self.alloc, bytes)?),
+            Some(bytes) => Ok(MemoryFile(Vec::from_slice(self.alloc, bytes)?)),
             None => Err(io::Error::from(ErrorKind::NotFound)),
         }
-    }
-
-    fn read_at(&self, path: &str, place: u64, room: &mut [u8]) -> io::Result<()> {
-        let Some(bytes) = self.held(path) else {
-            return Err(io::Error::from(ErrorKind::NotFound));
-        };
-        let (_, behind) = bytes.split_at(bytes.len().min(place as usize));
-        let Some((part, _)) = behind.split_at_checked(room.len()) else {
-            return Err(io::Error::from(ErrorKind::UnexpectedEof));
-        };
-        room.copy_from_slice(part);
-        Ok(())
     }
 
     fn find(&self, path: &str) -> io::Result<Found> {

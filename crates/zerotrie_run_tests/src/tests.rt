@@ -16,7 +16,7 @@ use std::process::Abort;
 use std::test::Fail;
 use zerotrie_core::TrieKind;
 use zerotrie_files::{Disk, Noted, Store};
-use zerotrie_lines::{Format, Header, LineEnd};
+use zerotrie_lines::{Format, Names, TSV, TextForm};
 use zerotrie_making::{Duplicates, FileForm, FilePlan, Plan, ReadPlan, Source};
 use zerotrie_queries::{
     Asked, Choice, Form, Language, ListQuery, Order, Query, ReportForm, Spelling, Style, View,
@@ -51,10 +51,16 @@ const TAGGED: FilePlan = FilePlan {
     form: FileForm::Tagged,
 };
 
+/// The names of a pair in lines of JSON.
+const PAIR: Names<'static> = Names {
+    key: "key",
+    value: "value",
+};
+
 /// The trie of any pairs.
-const PLAN: Plan = Plan {
+const PLAN: Plan<'static> = Plan {
     read: ReadPlan {
-        source: Source::Text(Format::Tsv, LineEnd::CrLf, Header::Absent),
+        source: Source::Text(TSV),
         lower_case: false,
         duplicates: Duplicates::Refuse,
     },
@@ -74,7 +80,7 @@ const BUILD: Build<'static> = Build {
 const OF_JSON_LINES: Build<'static> = Build {
     plan: Plan {
         read: ReadPlan {
-            source: Source::JsonLines,
+            source: Source::JsonLines(PAIR),
             ..READ
         },
         ..PLAN
@@ -128,6 +134,7 @@ const ALL: Choice<'static> = Choice {
 const LISTED: ListQuery<'static> = ListQuery {
     choice: ALL,
     order: Order::Stored,
+    top: None,
     limit: None,
 };
 
@@ -275,7 +282,7 @@ const SHOWN: [Row; 6] = [
     },
     Row {
         files: &[("names.trie", b"\x00a\x85")],
-        command: Command::Ask(FILE, Question::Report(ReportForm::Lines)),
+        command: Command::Ask(FILE, Question::Report(ReportForm::Lines, None)),
         status: Status::Done,
         printed: b"kind\tsimple\nbytes\t2\npairs\t1\ngreatest value\t5\nbytes a key\t2.00\n\
             depth\t0\nnodes\t2\nliterals\t1\nspans\t0\nbranches\t0\n",
@@ -292,7 +299,7 @@ const QUOTED_CSV: &[u8] = b"\"a,b\",3\n";
 const QUOTED_JSON: &[u8] = b"{\"a,b\":3}\n";
 
 /// How pairs are read of it, if the form is named.
-const READ: ReadPlan = ReadPlan {
+const READ: ReadPlan<'static> = ReadPlan {
     source: Source::Json,
     lower_case: false,
     duplicates: Duplicates::Refuse,
@@ -314,7 +321,10 @@ const MADE_AGAIN: [Row; 6] = [
         command: Command::Build(Build {
             plan: Plan {
                 read: ReadPlan {
-                    source: Source::Text(Format::Csv, LineEnd::CrLf, Header::Absent),
+                    source: Source::Text(TextForm {
+                        format: Format::Csv,
+                        ..TSV
+                    }),
                     ..READ
                 },
                 file: TAGGED,
@@ -375,7 +385,7 @@ const OF_BYTES_JSON: &[u8] = b"[[255,254],3]\n";
 const UNANSWERED: [Row; 6] = [
     Row {
         files: &[("names.trie", b"\x00a")],
-        command: Command::Ask(FILE, Question::Report(ReportForm::Lines)),
+        command: Command::Ask(FILE, Question::Report(ReportForm::Lines, None)),
         status: Status::BadInput,
         printed: b"",
         told: b"zerotrie: names.trie: no trie of kind simple: the bytes end where a key has to go on, at byte 1 of the trie in it\n",

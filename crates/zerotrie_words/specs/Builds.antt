@@ -4,6 +4,7 @@ use Rattle.zerotrie_core.specs.Kinds.{kind_name}
 use Rattle.zerotrie_core.specs.declared.TrieKind.{TrieKind}
 use Rattle.zerotrie_lines.specs.declared.reading.Header.{Header}
 use Rattle.zerotrie_lines.specs.declared.reading.LineEnd.{LineEnd}
+use Rattle.zerotrie_lines.specs.declared.reading.Names.{Names}
 use Rattle.zerotrie_making.specs.declared.plan.FileForm.{FileForm}
 use Rattle.zerotrie_making.specs.declared.plan.FileForm.TheVariants as made
 use Rattle.zerotrie_making.specs.declared.plan.Plan.{Plan}
@@ -16,7 +17,7 @@ use Rattle.zerotrie_sets.specs.declared.selection.Rule.TheVariants.{First, Last,
 use Rattle.zerotrie_sets.specs.declared.selection.Selection.{Selection}
 use Rattle.zerotrie_words.specs.Options.{text_of}
 use Rattle.zerotrie_words.specs.Refusals.{IsNoKind, IsUnknown, NamesNone}
-use Rattle.zerotrie_words.specs.Words.{AreTogether, IsEnd, IsFormat, IsKind, IsSource, IsSourceOf, IsTarget, MayHaveHeader, MayNameEnd, duplicates_word, end_word, form_by, format_word, has_header, summary_by}
+use Rattle.zerotrie_words.specs.Words.{AreNames, AreTogether, IsEnd, IsFormat, IsHeader, IsKind, IsSource, IsSourceOf, IsTarget, MayNameEnd, duplicates_word, end_word, form_by, format_word, summary_by}
 use Rattle.zerotrie_words.specs.declared.input.Input.{Input}
 use Rattle.zerotrie_words.specs.declared.input.Input.TheVariants as input
 use Rattle.zerotrie_words.specs.declared.misuse.Misuse.{Misuse}
@@ -31,10 +32,11 @@ pub record IsInput (o : BuildOptions) (source : Source) : Type 0 where
   pub end : LineEnd
   pub ended : IsEnd (text_of o.eol) end
   pub lines : MayNameEnd format (text_of o.eol)
+  pub names : Option Names
+  pub named_so : AreNames format (text_of o.key) (text_of o.value) names
   pub header : Header
-  pub headed : o.header ≡ has_header header
-  pub columns : MayHaveHeader format header
-  pub of : IsSourceOf format o.raw end header source
+  pub headed : IsHeader format o.header names header
+  pub of : IsSourceOf format o.raw end header names source
 
 -- a word is no end of lines, or the format has no lines
 abbrev pub IsEndMisuse : Input → Option (List ℕ) → Misuse → Type 0
@@ -43,6 +45,20 @@ IsEndMisuse input.JsonLines word why = (word ≢ None) × (why ≡ misuse.EndOfJ
 IsEndMisuse input.Tsv word why = IsUnknown (NamesNone end_word word) why
 IsEndMisuse input.Csv word why = IsUnknown (NamesNone end_word word) why
 IsEndMisuse input.Lines word why = IsUnknown (NamesNone end_word word) why
+
+-- only one name is given, or the format has no columns and no members
+abbrev pub HasNoNames : Input → Type 0
+HasNoNames input.Tsv = ⊥
+HasNoNames input.Csv = ⊥
+HasNoNames input.Lines = Unit {0}
+HasNoNames input.Json = Unit {0}
+HasNoNames input.JsonLines = ⊥
+
+abbrev pub IsNamesMisuse : Input → Option (List ℕ) → Option (List ℕ) → Misuse → Type 0
+IsNamesMisuse format None None why = ⊥
+IsNamesMisuse format (Some key) None why = why ≡ misuse.OneName
+IsNamesMisuse format None (Some value) why = why ≡ misuse.OneName
+IsNamesMisuse format (Some key) (Some value) why = HasNoNames format × (why ≡ misuse.NamesAreOfColumns)
 
 -- a format has no header
 abbrev pub HasNoHeader : Input → Type 0
@@ -70,7 +86,7 @@ IsRawMisuse format raw why = IsNeverRaw format × (raw ≡ true) × (why ≡ mis
 abbrev pub IsInputMisuse : BuildOptions → Misuse → Type 0
 IsInputMisuse o why = IsUnknown (NamesNone format_word (text_of o.format)) why
     ⊎ ((format : Input) × IsFormat (text_of o.format) (text_of o.input) format
-    × (IsEndMisuse format (text_of o.eol) why ⊎ (IsHeaderMisuse format o.header why ⊎ IsRawMisuse format o.raw why)))
+    × (IsEndMisuse format (text_of o.eol) why ⊎ (IsNamesMisuse format (text_of o.key) (text_of o.value) why ⊎ (IsHeaderMisuse format o.header why ⊎ IsRawMisuse format o.raw why))))
 
 -- a word says nothing of keys that come again
 abbrev pub IsNoChoice : Option (List ℕ) → Type 0

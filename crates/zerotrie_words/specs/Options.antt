@@ -30,6 +30,7 @@ pub record AreListOptions (matches : ArgMatches) (o : ListOptions) : Type 0 wher
   pub to : IsWord matches (codes "to") o.to
   pub format : IsWord matches (codes "format") o.format
   pub raw : IsGiven matches (codes "raw") o.raw
+  pub top : IsWord matches (codes "top") o.top
   pub limit : IsWord matches (codes "limit") o.limit
   pub count : IsGiven matches (codes "count") o.count
   pub quiet : IsGiven matches (codes "quiet") o.quiet
@@ -64,6 +65,8 @@ pub record AreBuildOptions (matches : ArgMatches) (o : BuildOptions) : Type 0 wh
   pub format : IsWord matches (codes "format") o.format
   pub raw : IsGiven matches (codes "raw") o.raw
   pub header : IsGiven matches (codes "header") o.header
+  pub key : IsWord matches (codes "key") o.key
+  pub value : IsWord matches (codes "value") o.value
   pub eol : IsWord matches (codes "eol") o.eol
   pub duplicates : IsWord matches (codes "duplicates") o.duplicates
   pub lower_case : IsGiven matches (codes "lower-case") o.lower_case

@@ -52,6 +52,9 @@ no_check = flag (codes "no-check") None
 abbrev pub escaped : Rule
 escaped = flag (codes "escaped") None
 
+abbrev pub greatest_first : Rule
+greatest_first = numbers_to 18446744073709551615 (option (codes "top") None)
+
 abbrev pub limit : Rule
 limit = numbers_to 18446744073709551615 (option (codes "limit") (letter (codes "n")))
 
@@ -66,6 +69,7 @@ listing more = option (codes "prefix") (letter (codes "p"))
     ∷ option (codes "to") None
     ∷ one_of outputs (option (codes "format") (letter (codes "f")))
     ∷ flag (codes "raw") (letter (codes "r"))
+    ∷ greatest_first
     ∷ limit
     ∷ flag (codes "count") (letter (codes "c"))
     ∷ (more ++ quiet ∷ bare_kind ∷ no_check ∷ [])
@@ -103,6 +107,8 @@ build = command (codes "build") (place (codes "IN")
     ∷ one_of inputs (option (codes "format") (letter (codes "f")))
     ∷ flag (codes "raw") (letter (codes "r"))
     ∷ flag (codes "header") None
+    ∷ option (codes "key") None
+    ∷ option (codes "value") None
     ∷ one_of (codes "crlf" ∷ codes "lf" ∷ []) (option (codes "eol") None)
     ∷ as_default (codes "refuse") (one_of choices (option (codes "duplicates") (letter (codes "d"))))
     ∷ flag (codes "lower-case") (letter (codes "l"))

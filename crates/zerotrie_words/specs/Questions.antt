@@ -2,6 +2,7 @@
 use Rattle.std.specs.Prelude.{◌≡◌, ◌≢◌, ◌⊎◌, ◌∷◌, [], ℕ, Bool, List, Option, Some, None, true, false, codes, eqb, unwrap_or}
 use Rattle.std.specs.Borrow.{Bor}
 use Rattle.std.specs.List.{starts_with}
+use Rattle.std.specs.Option.{option_map}
 use Rattle.clap.specs.declared.parser.matches.ArgMatches.{ArgMatches}
 use Rattle.zerotrie_queries.specs.code.Names.{is_name}
 use Rattle.zerotrie_queries.specs.code.Texts.{usual_name}
@@ -21,7 +22,7 @@ use Rattle.zerotrie_run.specs.declared.command.TrieFile.{TrieFile}
 use Rattle.zerotrie_words.specs.Options.{AreCodeOptions, AreListOptions, AreSearchOptions, IsGiven, text_of}
 use Rattle.zerotrie_words.specs.Refusals.{HasNoNumber, IsNoBorder, IsNoKind, IsUnknown}
 use Rattle.zerotrie_words.specs.Searches.{IsList, IsListMisuse, IsSearch, IsSearchMisuse}
-use Rattle.zerotrie_words.specs.Words.{AreKeysOf, HasNoHyphen, IsFile, IsFlag, IsFree, IsGet, IsLongest, IsReportForm, IsSpelling, IsView, flag_of, is_alone, language_word, word_of}
+use Rattle.zerotrie_words.specs.Words.{AreKeysOf, HasNoHyphen, IsFile, IsFree, IsGet, IsLongest, IsReportForm, IsSpelling, IsView, files_of, flag_of, is_alone, language_word, name_told, word_of}
 use Rattle.zerotrie_words.specs.declared.misuse.Misuse.{Misuse}
 use Rattle.zerotrie_words.specs.declared.misuse.Misuse.TheVariants as misuse
 use Rattle.zerotrie_words.specs.declared.options.CodeOptions.{CodeOptions}
@@ -35,10 +36,9 @@ abbrev pub AreKeysMisused : Option (List (List ℕ)) → Misuse → Type 0
 AreKeysMisused None why = why ≡ misuse.NoKeys
 AreKeysMisused (Some texts) why = (HasNoHyphen texts → ⊥) × (texts ≢ codes "-" ∷ []) × (why ≡ misuse.HyphenAmongKeys)
 
--- the words do not say what is asked of texts
+-- the words do not say what is asked of texts: that of `--at` is not one byte
 abbrev pub IsLongestMisuse : ArgMatches → Misuse → Type 0
-IsLongestMisuse matches why = (IsNoBorder (word_of matches (codes "at")) × (why ≡ misuse.NoBorder))
-    ⊎ (IsFlag (flag_of matches (codes "all")) true × (word_of matches (codes "at") ≢ None) × (why ≡ misuse.AllAndAt))
+IsLongestMisuse matches why = IsNoBorder (word_of matches (codes "at")) × (why ≡ misuse.NoBorder)
 
 -- the words are no view: a limit is no number, or is for a dump, or the view is neither
 abbrev pub IsViewMisuse : (view limit : Option (List ℕ)) → Misuse → Type 0
@@ -77,19 +77,20 @@ abbrev pub IsCodeMisuse : CodeOptions → Misuse → Type 0
 IsCodeMisuse o why = IsLanguageMisuse o why ⊎ ((language : Language) × (text_of o.lang ≡ Some (language_word language))
     × (((is_name (name_of o language) ≡ false) × (why ≡ misuse.BadName)) ⊎ IsTaken language (name_of o language) why))
 
--- what a trie is asked, by the words of a command
-abbrev pub IsQuestion : ArgMatches → Topic → Option (List (List ℕ)) → Question → Type 0
-IsQuestion matches topic.Get texts q = (query : Query) × (of : Keys) × IsGet (flag_of matches (codes "keys")) query.asked × IsSpelling (flag_of matches (codes "escaped")) query.spelling
+-- what the trie of the file with this number is asked, by the words of a command
+abbrev pub IsQuestion : ArgMatches → Topic → ℕ → Option (List (List ℕ)) → Question → Type 0
+IsQuestion matches topic.Get n texts q = (query : Query) × (of : Keys) × IsGet (flag_of matches (codes "keys")) query.asked × IsSpelling (flag_of matches (codes "escaped")) query.spelling
     × AreKeysOf texts of × (q ≡ question.LookUp query of)
-IsQuestion matches topic.Longest texts q = (query : Query) × (of : Keys) × IsLongest matches query.asked × IsSpelling (flag_of matches (codes "escaped")) query.spelling
+IsQuestion matches topic.Longest n texts q = (query : Query) × (of : Keys) × IsLongest matches query.asked × IsSpelling (flag_of matches (codes "escaped")) query.spelling
     × AreKeysOf texts of × (q ≡ question.LookUp query of)
-IsQuestion matches topic.Reverse texts q = (of : Keys) × AreKeysOf texts of × (q ≡ question.LookUp (record { asked = asked.KeyOf; spelling = spelling.Plain }) of)
-IsQuestion matches topic.List texts q = (o : ListOptions) × (sorted : Bool) × AreListOptions matches o × IsGiven matches (codes "sorted") sorted × IsList sorted o q
-IsQuestion matches topic.Search texts q = (o : SearchOptions) × AreSearchOptions matches o × IsSearch o q
-IsQuestion matches topic.Verify texts q = q ≡ question.Verify
-IsQuestion matches topic.Stats texts q = (form : ReportForm) × IsReportForm (word_of matches (codes "format")) form × (q ≡ question.Report form)
-IsQuestion matches topic.Inspect texts q = (view : View) × IsView (word_of matches (codes "VIEW")) (word_of matches (codes "limit")) view × (q ≡ question.View view)
-IsQuestion matches topic.Code texts q = (o : CodeOptions) × AreCodeOptions matches o × ((language : Language) × (name : Bor (List ℕ)) × IsCode o language name.now × (q ≡ question.Code language name))
+IsQuestion matches topic.Reverse n texts q = (of : Keys) × AreKeysOf texts of × (q ≡ question.LookUp (record { asked = asked.KeyOf; spelling = spelling.Plain }) of)
+IsQuestion matches topic.List n texts q = (o : ListOptions) × (sorted : Bool) × AreListOptions matches o × IsGiven matches (codes "sorted") sorted × IsList sorted o q
+IsQuestion matches topic.Search n texts q = (o : SearchOptions) × AreSearchOptions matches o × IsSearch o q
+IsQuestion matches topic.Verify n texts q = q ≡ question.Verify
+IsQuestion matches topic.Stats n texts q = (form : ReportForm) × (name : Option (Bor (List ℕ))) × IsReportForm (word_of matches (codes "format")) form × (option_map (λ w. w.now) name ≡ name_told (files_of matches) n)
+    × (q ≡ question.Report form name)
+IsQuestion matches topic.Inspect n texts q = (view : View) × IsView (word_of matches (codes "VIEW")) (word_of matches (codes "limit")) view × (q ≡ question.View view)
+IsQuestion matches topic.Code n texts q = (o : CodeOptions) × AreCodeOptions matches o × ((language : Language) × (name : Bor (List ℕ)) × IsCode o language name.now × (q ≡ question.Code language name))
 
 -- the words of a topic are no question
 abbrev pub IsQuestionMisuse : ArgMatches → Topic → Option (List (List ℕ)) → Misuse → Type 0
@@ -105,7 +106,7 @@ IsQuestionMisuse matches topic.Code texts why = (o : CodeOptions) × AreCodeOpti
 
 -- the command that asks it of the file with this number
 abbrev pub IsAsk : ArgMatches → Topic → ℕ → Option (List (List ℕ)) → Command → Type 0
-IsAsk matches about n texts command = (file : TrieFile) × (q : Question) × IsFile matches about n file × IsQuestion matches about texts q × (command ≡ Ask file q)
+IsAsk matches about n texts command = (file : TrieFile) × (q : Question) × IsFile matches about n file × IsQuestion matches about n texts q × (command ≡ Ask file q)
 
 abbrev pub IsAskMisuse : ArgMatches → Topic → Option (List (List ℕ)) → Misuse → Type 0
 IsAskMisuse matches about texts why = IsUnknown (IsNoKind (word_of matches (codes "bare-kind"))) why ⊎ IsQuestionMisuse matches about texts why

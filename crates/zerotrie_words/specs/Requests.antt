@@ -1,11 +1,8 @@
 -- The command that the words of a command line ask for.
-use Rattle.std.specs.Prelude.{◌≡◌, ◌≢◌, ℕ, List, [], Option, Some, None, Bool, false, codes, length, nat_lt, if◌then◌else◌}
+use Rattle.std.specs.Prelude.{◌≡◌, ◌≢◌, ℕ, List, [], Option, Some, None, Bool, false, codes, length}
 use Rattle.std.specs.Borrow.{Bor}
-use Rattle.std.specs.List.{AllZip, slice_get}
-use Rattle.std.specs.Option.{option_map}
+use Rattle.std.specs.List.{AllZip}
 use Rattle.clap.specs.declared.parser.matches.ArgMatches.{ArgMatches}
-use Rattle.zerotrie_queries.specs.declared.reports.ReportForm.{ReportForm}
-use Rattle.zerotrie_queries.specs.declared.reports.ReportForm.TheVariants as report
 use Rattle.zerotrie_run.specs.declared.command.Build.{Build}
 use Rattle.zerotrie_run.specs.declared.command.Combine.{Combine}
 use Rattle.zerotrie_run.specs.declared.command.Command.{Command}
@@ -18,7 +15,7 @@ use Rattle.zerotrie_words.specs.Diffs.{IsDiff}
 use Rattle.zerotrie_words.specs.Options.{AreBuildOptions, AreMakeOptions}
 use Rattle.zerotrie_words.specs.Questions.{IsAsk, IsAskMisuse}
 use Rattle.zerotrie_words.specs.Refusals.{IsNoKind, IsUnknown}
-use Rattle.zerotrie_words.specs.Words.{IsFlag, IsReportForm, IsSource, files_of, flag_of, given_words, word_of}
+use Rattle.zerotrie_words.specs.Words.{IsFlag, IsSource, files_of, flag_of, given_words, word_of}
 use Rattle.zerotrie_words.specs.declared.misuse.Misuse.{Misuse}
 use Rattle.zerotrie_words.specs.declared.options.BuildOptions.{BuildOptions}
 use Rattle.zerotrie_words.specs.declared.options.MakeOptions.{MakeOptions}
@@ -80,29 +77,6 @@ IsCommand matches texts places to_terminal n (task.Ask topic) c = IsAsk matches 
 IsCommand matches texts places to_terminal n task.Diff c = (diff : Diff) × IsDiff matches diff × (c ≡ command.Diff diff)
 IsCommand matches texts places to_terminal n (task.Combine selection) c = (o : MakeOptions) × AreMakeOptions matches o
     × ((of : Combine) × IsCombination o (word_of matches (codes "values")) selection places to_terminal of × (c ≡ command.Combine of))
-
--- the name in front of what is printed of one of several files, unless that is JSON
-abbrev pub heading : ReportForm → List (List ℕ) → ℕ → Option (List ℕ)
-heading report.Json files n = None
-heading report.Lines files n = if nat_lt 1 (length files) then slice_get files n else None
-
-abbrev pub IsReportHeading : ArgMatches → ℕ → Option (Bor (List ℕ)) → Type 0
-IsReportHeading matches n name = (form : ReportForm) × IsReportForm (word_of matches (codes "format")) form × (option_map (λ w. w.now) name ≡ heading form (files_of matches) n)
-
--- a task has it in front: a report has, and no other
-abbrev pub IsHeading : Task → ArgMatches → ℕ → Option (Bor (List ℕ)) → Type 0
-IsHeading task.Build matches n name = name ≡ None
-IsHeading (task.Ask topic.Get) matches n name = name ≡ None
-IsHeading (task.Ask topic.Longest) matches n name = name ≡ None
-IsHeading (task.Ask topic.Reverse) matches n name = name ≡ None
-IsHeading (task.Ask topic.List) matches n name = name ≡ None
-IsHeading (task.Ask topic.Search) matches n name = name ≡ None
-IsHeading (task.Ask topic.Verify) matches n name = name ≡ None
-IsHeading (task.Ask topic.Stats) matches n name = IsReportHeading matches n name
-IsHeading (task.Ask topic.Inspect) matches n name = name ≡ None
-IsHeading (task.Ask topic.Code) matches n name = name ≡ None
-IsHeading task.Diff matches n name = name ≡ None
-IsHeading (task.Combine selection) matches n name = name ≡ None
 
 -- whether nothing is printed of what a task finds: by the flag of a listing, a search or a comparison
 abbrev pub IsQuiet : Task → ArgMatches → Bool → Type 0

@@ -18,15 +18,19 @@ use Rattle.zerotrie_search.specs.declared.any.WordError.{WordError}
 use Rattle.zerotrie_search.specs.declared.range.KeyRange.{KeyRange}
 use Rattle.zerotrie_words.specs.Options.{text_of}
 use Rattle.zerotrie_words.specs.Refusals.{HasNoNumber, IsUnknown}
-use Rattle.zerotrie_words.specs.Words.{IsEdits, IsFormOf, IsFrom, IsLimit, IsRangeEnd, IsTsv, form_word, fuzzy_by, glob_by, most_of, order_by, search_order}
+use Rattle.zerotrie_words.specs.Words.{IsEdits, IsFormOf, IsFrom, IsLimit, IsRangeEnd, IsTsv, form_shown, form_word, fuzzy_by, glob_by, most_of, order_by, search_order}
 use Rattle.zerotrie_words.specs.declared.misuse.Misuse.{Misuse}
 use Rattle.zerotrie_words.specs.declared.misuse.Misuse.TheVariants as misuse
 use Rattle.zerotrie_words.specs.declared.options.ListOptions.{ListOptions}
 use Rattle.zerotrie_words.specs.declared.options.SearchOptions.{SearchOptions}
 
--- how pairs are printed
+-- how pairs are to be printed
+abbrev pub IsNamedForm : ListOptions → Form → Type 0
+IsNamedForm o form = IsFormOf o.count o.raw (text_of o.format) form
+
+-- and how they are: if none is to be printed, as their number
 abbrev pub IsListForm : ListOptions → Form → Type 0
-IsListForm o form = IsFormOf o.count o.raw (text_of o.format) form
+IsListForm o form = (named : Form) × IsNamedForm o named × (form ≡ form_shown o.quiet named)
 
 -- the options name no form: one is named, or `--raw`, of pairs that are only to be counted; `--raw` of another format than `tsv`; or the
 -- word is no form
@@ -41,6 +45,13 @@ IsMost o most = (limit : Option ℕ) × IsLimit (text_of o.limit) limit × (most
 
 abbrev pub IsLimitMisuse : Option (Bor (List ℕ)) → Misuse → Type 0
 IsLimitMisuse limit why = IsUnknown (HasNoNumber 64 (text_of limit)) why
+
+-- how many pairs of the greatest values are listed, if only these are; then there is no limit
+abbrev pub IsTop : ListOptions → Option ℕ → Type 0
+IsTop o top = IsLimit (text_of o.top) top × ((o.top ≡ None) ⊎ (o.limit ≡ None))
+
+abbrev pub IsTopMisuse : ListOptions → Misuse → Type 0
+IsTopMisuse o why = ((o.top ≢ None) × (o.limit ≢ None) × (why ≡ misuse.TopAndLimit)) ⊎ IsLimitMisuse o.top why
 
 -- what keys begin with, and the range that they are in
 abbrev pub IsFront : ListOptions → List ℕ → Type 0
@@ -69,6 +80,7 @@ pub record IsListing (o : ListOptions) (IsForm : Form → Type 0) (IsChoice : Ch
   pub format : IsForm form
   pub chosen : IsChoice s.choice
   pub ordered : s.order ≡ order
+  pub top : IsTop o s.top
   pub most : IsMost o s.limit
 
 -- what `list` asks for
@@ -76,7 +88,7 @@ abbrev pub IsList : (sorted : Bool) → ListOptions → Question → Type 0
 IsList sorted o q = (form : Form) × (s : ListQuery) × IsListing o (IsListForm o) (IsListed o) (order_by o.count sorted) form s × (q ≡ question.List form s)
 
 abbrev pub IsListMisuse : ListOptions → Misuse → Type 0
-IsListMisuse o why = IsFormMisuse o why ⊎ (IsRangeMisuse o why ⊎ IsLimitMisuse o.limit why)
+IsListMisuse o why = IsFormMisuse o why ⊎ (IsRangeMisuse o why ⊎ (IsTopMisuse o why ⊎ IsLimitMisuse o.limit why))
 
 -- ---- the word of a search
 
@@ -175,4 +187,4 @@ abbrev pub IsSearch : SearchOptions → Question → Type 0
 IsSearch o q = (form : Form) × (s : ListQuery) × IsListing o.list (IsSearchFormBy o.distance o) (IsSought o) (search_order o.fuzzy o.edits o.list.count) form s × (q ≡ question.List form s)
 
 abbrev pub IsSearchMisuse : SearchOptions → Misuse → Type 0
-IsSearchMisuse o why = IsSearchFormMisuse o.distance o why ⊎ (IsChoiceMisuse o why ⊎ IsLimitMisuse o.list.limit why)
+IsSearchMisuse o why = IsSearchFormMisuse o.distance o why ⊎ (IsChoiceMisuse o why ⊎ (IsTopMisuse o.list why ⊎ IsLimitMisuse o.list.limit why))

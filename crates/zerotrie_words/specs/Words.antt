@@ -1,5 +1,5 @@
 -- The words of a command line, and what they ask for.
-use Rattle.std.specs.Prelude.{◌≡◌, ◌≢◌, ◌⊎◌, ℕ, ◌-◌, List, [], ◌∷◌, Option, Some, None, Bool, true, false, Vec, codes, drop, eqb, length, map, min, unwrap_or}
+use Rattle.std.specs.Prelude.{◌≡◌, ◌≢◌, ◌⊎◌, ℕ, ◌-◌, List, [], ◌∷◌, Option, Some, None, Bool, true, false, Vec, codes, drop, eqb, length, map, min, nat_lt, unwrap_or, if◌then◌else◌}
 use Rattle.std.specs.Char.{to_ascii_lowercase}
 use Rattle.std.specs.Global.{Global}
 use Rattle.std.specs.Borrow.{Bor}
@@ -18,8 +18,9 @@ use Rattle.zerotrie_core.specs.Kinds.{kind_name}
 use Rattle.zerotrie_core.specs.declared.TrieKind.{TrieKind}
 use Rattle.zerotrie_lines.specs.declared.reading.Format.TheVariants.{Tsv, TsvRaw, Csv, Lines}
 use Rattle.zerotrie_lines.specs.declared.reading.Header.{Header}
-use Rattle.zerotrie_lines.specs.declared.reading.Header.TheVariants.{Absent, Present}
+use Rattle.zerotrie_lines.specs.declared.reading.Header.TheVariants.{Absent, Present, Named}
 use Rattle.zerotrie_lines.specs.declared.reading.LineEnd.{LineEnd}
+use Rattle.zerotrie_lines.specs.declared.reading.Names.{Names}
 use Rattle.zerotrie_lines.specs.declared.reading.LineEnd.TheVariants.{CrLf, Lf}
 use Rattle.zerotrie_queries.specs.declared.code.Language.{Language}
 use Rattle.zerotrie_queries.specs.declared.code.Language.TheVariants as lang
@@ -119,27 +120,49 @@ MayNameEnd input.Lines word = Unit {0}
 MayNameEnd input.Json word = word ≡ None
 MayNameEnd input.JsonLines word = word ≡ None
 
--- whether a header is in front, by its flag
-abbrev pub has_header : Header → Bool
-has_header Absent = false
-has_header Present = true
+-- a format may have names: of columns, or of members
+abbrev pub MayHaveNames : Input → Option Names → Type 0
+MayHaveNames input.Tsv names = Unit {0}
+MayHaveNames input.Csv names = Unit {0}
+MayHaveNames input.Lines names = names ≡ None
+MayHaveNames input.Json names = names ≡ None
+MayHaveNames input.JsonLines names = Unit {0}
 
--- a format may have a header: `tsv` and `csv`, whose pairs are columns
-abbrev pub MayHaveHeader : Input → Header → Type 0
-MayHaveHeader input.Tsv header = Unit {0}
-MayHaveHeader input.Csv header = Unit {0}
-MayHaveHeader input.Lines header = header ≡ Absent
-MayHaveHeader input.Json header = header ≡ Absent
-MayHaveHeader input.JsonLines header = header ≡ Absent
+-- the names by two words, or none without them
+abbrev pub AreNames : Input → Option (List ℕ) → Option (List ℕ) → Option Names → Type 0
+AreNames format key value None = (key ≡ None) × (value ≡ None)
+AreNames format key value (Some names) = (key ≡ Some names.key.now) × (value ≡ Some names.value.now) × MayHaveNames format (Some names)
+
+-- the header of columns, by its flag and by their names
+abbrev pub header_by : Bool → Option Names → Header
+header_by flag (Some names) = Named names
+header_by true None = Present
+header_by false None = Absent
+
+-- the header of an input: only `tsv` and `csv` have columns
+abbrev pub IsHeader : Input → Bool → Option Names → Header → Type 0
+IsHeader input.Tsv flag names header = header ≡ header_by flag names
+IsHeader input.Csv flag names header = header ≡ header_by flag names
+IsHeader input.Lines flag names header = (flag ≡ false) × (header ≡ Absent)
+IsHeader input.Json flag names header = (flag ≡ false) × (header ≡ Absent)
+IsHeader input.JsonLines flag names header = (flag ≡ false) × (header ≡ Absent)
+
+-- the members of a pair in a line of JSON: those with these names, or else `key` and `value`
+abbrev pub AreMembers : Option Names → Names → Type 0
+AreMembers (Some names) members = members ≡ names
+AreMembers None members = (members.key.now ≡ codes "key") × (members.value.now ≡ codes "value")
+
+abbrev pub IsOfMembers : Option Names → Source → Type 0
+IsOfMembers names source = (members : Names) × AreMembers names members × (source ≡ JsonLines members)
 
 -- an input of a format is such pairs, by whether it is raw: only `tsv` is
-abbrev pub IsSourceOf : Input → Bool → LineEnd → Header → Source → Type 0
-IsSourceOf input.Tsv true end header source = source ≡ Text TsvRaw end header
-IsSourceOf input.Tsv false end header source = source ≡ Text Tsv end header
-IsSourceOf input.Csv raw end header source = (raw ≡ false) × (source ≡ Text Csv end header)
-IsSourceOf input.Lines raw end header source = (raw ≡ false) × (source ≡ Text Lines end header)
-IsSourceOf input.Json raw end header source = (raw ≡ false) × (source ≡ Json)
-IsSourceOf input.JsonLines raw end header source = (raw ≡ false) × (source ≡ JsonLines)
+abbrev pub IsSourceOf : Input → Bool → LineEnd → Header → Option Names → Source → Type 0
+IsSourceOf input.Tsv true end header names source = source ≡ Text (record { format = TsvRaw; end = end; header = header })
+IsSourceOf input.Tsv false end header names source = source ≡ Text (record { format = Tsv; end = end; header = header })
+IsSourceOf input.Csv raw end header names source = (raw ≡ false) × (source ≡ Text (record { format = Csv; end = end; header = header }))
+IsSourceOf input.Lines raw end header names source = (raw ≡ false) × (source ≡ Text (record { format = Lines; end = end; header = header }))
+IsSourceOf input.Json raw end header names source = (raw ≡ false) × (source ≡ Json)
+IsSourceOf input.JsonLines raw end header names source = (raw ≡ false) × IsOfMembers names source
 
 -- what becomes of a key that comes again, by its word
 abbrev pub duplicates_word : Duplicates → List ℕ
@@ -192,6 +215,11 @@ IsFormOf false true word f = IsTsv word × (f ≡ form.Lines style.TsvRaw)
 IsFormOf false false None f = f ≡ form.Lines style.Tsv
 IsFormOf false false (Some word) f = Some word ≡ form_word f
 
+-- how pairs are printed: if none is to be, as their number, which any key allows
+abbrev pub form_shown : (quiet : Bool) → Form → Form
+form_shown true named = form.Count
+form_shown false named = named
+
 -- the order of a list: that of the bytes by a flag, but not if it is only to be counted
 abbrev pub order_by : Bool → Bool → Order
 order_by true sorted = order.Stored
@@ -233,10 +261,9 @@ IsBorder word (Some byte) = word ≡ Some (byte ∷ [])
 
 -- what is asked of texts: the longest key, at a byte or anywhere, or all of them
 abbrev pub IsLongestOf : Bool → Option ℕ → Asked → Type 0
+IsLongestOf true border a = a ≡ asked.Prefixes border
 IsLongestOf false None a = a ≡ asked.Longest
-IsLongestOf true None a = a ≡ asked.Prefixes
 IsLongestOf false (Some byte) a = a ≡ asked.LongestAt byte
-IsLongestOf true (Some byte) a = ⊥
 
 abbrev pub IsLongest : ArgMatches → Asked → Type 0
 IsLongest matches a = (all : Bool) × (border : Option ℕ) × IsFlag (flag_of matches (codes "all")) all × IsBorder (word_of matches (codes "at")) border × IsLongestOf all border a
@@ -371,6 +398,10 @@ IsCheck topic.Code word by = IsChecked word by
 -- the words of files that are asked one after the other
 abbrev pub files_of : ArgMatches → List (List ℕ)
 files_of matches = unwrap_or (words_of matches (codes "FILE")) []
+
+-- the name of the file with this number, if a report has to say it: of several files
+abbrev pub name_told : List (List ℕ) → ℕ → Option (List ℕ)
+name_told files n = if nat_lt 1 (length files) then slice_get files n else None
 
 -- the word of the file with this number that a topic is asked of: `verify` and `stats` have several
 abbrev pub file_word : ArgMatches → Topic → ℕ → Option (List ℕ)

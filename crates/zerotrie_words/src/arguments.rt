@@ -10,6 +10,7 @@ use clap::{Arg, ArgAction, Command};
 use std::alloc::{AllocError, Global};
 
 /// What holds if an option is left out.
+#[derive(Clone, Copy)]
 pub enum Otherwise {
     /// The words are no command.
     Refused,
@@ -52,6 +53,9 @@ pub struct Subcommand {
     pub help: &'static str,
     pub arguments: &'static [Argument],
 }
+
+/// Rows of commands, in parts.
+pub type Rows<'a> = &'a [&'static [Subcommand]];
 
 /// Returns an option with what holds if it is left out.
 fn or_otherwise<'a>(option: Arg<'a>, otherwise: &Otherwise) -> Arg<'a>
@@ -150,7 +154,7 @@ fn with_commands<'a>(
 }
 
 /// Returns what the command line may be, by rows of commands.
-pub fn program<'a>(alloc: Global, rows: &[&'static [Subcommand]]) -> Result<Command<'a>, AllocError>
+pub fn program<'a>(alloc: Global, rows: Rows<'_>) -> Result<Command<'a>, AllocError>
     ensures { IfOk result (λ program.
         app_of program ≡ program_by (map (λ part. part.now) rows.now)) }
 {

@@ -3,19 +3,25 @@
 ghost use Rattle.std.specs.Prelude.{◌≡◌, Some, true, IfErr, IfNone, IfOk, IfSome};
 ghost use Rattle.zerotrie_lines.specs.declared.reading.LineEnd.{LineEnd};
 ghost use Rattle.zerotrie_making.specs.declared.duplicates.Duplicates.{Duplicates};
-ghost use Rattle.zerotrie_words.specs.Builds.{IsBuild, IsBuildMisuse, IsContentMisuse, IsEndMisuse, IsFileMisuse, IsForm, IsHeaderMisuse, IsInput, IsInputMisuse, IsNoChoice, IsPlan, IsPlanMisuse, IsSummaryMisuse};
+ghost use Rattle.zerotrie_words.specs.Builds.{IsBuild, IsBuildMisuse, IsContentMisuse, IsEndMisuse, IsFileMisuse, IsForm, IsHeaderMisuse, IsInput, IsInputMisuse, IsNamesMisuse, IsNoChoice, IsPlan, IsPlanMisuse, IsSummaryMisuse};
 ghost use Rattle.zerotrie_words.specs.Options.{text_of};
 ghost use Rattle.zerotrie_words.specs.Refusals.{IsUnknown, NamesNone};
-ghost use Rattle.zerotrie_words.specs.Words.{AreTogether, IsEnd, IsFormat, IsKind, IsTarget, MayHaveHeader, MayNameEnd, duplicates_word, end_word, format_word, has_header, summary_by};
+ghost use Rattle.zerotrie_words.specs.Words.{AreNames, AreTogether, IsEnd, IsFormat, IsHeader, IsKind, IsTarget, MayNameEnd, duplicates_word, end_word, format_word, summary_by};
 
 use crate::input::Input;
 use crate::misuse::Misuse;
 use crate::names::{kind_of, place_of, source_of};
 use crate::options::{BuildOptions, MakeOptions};
 use zerotrie_core::TrieKind;
-use zerotrie_lines::{Format, Header, LineEnd};
+use zerotrie_lines::{Format, Header, LineEnd, Names, TextForm};
 use zerotrie_making::{Duplicates, FileForm, FilePlan, Plan, ReadPlan, Source};
 use zerotrie_run::{Build, Place, Summary};
+
+/// The members of a pair in a line of JSON, if none are named.
+const MEMBERS: Names<'static> = Names {
+    key: "key",
+    value: "value",
+};
 
 /// Returns the line end with this name, or `None` if no line end has it.
 fn end_named(name: &str) -> Option<LineEnd>
@@ -136,38 +142,63 @@ impl<'a> BuildOptions<'a> {
         }
     }
 
-    /// Returns whether a header is in front of an input of this format.
-    fn header(&self, input: Input) -> Result<Header, Misuse>
-        ensures header { IfOk result (λ header. self.now.header ≡ has_header header) }
-        ensures columns { IfOk result (MayHaveHeader input) }
+    /// Returns the names of the columns or members of the pairs, if they are given.
+    fn names(&self, input: Input) -> Result<Option<Names<'a>>, Misuse>
+        ensures names { IfOk result
+            (AreNames input (text_of self.now.key) (text_of self.now.value)) }
+        ensures refused { IfErr result
+            (IsNamesMisuse input (text_of self.now.key) (text_of self.now.value)) }
+    {
+        match (self.key, self.value, input) {
+            (None, None, _) => Ok(None),
+            (Some(_), None, _) | (None, Some(_), _) => Err(Misuse::OneName),
+            (Some(key), Some(value), Input::Tsv | Input::Csv | Input::JsonLines) => {
+                Ok(Some(Names { key, value }))
+            }
+            (Some(_), Some(_), Input::Lines | Input::Json) => Err(Misuse::NamesAreOfColumns),
+        }
+    }
+
+    /// Returns whether a header is in front of an input of this format. Named columns have one.
+    fn header(&self, input: Input, names: Option<Names<'a>>) -> Result<Header<'a>, Misuse>
+        ensures header { IfOk result (IsHeader input self.now.header names.entry) }
         ensures refused { IfErr result (IsHeaderMisuse input self.now.header) }
     {
-        match (self.header, input) {
-            (false, _) => Ok(Header::Absent),
-            (true, Input::Tsv | Input::Csv) => Ok(Header::Present),
-            (true, Input::Lines | Input::Json | Input::JsonLines) => Err(Misuse::HeaderIsOfColumns),
+        match (input, self.header, names) {
+            (Input::Tsv | Input::Csv, _, Some(names)) => Ok(Header::Named(names)),
+            (Input::Tsv | Input::Csv, true, None) => Ok(Header::Present),
+            (_, false, _) => Ok(Header::Absent),
+            (Input::Lines | Input::Json | Input::JsonLines, true, _) => {
+                Err(Misuse::HeaderIsOfColumns)
+            }
         }
     }
 
     /// Returns how the input is pairs. Only `tsv` is raw.
-    fn source(&self) -> Result<Source, Misuse>
+    fn source(&self) -> Result<Source<'a>, Misuse>
         ensures input { IfOk result (IsInput self.now) }
         ensures refused { IfErr result (IsInputMisuse self.now) }
     {
         let input = self.format()?;
         let end = self.end(input)?;
-        let header = self.header(input)?;
-        match (input, self.raw) {
-            (Input::Tsv, true) => Ok(Source::Text(Format::TsvRaw, end, header)),
-            (Input::Tsv, false) => Ok(Source::Text(Format::Tsv, end, header)),
-            (Input::Csv, false) => Ok(Source::Text(Format::Csv, end, header)),
-            (Input::Lines, false) => Ok(Source::Text(Format::Lines, end, header)),
-            (Input::Json, false) => Ok(Source::Json),
-            (Input::JsonLines, false) => Ok(Source::JsonLines),
-            (Input::Csv | Input::Lines | Input::Json | Input::JsonLines, true) => Err(
-                Misuse::RawIsTsv,
-            ),
-        }
+        let names = self.names(input)?;
+        let header = self.header(input, names)?;
+        let format = match (input, self.raw) {
+            (Input::Tsv, true) => Format::TsvRaw,
+            (Input::Tsv, false) => Format::Tsv,
+            (Input::Csv, false) => Format::Csv,
+            (Input::Lines, false) => Format::Lines,
+            (Input::Json, false) => return Ok(Source::Json),
+            (Input::JsonLines, false) => return Ok(Source::JsonLines(names.unwrap_or(MEMBERS))),
+            (Input::Csv | Input::Lines | Input::Json | Input::JsonLines, true) => {
+                return Err(Misuse::RawIsTsv);
+            }
+        };
+        Ok(Source::Text(TextForm {
+            format,
+            end,
+            header,
+        }))
     }
 
     /// Returns what becomes of a key that comes again.
@@ -183,7 +214,7 @@ impl<'a> BuildOptions<'a> {
     }
 
     /// Returns how the file is to be made.
-    fn plan(&self) -> Result<Plan, Misuse>
+    fn plan(&self) -> Result<Plan<'a>, Misuse>
         ensures plan { IfOk result (IsPlan self.now) }
         ensures refused { IfErr result (IsPlanMisuse self.now) }
     {

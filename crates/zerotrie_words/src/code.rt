@@ -14,67 +14,18 @@ use zerotrie_queries::{Language, is_name};
 use zerotrie_run::Question;
 
 /// The words of Rust that name nothing. Rattle has them too.
-const KEYWORDS: &[&str] = &[
-    "_", "abstract", "as", "async", "await", "become", "box", "break", "const", "continue",
-    "crate", "do", "dyn", "else", "enum", "extern", "false", "final", "fn", "for", "gen", "if",
-    "impl", "in", "let", "loop", "macro", "match", "mod", "move", "mut", "override", "priv", "pub",
-    "ref", "return", "self", "Self", "static", "struct", "super", "trait", "true", "try", "type",
-    "typeof", "unsafe", "unsized", "use", "virtual", "where", "while", "yield",
-];
+const KEYWORDS: &str =
+    "_ abstract as async await become box break const continue crate do dyn else enum extern false \
+    final fn for gen if impl in let loop macro match mod move mut override priv pub ref return \
+    self Self static struct super trait true try type typeof unsafe unsized use virtual where \
+    while yield";
 
 /// The words of JavaScript that name no constant of a module, and the names that its code uses.
-const JS_KEYWORDS: &[&str] = &[
-    "arguments",
-    "await",
-    "break",
-    "case",
-    "catch",
-    "class",
-    "const",
-    "continue",
-    "debugger",
-    "default",
-    "delete",
-    "do",
-    "else",
-    "enum",
-    "eval",
-    "export",
-    "extends",
-    "false",
-    "finally",
-    "for",
-    "function",
-    "if",
-    "implements",
-    "import",
-    "in",
-    "instanceof",
-    "interface",
-    "let",
-    "new",
-    "null",
-    "package",
-    "private",
-    "protected",
-    "public",
-    "return",
-    "static",
-    "super",
-    "switch",
-    "this",
-    "throw",
-    "true",
-    "try",
-    "typeof",
-    "var",
-    "void",
-    "while",
-    "with",
-    "yield",
-    "Uint8Array",
-    "ZeroTrie",
-];
+const JS_KEYWORDS: &str =
+    "arguments await break case catch class const continue debugger default delete do else enum \
+    eval export extends false finally for function if implements import in instanceof interface \
+    let new null package private protected public return static super switch this throw true try \
+    typeof var void while with yield Uint8Array ZeroTrie";
 
 /// Returns why a name can't be taken, if so: it is a keyword of the language, or in C it begins with
 /// `zerotrie`, as names made from it could then be those of `zerotrie.h`.
@@ -83,10 +34,10 @@ fn taken(language: Language, name: &str) -> Option<Misuse>
     ensures none { IfNone result (IsFree language name.now) }
 {
     match language {
-        Language::Rust | Language::Rattle if KEYWORDS.iter().any(|word| *word == name) => {
+        Language::Rust | Language::Rattle if KEYWORDS.split(' ').any(|it| it == name) => {
             Some(Misuse::NameIsKeyword)
         }
-        Language::JavaScript if JS_KEYWORDS.iter().any(|word| *word == name) => {
+        Language::JavaScript if JS_KEYWORDS.split(' ').any(|it| it == name) => {
             Some(Misuse::NameIsKeyword)
         }
         Language::C | Language::CAlone if name.starts_with("zerotrie") => {

@@ -20,6 +20,7 @@ mod question;
 mod reply;
 mod request;
 mod search;
+mod shown;
 mod table;
 mod task;
 

@@ -3,8 +3,8 @@
 ghost use Rattle.std.specs.Prelude.{◌≡◌, Some, IfErr, IfNone, IfOk, IfSome};
 ghost use Rattle.zerotrie_queries.specs.declared.print.Form.{Form};
 ghost use Rattle.zerotrie_words.specs.Options.{text_of};
-ghost use Rattle.zerotrie_words.specs.Searches.{IsFormMisuse, IsFront, IsLimitMisuse, IsList, IsListForm, IsListMisuse, IsListed, IsMost, IsRange, IsRangeMisuse};
-ghost use Rattle.zerotrie_words.specs.Words.{IsLimit, form_word, most_of, order_by};
+ghost use Rattle.zerotrie_words.specs.Searches.{IsFormMisuse, IsFront, IsLimitMisuse, IsList, IsListForm, IsListMisuse, IsListed, IsMost, IsNamedForm, IsRange, IsRangeMisuse, IsTop, IsTopMisuse};
+ghost use Rattle.zerotrie_words.specs.Words.{IsLimit, form_shown, form_word, most_of, order_by};
 
 use crate::misuse::Misuse;
 use crate::options::ListOptions;
@@ -27,6 +27,13 @@ fn form_named(name: &str) -> Option<Form>
         "json" => Some(Form::Json),
         _ => None,
     }
+}
+
+/// Returns how pairs are printed that are to be printed so: if none is to be, as their number.
+fn form_shown(quiet: bool, named: Form) -> Form
+    ensures { result ≡ form_shown quiet named }
+{
+    if quiet { Form::Count } else { named }
 }
 
 /// Returns the order of pairs by flags. What is only to be counted needs none.
@@ -67,8 +74,8 @@ fn most_of(quiet: bool, limit: Option<usize>) -> Option<usize>
 
 impl<'a> ListOptions<'a> {
     /// Returns how pairs are to be printed.
-    pub fn form(&self) -> Result<Form, Misuse>
-        ensures form { IfOk result (IsListForm self.now) }
+    fn named_form(&self) -> Result<Form, Misuse>
+        ensures form { IfOk result (IsNamedForm self.now) }
         ensures refused { IfErr result (IsFormMisuse self.now) }
     {
         match (self.count, self.raw, self.format) {
@@ -78,6 +85,28 @@ impl<'a> ListOptions<'a> {
             (false, true, Some(_)) => Err(Misuse::RawIsTsv),
             (false, false, None) => Ok(Form::Lines(Style::Tsv)),
             (false, false, Some(name)) => form_named(name).ok_or(Misuse::UnknownWord),
+        }
+    }
+
+    /// Returns how pairs are printed: if none is to be, as their number, which any key allows.
+    pub fn form(&self) -> Result<Form, Misuse>
+        ensures form { IfOk result (IsListForm self.now) }
+        ensures refused { IfErr result (IsFormMisuse self.now) }
+    {
+        let named = self.named_form()?;
+        Ok(form_shown(self.quiet, named))
+    }
+
+    /// Returns how many pairs of the greatest values are listed, if only these are. It is an error if there is
+    /// a limit, too.
+    pub fn top(&self) -> Result<Option<usize>, Misuse>
+        ensures top { IfOk result (IsTop self.now) }
+        ensures refused { IfErr result (IsTopMisuse self.now) }
+    {
+        match (self.top, self.limit) {
+            (None, _) => Ok(None),
+            (Some(_), None) => limit_of(self.top),
+            (Some(_), Some(_)) => Err(Misuse::TopAndLimit),
         }
     }
 
@@ -137,6 +166,7 @@ impl<'a> ListOptions<'a> {
         let query = ListQuery {
             choice: self.choice()?,
             order: order_by(self.count, sorted),
+            top: self.top()?,
             limit: self.most()?,
         };
         Ok(Question::List(form, query))

@@ -17,10 +17,7 @@ pub fn kind_of(word: Option<&str>) -> Result<Option<TrieKind>, Misuse>
 {
     match word {
         None | Some("auto") => Ok(None),
-        Some(word) => match TrieKind::named(word) {
-            Some(kind) => Ok(Some(kind)),
-            None => Err(Misuse::UnknownWord),
-        },
+        Some(word) => Ok(Some(TrieKind::named(word).ok_or(Misuse::UnknownWord)?)),
     }
 }
 

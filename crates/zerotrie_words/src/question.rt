@@ -4,10 +4,8 @@ ghost use Rattle.std.specs.Prelude.{◌≡◌, IfErr, IfOk, codes, length};
 ghost use Rattle.std.specs.List.{slice_get};
 ghost use Rattle.std.specs.Option.{option_map};
 ghost use Rattle.zerotrie_words.specs.Questions.{IsAsk, IsAskMisuse, IsLongestMisuse, IsQuestion, IsQuestionMisuse, IsViewMisuse};
-ghost use Rattle.zerotrie_words.specs.Refusals.{IsNoBorder, IsNoKind, IsUnknown};
-ghost use Rattle.zerotrie_words.specs.Requests.{IsReportHeading};
-ghost use Rattle.zerotrie_words.specs.declared.misuse.Misuse.TheVariants as misuse;
-ghost use Rattle.zerotrie_words.specs.Words.{IsBorder, IsCheck, IsFile, IsGet, IsLongest, IsReportForm, IsSource, IsSpelling, IsView, file_word, files_of, flag_of, texts_of, word_of};
+ghost use Rattle.zerotrie_words.specs.Refusals.{IsNoKind, IsUnknown};
+ghost use Rattle.zerotrie_words.specs.Words.{IsBorder, IsCheck, IsFile, IsGet, IsLongest, IsReportForm, IsSource, IsSpelling, IsView, file_word, files_of, flag_of, name_told, texts_of, word_of};
 
 use crate::keys::keys_of;
 use crate::listing::limit_of;
@@ -64,14 +62,14 @@ fn nth_file<'a>(matches: &ArgMatches<'a>, number: usize) -> Option<&'a str>
     files.get(number).copied()
 }
 
-/// Returns the name of the file with this number, if it has to be in front of a report on it: of
-/// several files, unless the report is JSON.
-pub fn heading_in<'a>(matches: &ArgMatches<'a>, number: usize) -> Option<&'a str>
-    ensures { IsReportHeading matches.now number result }
+/// Returns the name of the file with this number, if a report has to say it: of several files.
+fn name_told<'a>(matches: &ArgMatches<'a>, number: usize) -> Option<&'a str>
+    ensures { option_map (λ w. w.now) result ≡ name_told (files_of matches.now) number }
 {
-    match report_in(matches) {
-        ReportForm::Lines if file_count(matches) > 1 => nth_file(matches, number),
-        ReportForm::Lines | ReportForm::Json => None,
+    if file_count(matches) > 1 {
+        nth_file(matches, number)
+    } else {
+        None
     }
 }
 
@@ -128,8 +126,7 @@ fn view_in(matches: &ArgMatches<'_>) -> Result<View, Misuse>
 /// the message, if the word is not one byte.
 fn border_in(matches: &ArgMatches<'_>) -> Result<Option<u8>, Misuse>
     ensures border { IfOk result (IsBorder (word_of matches.now (codes "at"))) }
-    ensures refused { IfErr result (λ why. IsNoBorder (word_of matches.now (codes "at"))
-        × (why ≡ misuse.NoBorder)) }
+    ensures refused { IfErr result (IsLongestMisuse matches.now) }
 {
     let Some(word) = matches.get_str("at") else {
         return Ok(None);
@@ -140,16 +137,15 @@ fn border_in(matches: &ArgMatches<'_>) -> Result<Option<u8>, Misuse>
     }
 }
 
-/// Returns what is asked of texts. It is an error if options exclude each other.
+/// Returns what is asked of texts. It is an error if the word of `--at` is not one byte.
 fn longest_in(matches: &ArgMatches<'_>) -> Result<Asked, Misuse>
     ensures asked { IfOk result (IsLongest matches.now) }
     ensures refused { IfErr result (IsLongestMisuse matches.now) }
 {
     match (matches.get_flag("all"), border_in(matches)?) {
+        (true, border) => Ok(Asked::Prefixes(border)),
         (false, None) => Ok(Asked::Longest),
-        (true, None) => Ok(Asked::Prefixes),
         (false, Some(byte)) => Ok(Asked::LongestAt(byte)),
-        (true, Some(_)) => Err(Misuse::AllAndAt),
     }
 }
 
@@ -196,14 +192,15 @@ fn query_in(matches: &ArgMatches<'_>, asked: Asked) -> Query
     }
 }
 
-/// Returns the question of a command. It is an error if an option has a wrong
+/// Returns the question of a command to the file with this number. It is an error if an option has a wrong
 /// word.
 fn question_in<'w, 'a: 'w>(
     matches: &ArgMatches<'a>,
     topic: Topic,
+    number: usize,
     words: &'w Option<Vec<&'a [u8]>>,
 ) -> Result<Question<'w>, Misuse>
-    ensures question { IfOk result (IsQuestion matches.now topic (texts_of words.now)) }
+    ensures question { IfOk result (IsQuestion matches.now topic number (texts_of words.now)) }
     ensures refused { IfErr result (IsQuestionMisuse matches.now topic (texts_of words.now)) }
 {
     match topic {
@@ -225,7 +222,7 @@ fn question_in<'w, 'a: 'w>(
         Topic::List => ListOptions::of(matches).question(matches.get_flag("sorted")),
         Topic::Search => SearchOptions::of(matches).question(),
         Topic::Verify => Ok(Question::Verify),
-        Topic::Stats => Ok(Question::Report(report_in(matches))),
+        Topic::Stats => Ok(Question::Report(report_in(matches), name_told(matches, number))),
         Topic::Inspect => Ok(Question::View(view_in(matches)?)),
         Topic::Code => CodeOptions::of(matches).question(),
     }
@@ -243,6 +240,6 @@ pub fn ask_in<'w, 'a: 'w>(
     ensures refused { IfErr result (IsAskMisuse matches.now topic (texts_of words.now)) }
 {
     let file = file_in(matches, topic, number)?;
-    let question = question_in(matches, topic, words)?;
+    let question = question_in(matches, topic, number, words)?;
     Ok(Command::Ask(file, question))
 }

@@ -4,7 +4,7 @@ ghost use Rattle.std.specs.Prelude.{◌≡◌, IfOk, IfErr, IfSome, map, string_
 ghost use Rattle.zerotrie_run.specs.declared.status.Status.TheVariants.{BadUsage};
 ghost use Rattle.zerotrie_words.specs.Reads.{IsFaultSaid, IsFoundIn, IsNoRequest, IsRequest};
 ghost use Rattle.zerotrie_words.specs.Replies.{status_of};
-ghost use Rattle.zerotrie_words.specs.Requests.{AreApart, AreOneFile, ArePlaces, IsCommand, IsHeading, IsQuiet, IsRefusal, NamesOneFile, file_count, keys_by};
+ghost use Rattle.zerotrie_words.specs.Requests.{AreApart, AreOneFile, ArePlaces, IsCommand, IsQuiet, IsRefusal, NamesOneFile, file_count, keys_by};
 ghost use Rattle.zerotrie_words.specs.Tasks.{AsksForPage};
 ghost use Rattle.zerotrie_words.specs.Words.{texts_of};
 
@@ -16,7 +16,7 @@ use crate::keys::words_in;
 use crate::manual::manual;
 use crate::misuse::Misuse;
 use crate::options::{BuildOptions, MakeOptions};
-use crate::question::{ask_in, file_count, heading_in};
+use crate::question::{ask_in, file_count};
 use crate::reply::{Reply, reply_to};
 use crate::table::commands;
 use crate::task::{Task, Topic, task_in};
@@ -137,17 +137,6 @@ impl<'a> Request<'a> {
         match self.task {
             Task::Ask(Topic::Verify | Topic::Stats) => file_count(&self.matches),
             Task::Build | Task::Ask(_) | Task::Diff | Task::Combine(_) => 1,
-        }
-    }
-
-    /// Returns the name of the file with this number, if it has to stand in front of what is printed of
-    /// it: in front of the lines of a report on one of several files.
-    pub fn heading(&self, file: usize) -> Option<&'a str>
-        ensures { IsHeading self.now.task self.now.matches file result }
-    {
-        match self.task {
-            Task::Ask(Topic::Stats) => heading_in(&self.matches, file),
-            Task::Build | Task::Ask(_) | Task::Diff | Task::Combine(_) => None,
         }
     }
 

@@ -1,5 +1,6 @@
 -- A report as one JSON object.
 use Rattle.std.specs.Prelude.{ℕ, ◌+◌, ◌/◌, ◌%◌, ◌^◌, ◌==◌, if◌then◌else◌, Bool, true, false, List, [], ◌∷◌, ◌++◌, codes, decimal, Option, Some, None}
+use Rattle.json.specs.Print.{quoted}
 use Rattle.serde_json.specs.Written.{comma_if}
 use Rattle.zerotrie_core.specs.Kinds.{kind_name}
 use Rattle.zerotrie_queries.specs.declared.reports.count.Report.{Report}
@@ -37,7 +38,7 @@ cell_objects later i (count ∷ cells) =
 
 -- the members of how much there is
 abbrev pub size_members : Report → List ℕ
-size_members r = codes "{\"kind\":\"" ++ (kind_name r.kind ++ (codes "\"" ++ (member_after (codes "bytes") (decimal r.bytes) ++ member_after (codes "pairs") (decimal r.pairs))))
+size_members r = codes "\"kind\":\"" ++ (kind_name r.kind ++ (codes "\"" ++ (member_after (codes "bytes") (decimal r.bytes) ++ member_after (codes "pairs") (decimal r.pairs))))
 
 -- the members of what keys and values are
 abbrev pub key_members : Report → List ℕ
@@ -54,6 +55,11 @@ node_members r =
 abbrev pub branch_member : Report → List ℕ
 branch_member r = codes ",\"branch_sizes\":[" ++ (cell_objects false 0 r.branches.cells ++ codes "]}\n")
 
+-- the beginning, with the name of a file if there is one
+abbrev pub object_front : (file : Option (List ℕ)) → List ℕ
+object_front None = codes "{"
+object_front (Some name) = codes "{\"file\":" ++ (quoted name ++ codes ",")
+
 -- all members, and a line feed
-abbrev pub report_object : Report → List ℕ
-report_object r = size_members r ++ (key_members r ++ (node_members r ++ branch_member r))
+abbrev pub report_object : (file : Option (List ℕ)) → Report → List ℕ
+report_object file r = object_front file ++ (size_members r ++ (key_members r ++ (node_members r ++ branch_member r)))

@@ -1,6 +1,7 @@
 -- The lines of a report.
 use Rattle.std.specs.Prelude.{ℕ, ◌+◌, ◌*◌, ◌/◌, ◌%◌, ◌==◌, if◌then◌else◌, List, [], ◌∷◌, ◌++◌, codes, decimal, Option, Some, None}
 use Rattle.zerotrie_core.specs.Kinds.{kind_name}
+use Rattle.zerotrie_lines.specs.Escapes.{escaped}
 use Rattle.zerotrie_queries.specs.declared.reports.count.Report.{Report}
 
 -- a line: a name, a tab and a text
@@ -63,3 +64,8 @@ node_lines r =
 -- all lines
 abbrev pub report_lines : Report → List ℕ
 report_lines r = size_lines r ++ (key_lines r ++ (node_lines r ++ cell_lines 0 r.branches.cells))
+
+-- the line of the name of a file, if there is one
+abbrev pub heading : Option (List ℕ) → List ℕ
+heading None = []
+heading (Some name) = escaped name ++ codes ":\n"

@@ -5,17 +5,19 @@ ghost use Rattle.std.proofs.Common.{suc};
 ghost use Rattle.std.specs.FinMap.{entries};
 ghost use Rattle.std.specs.Range.Bound.{bound_map};
 ghost use Rattle.zerotrie_core.specs.Kinds.{kind_of};
-ghost use Rattle.zerotrie_core.specs.Maps.{Map, begins_with, map_of};
+ghost use Rattle.zerotrie_core.specs.Maps.{Map, Pairs, begins_with, map_of};
 ghost use Rattle.zerotrie_core.specs.Texts.{Means};
 ghost use Rattle.zerotrie_core.specs.declared.TrieKind.{TrieKind};
 ghost use Rattle.zerotrie_index.specs.Tries.{folded_key};
 ghost use Rattle.zerotrie_search.specs.Automata.{any_accepts, any_edits_to, any_most, free_if};
 ghost use Rattle.zerotrie_search.specs.Nearest.{nearest};
-ghost use Rattle.zerotrie_queries.specs.Chosen.{AreBelow, AreWordsOf, IsFolded, at_edits, begins_of, chosen, closest, edits_matched, edits_of, found_from, is_chosen, is_in, is_kept, is_matched, measured};
+ghost use Rattle.zerotrie_queries.specs.Chosen.{AreBelow, AreWordsOf, IsFolded, at_edits, begins_of, chosen, closest, edits_matched, edits_of, is_chosen, is_in, is_kept, is_matched, measured};
+ghost use Rattle.zerotrie_queries.specs.Found.{found_from};
 ghost use Rattle.zerotrie_queries.specs.Listed.{Gives, first_picked};
 ghost use Rattle.zerotrie_queries.specs.Near.{edits_from};
 ghost use Rattle.zerotrie_queries.specs.Kept.{keeps, may_keep};
 ghost use Rattle.zerotrie_queries.specs.Pairs.{AreChosenValid, AreFirstValid, IsValid, left_of, left_of_chosen, left_of_first};
+ghost use Rattle.zerotrie_queries.specs.Ranked.{topped};
 ghost use Rattle.zerotrie_queries.specs.Sorted.{AreWithin, found_between, is_prefix_alone, is_unbounded, picked};
 ghost use Rattle.zerotrie_queries.specs.declared.question.Order.TheVariants.{ByBytes, Closest, Nearest, Stored};
 
@@ -24,6 +26,7 @@ use crate::first_pairs::FirstPairs;
 use crate::folding::FoldedWords;
 use crate::found::Found;
 use crate::kept::{Conditions, conditions};
+use crate::listing::greatest::HeldPairs;
 use crate::near::Near;
 use crate::question::{Choice, ListQuery, Order};
 use std::alloc::{AllocError, Global};
@@ -41,8 +44,8 @@ type WordPairs<'t, 'q, W> = ZeroTrieSearch<'t, 'q, ByKind<Found<W>>>;
 /// The pairs that edits of a word find, the nearest first.
 type NearPairs<'t, W> = ZeroTrieNearest<'t, ByKind<Near<W>>>;
 
-/// The pairs with a prefix in the order of the trie, those of which the conditions of a choice hold, or those
-/// that a word finds.
+/// The pairs with a prefix in the order of the trie, those of which the conditions of a choice hold, those
+/// that a word finds, or some that are held.
 #[derive(Drop)]
 pub(crate) enum ListedPairs<'t, 'q> {
     Plain(ZeroTrieStream<'t>),
@@ -60,6 +63,7 @@ pub(crate) enum ListedPairs<'t, 'q> {
     NearFuzzyChars(NearPairs<'t, LevenshteinChars>),
     NearSwaps(NearPairs<'t, Osa>),
     NearSwapsChars(NearPairs<'t, OsaChars>),
+    Held(HeldPairs),
 }
 
 /// Evaluates an expression with the listing that there is, under a name.
@@ -81,6 +85,7 @@ macro_rules! by_pairs {
             ListedPairs::NearFuzzyChars($pairs) => $result,
             ListedPairs::NearSwaps($pairs) => $result,
             ListedPairs::NearSwapsChars($pairs) => $result,
+            ListedPairs::Held($pairs) => $result,
         }
     };
 }
@@ -553,8 +558,28 @@ fn ordered<'t, 'q>(
     }
 }
 
-/// Lists the pairs of a selection: the first whose keys are chosen, in its order. `words` are those of its
-/// choice.
+/// Lists pairs that are chosen or, if a number is given, those of them that have the greatest values.
+fn topped<'t, 'q>(
+    alloc: Global,
+    pairs: ChosenPairs<'t, 'q>,
+    top: Option<usize>,
+) -> Result<ChosenPairs<'t, 'q>, AllocError>
+    ensures { IfOk result (λ s. (pick : Pairs → Pairs) (kind : TrieKind) (bytes : List ℕ)
+        → Gives AreChosenValid left_of_chosen pick kind bytes pairs.entry
+        → Gives AreChosenValid left_of_chosen (λ all. topped top (pick all)) kind bytes s) }
+{
+    let Some(most) = top else {
+        return Ok(pairs);
+    };
+    let held = HeldPairs::greatest(alloc, pairs, most)?;
+    Ok(ChosenPairs {
+        pairs: ListedPairs::Held(held),
+        condition: None,
+    })
+}
+
+/// Lists the pairs of a selection: the first whose keys are chosen, in its order, or those of the greatest
+/// values. `words` are those of its choice.
 ///
 /// It validates no bytes. In the order of the trie it reads the part with the prefix. In the order of bytes
 /// it reads the part between the bounds of the range or, if there are none and the kind does not ignore case,
@@ -572,7 +597,7 @@ pub(crate) fn listed<'t, 'q>(
     let folded = words.in_place_of(selection.choice);
     let pairs = ordered(alloc, trie, folded, words.above(), selection.order)?;
     Ok(FirstPairs {
-        source: pairs,
+        source: topped(alloc, pairs, selection.top)?,
         limit: selection.limit,
         ended: false,
     })

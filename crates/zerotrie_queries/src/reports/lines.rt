@@ -1,12 +1,13 @@
 //! The lines of a report: a name, a tab and a number each.
 
 ghost use Rattle.std.specs.Prelude.{◌≡◌, ◌++◌, ◌<◌, ◌*◌, ◌/◌, OnOk, codes};
-ghost use Rattle.zerotrie_queries.specs.reports.Lines.{text_line, number_line, option_text, ratio_text, group_text, group_name, cell_name, cell_line, cell_lines, size_lines, key_lines, node_lines, report_lines};
+ghost use Rattle.std.specs.Option.{option_map};
+ghost use Rattle.zerotrie_queries.specs.reports.Lines.{text_line, number_line, option_text, ratio_text, group_text, group_name, cell_name, cell_line, cell_lines, heading, size_lines, key_lines, node_lines, report_lines};
 
 use crate::print::add_text;
 use crate::reports::count::Report;
 use std::alloc::AllocError;
-use zerotrie_lines::write_number;
+use zerotrie_lines::{write_escaped, write_number};
 
 fn add_text_line(lines: &mut Vec<u8>, name: &str, text: &str) -> Result<(), AllocError>
     ensures { OnOk result (lines.new.items ≡ lines.old.items ++ text_line name.now text.now) }
@@ -158,6 +159,18 @@ fn add_nodes(lines: &mut Vec<u8>, report: &Report) -> Result<(), AllocError>
     add_number_line(lines, "literals", report.literals)?;
     add_number_line(lines, "spans", report.spans)?;
     add_number_line(lines, "branches", report.branches.count)
+}
+
+/// Adds the line of the name of a file, if one is given.
+pub(crate) fn add_heading(lines: &mut Vec<u8>, name: Option<&str>) -> Result<(), AllocError>
+    ensures { OnOk result (lines.new.items
+        ≡ lines.old.items ++ heading (option_map (λ n. n.now) name.entry)) }
+{
+    if let Some(name) = name {
+        write_escaped(lines, name.as_bytes())?;
+        add_text(lines, ":\n")?;
+    }
+    Ok(())
 }
 
 pub(crate) fn add_report(lines: &mut Vec<u8>, report: &Report) -> Result<(), AllocError>

@@ -1,13 +1,14 @@
 //! A report as one JSON object.
 
 ghost use Rattle.std.specs.Prelude.{◌≡◌, ◌++◌, ◌<◌, OnOk, codes, decimal, false};
-ghost use Rattle.zerotrie_queries.specs.reports.Json.{member_after, number_or_null, least_edges, most_edges, edge_members, cell_object, cell_objects, size_members, key_members, node_members, branch_member, report_object};
+ghost use Rattle.std.specs.Option.{option_map};
+ghost use Rattle.zerotrie_queries.specs.reports.Json.{object_front, member_after, number_or_null, least_edges, most_edges, edge_members, cell_object, cell_objects, size_members, key_members, node_members, branch_member, report_object};
 
 use crate::json_text::add_comma;
 use crate::print::add_text;
 use crate::reports::count::Report;
 use std::alloc::AllocError;
-use zerotrie_lines::write_number;
+use zerotrie_lines::{write_number, write_quoted};
 
 fn add_number_member(text: &mut Vec<u8>, name: &str, number: usize) -> Result<(), AllocError>
     ensures { OnOk result (text.new.items
@@ -98,10 +99,23 @@ fn add_cell_objects(text: &mut Vec<u8>, cells: &[usize; 64]) -> Result<(), Alloc
     Ok(())
 }
 
+/// Adds the beginning of the object, with the name of a file if one is given.
+fn add_front(text: &mut Vec<u8>, name: Option<&str>) -> Result<(), AllocError>
+    ensures { OnOk result (text.new.items
+        ≡ text.old.items ++ object_front (option_map (λ n. n.now) name.entry)) }
+{
+    let Some(name) = name else {
+        return add_text(text, "{");
+    };
+    add_text(text, "{\"file\":")?;
+    write_quoted(text, name.as_bytes())?;
+    add_text(text, ",")
+}
+
 fn add_size_members(text: &mut Vec<u8>, report: &Report) -> Result<(), AllocError>
     ensures { OnOk result (text.new.items ≡ text.old.items ++ size_members report.now) }
 {
-    add_text(text, "{\"kind\":\"")?;
+    add_text(text, "\"kind\":\"")?;
     add_text(text, report.kind.name())?;
     add_text(text, "\"")?;
     add_number_member(text, "bytes", report.bytes)?;
@@ -133,10 +147,16 @@ fn add_branch_member(text: &mut Vec<u8>, report: &Report) -> Result<(), AllocErr
     add_text(text, "]}\n")
 }
 
-/// Adds a report as one JSON object, and a line feed.
-pub(crate) fn add_report_object(text: &mut Vec<u8>, report: &Report) -> Result<(), AllocError>
-    ensures { OnOk result (text.new.items ≡ text.old.items ++ report_object report.now) }
+/// Adds a report as one JSON object, with the name of its file if one is given, and a line feed.
+pub(crate) fn add_report_object(
+    text: &mut Vec<u8>,
+    name: Option<&str>,
+    report: &Report,
+) -> Result<(), AllocError>
+    ensures { OnOk result (text.new.items
+        ≡ text.old.items ++ report_object (option_map (λ n. n.now) name.entry) report.now) }
 {
+    add_front(text, name)?;
     add_size_members(text, report)?;
     add_key_members(text, report)?;
     add_node_members(text, report)?;

@@ -220,7 +220,7 @@ fn is_index(question: Question<'_>, why: SealError) -> bool {
         Question::LookUp(_, _)
         | Question::List(_, _)
         | Question::Code(_, _)
-        | Question::Report(_)
+        | Question::Report(_, _)
         | Question::View(_) => false,
     }
 }

@@ -1,19 +1,23 @@
 //! Messages on a file that is made.
 
-ghost use Rattle.std.specs.Prelude.{◌≡◌, [], false, IfOk};
+ghost use Rattle.std.specs.Prelude.{◌≡◌, ◌&&◌, ◌++◌, [], false, IfOk};
 ghost use Rattle.std.specs.String.{string_bytes};
 ghost use Rattle.zerotrie_run.specs.Commands.{may_tell};
-ghost use Rattle.zerotrie_run.specs.Messages.{TellsBuild, TellsMade, file_word, key_word, size_text, source_name, target_name, tenths_text, unit_of};
-ghost use Rattle.zerotrie_run.specs.Told.{TellsThenLeft, told_made, told_removed};
+ghost use Rattle.zerotrie_run.specs.Messages.{TellsMade, TellsMakingError, file_word, key_word, line_on, size_text, tenths_text, told_key, value_words};
+ghost use Rattle.zerotrie_run.specs.Told.{TellsThenLeft, form_of, has_kind, is_told, made_lines, told_kind, told_made, told_removed};
 
-use crate::build::BuildError;
-use crate::command::{Build, Place, Summary};
+use crate::command::{Place, Summary};
+use crate::making::{Making, MakingError, Recipe, file_of};
+use crate::messages::ask::no_trie;
+use crate::messages::key::with_key;
 use crate::messages::line::{fault_on, line_on, source_name, target_name, tell, unwritten};
 use crate::messages::pairs::{PairUnit, made_words};
 use std::alloc::{AllocError, Global};
 use std::io::Write;
+use zerotrie_core::TrieKind;
 use zerotrie_files::Noted;
-use zerotrie_making::MakeError;
+use zerotrie_making::{CombinationError, FileForm, Made, MakeError};
+use zerotrie_sets::RuleError;
 
 /// Returns a line that says why no file is made.
 fn unmade(
@@ -59,9 +63,20 @@ fn key_word(keys: usize) -> &'static str
     if keys == 1 { "key" } else { "keys" }
 }
 
+/// Returns whether it is reported that a file with this many keys was made.
+fn is_told(summary: Summary, keys: usize) -> bool
+    ensures { result ≡ is_told summary keys }
+{
+    match summary {
+        Summary::Never => false,
+        Summary::IfEmpty => keys == 0,
+        Summary::Always => true,
+    }
+}
+
 /// Returns a line that says how many keys a file has that was made, and how long it is. It is empty
 /// if that is not told.
-pub fn made_text(
+fn made_text(
     alloc: Global,
     is_told: bool,
     place: &str,
@@ -76,6 +91,61 @@ pub fn made_text(
     let (word, size) = (key_word(keys), size_text(alloc, len)?);
     let words = format!(in alloc; "{keys} {word}, {size}")?;
     line_on(alloc, place, words.as_bytes())
+}
+
+/// Returns what file a recipe makes.
+fn form_of(recipe: Recipe<'_>) -> FileForm
+    ensures { result ≡ form_of recipe.entry }
+{
+    match recipe {
+        Recipe::Pairs(plan) => plan.file.form,
+        Recipe::Tries(combination) => combination.form,
+    }
+}
+
+/// Returns whether it is told of which kind a file is, if no kind is named for it and the tries of the
+/// files have several.
+fn tells_kind(making: Making<'_, '_>) -> bool
+    ensures { result ≡ (may_tell making.entry.summary && has_kind (form_of making.entry.recipe)) }
+{
+    making.summary != Summary::Never && form_of(making.recipe) != FileForm::Index
+}
+
+/// Returns a line that says of which kind a file is, and why. It is empty if that is not told.
+fn kind_text(
+    alloc: Global,
+    tells_kind: bool,
+    place: &str,
+    kind: TrieKind,
+) -> Result<Vec<u8>, AllocError>
+    ensures { IfOk result (λ text. text.items ≡ told_kind tells_kind place.now kind) }
+{
+    if !tells_kind {
+        return Ok(Vec::new(alloc));
+    }
+    let name = kind.name();
+    let words = format!(in alloc;
+        "the files have tries of several kinds, so it is of kind {name}"
+    )?;
+    line_on(alloc, place, words.as_bytes())
+}
+
+/// Returns what is told of a file that was made, as the summary says. `several` is whether no kind is named
+/// for it and the tries of its files have several.
+pub fn made_lines(
+    alloc: Global,
+    making: Making<'_, '_>,
+    several: bool,
+    made: &Made,
+) -> Result<Vec<u8>, AllocError>
+    ensures { IfOk result (λ text. text.items ≡ made_lines making.entry several made.now) }
+{
+    let place = target_name(making.to);
+    let mut text = kind_text(alloc, several && tells_kind(making), place, made.kind)?;
+    let is_told = is_told(making.summary, made.keys);
+    let line = made_text(alloc, is_told, place, made.keys, made.file.len())?;
+    text.extend_from_slice(line.as_slice())?;
+    Ok(text)
 }
 
 /// Returns the word after a number of files.
@@ -123,40 +193,52 @@ pub fn tell_removed<M: Write>(
     }
 }
 
-/// Returns a line that says why no file is made of pairs, or why it can't be written. The places are
-/// named.
-pub fn unbuilt(
+/// Returns why a key that is taken gets no value.
+fn value_words(why: RuleError) -> &'static str
+    ensures { result.now ≡ value_words why }
+{
+    match why {
+        RuleError::SeveralValues => {
+            "more than one file has this key; --values first, sum or another gives it one value: "
+        }
+        RuleError::DifferentValues => "files have different values for this key: ",
+        RuleError::SumTooLarge => "the sum of the values of this key is 2^64 or more: ",
+    }
+}
+
+/// Returns a line that says that a key gets no value, and why.
+fn no_value(alloc: Global, place: &str, why: RuleError, key: &[u8]) -> Result<Vec<u8>, AllocError>
+    ensures { IfOk result (λ text. text.items
+        ≡ line_on place.now (value_words why ++ told_key key.now)) }
+{
+    let words = with_key(alloc, value_words(why), key)?;
+    line_on(alloc, place, words.as_slice())
+}
+
+/// Returns a line that says why no file is made. The places are named whose pairs make none, and where the
+/// file goes.
+pub fn unmade_text(
     alloc: Global,
-    from: &str,
+    pairs: &str,
     unit: PairUnit,
     to: &str,
-    error: &BuildError,
+    error: &MakingError<'_>,
 ) -> Result<Vec<u8>, AllocError>
-    ensures { IfOk result (λ text. TellsBuild from.now to.now unit error.now text.items) }
+    ensures { IfOk result (λ text. TellsMakingError pairs.now unit to.now error.now text.items) }
 {
     match error {
-        BuildError::Unread(error) => fault_on(alloc, from, error),
-        BuildError::NotMade(error) => unmade(alloc, from, unit, error),
-        BuildError::Unwritten(error) => unwritten(alloc, to, error),
-        BuildError::Taken => line_on(
+        MakingError::Taken => line_on(
             alloc,
             to,
             b"the file is there already, and --no-clobber leaves it",
         ),
-        BuildError::Unfound(error) => fault_on(alloc, to, error),
+        MakingError::Unread(place, error) => fault_on(alloc, source_name(*place), error),
+        MakingError::NoTrie(place, why, hint) => no_trie(alloc, file_of(*place), why, *hint),
+        MakingError::NotMade(CombinationError::NoValue(why, key)) => {
+            no_value(alloc, to, *why, key.as_slice())
+        }
+        MakingError::NotMade(CombinationError::NotMade(error)) => unmade(alloc, pairs, unit, error),
+        MakingError::Unfound(error) => fault_on(alloc, to, error),
+        MakingError::Unwritten(error) => unwritten(alloc, to, error),
     }
-}
-
-/// Returns a line that says why no file is made.
-pub fn build_text(
-    alloc: Global,
-    build: Build<'_>,
-    error: &BuildError,
-) -> Result<Vec<u8>, AllocError>
-    ensures { IfOk result (λ text. TellsBuild (source_name build.entry.from)
-        (target_name build.entry.to) (unit_of build.entry.plan.read.source) error.now text.items) }
-{
-    let from = source_name(build.from);
-    let unit = PairUnit::of(build.plan.read.source);
-    unbuilt(alloc, from, unit, target_name(build.to), error)
 }

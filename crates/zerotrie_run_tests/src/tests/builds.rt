@@ -4,7 +4,7 @@ use crate::tests::{
     ABSENT, BUILD, FILE, NAMES, OF_JSON_LINES, PAIRS, PLAN, READ, Row, TAGGED, TRIE, are_run,
 };
 use std::test::Fail;
-use zerotrie_lines::{Format, Header, LineEnd};
+use zerotrie_lines::{Format, TSV, TextForm};
 use zerotrie_making::{Duplicates, FileForm, FilePlan, Plan, ReadPlan, Source};
 use zerotrie_run::{Build, Check, Command, Keys, Place, Question, Status, Summary, TrieFile};
 
@@ -32,7 +32,10 @@ const INDEXING: Build<'static> = Build {
 const OF_LINES: Build<'static> = Build {
     plan: Plan {
         read: ReadPlan {
-            source: Source::Text(Format::Lines, LineEnd::CrLf, Header::Absent),
+            source: Source::Text(TextForm {
+                format: Format::Lines,
+                ..TSV
+            }),
             ..READ
         },
         ..PLAN
@@ -187,7 +190,7 @@ const REFUSED: [Row; 11] = [
         command: Command::Build(Build {
             plan: Plan {
                 read: ReadPlan {
-                    source: Source::Text(Format::Tsv, LineEnd::CrLf, Header::Absent),
+                    source: Source::Text(TSV),
                     lower_case: false,
                     duplicates: Duplicates::Sum,
                 },
@@ -205,7 +208,7 @@ const REFUSED: [Row; 11] = [
         command: Command::Build(OF_JSON_LINES),
         status: Status::BadInput,
         printed: b"",
-        told: b"zerotrie: names.tsv: line 2: no JSON list [key, value], and no object {\"key\": key, \"value\": value}, whose value is written as a whole number below 2^64\n",
+        told: b"zerotrie: names.tsv: line 2: no JSON list [key, value], and no object {\"key\": key, \"value\": value} or with the names of --key and --value, whose value is written as a whole number below 2^64\n",
         left: ("names.trie", TRIE),
     },
     Row {

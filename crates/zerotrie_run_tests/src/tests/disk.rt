@@ -8,7 +8,7 @@ use std::os::fd::AsRawFd;
 use std::os::unix::fs::{PermissionsExt, symlink};
 use std::process::Abort;
 use std::test::Fail;
-use zerotrie_files::{Disk, Store, SystemDisk};
+use zerotrie_files::{Store, SystemDisk};
 
 /// Files of a user beside one called `planted`, some of them of a form that the program gives.
 const PLANTED: [&str; 6] = [
@@ -27,7 +27,11 @@ fn disk_of(rt: &HostRuntime) -> SystemDisk<'_, HostRuntime> {
 
 /// Returns whether a file holds these bytes.
 fn holds(rt: &HostRuntime, path: &str, bytes: &[u8]) -> bool {
-    match disk_of(rt).read(path) {
+    let mut store = Store::new(disk_of(rt));
+    let Ok(file) = store.open(path) else {
+        return false;
+    };
+    match store.read(rt.alloc(), file) {
         Ok(held) => held.as_slice() == bytes,
         Err(_) => false,
     }

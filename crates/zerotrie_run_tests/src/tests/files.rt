@@ -98,11 +98,12 @@ fn a_store_notes_what_failed(rt: HostRuntime) -> Result<(), Fail> {
     let mut store = Store::new(MemoryDisk::new(alloc));
     store.replace(alloc, "a", b"one")?;
     store.replace(alloc, "a", b"two")?;
-    assert!(rt; store.read("a")?.as_slice() == b"two".as_slice());
+    let file = store.open("a")?;
+    assert!(rt; store.read(alloc, file)?.as_slice() == b"two".as_slice());
     assert!(rt; !store.unread() && !store.unwritten());
     assert!(rt; store.replace(alloc, "full", b"three").is_err());
     assert!(rt; !store.unread() && store.unwritten());
-    assert!(rt; store.read("b").is_err());
-    assert!(rt; store.unread());
+    assert!(rt; store.open("b").is_err());
+    assert!(rt; store.unread() && store.opened() == 2);
     Ok(())
 }

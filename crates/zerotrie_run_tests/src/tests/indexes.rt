@@ -75,7 +75,8 @@ fn asks_index(rt: &HostRuntime, file: &[u8], row: &OfIndex) -> Result<bool, Fail
     Ok(
         status == row.status
             && output.get_ref().get_ref().as_slice() == row.printed
-            && messages.get_ref().as_slice() == row.told,
+            && messages.get_ref().as_slice() == row.told
+            && files.opened() == 1,
     )
 }
 

@@ -1,11 +1,11 @@
 //! Files that are made again of their listings, and why others are not made.
 
 use crate::making::{makes, makes_again, parses_value};
-use crate::tests::{NAMES, PLAN, READ, TAGGED};
+use crate::tests::{NAMES, PAIR, PLAN, READ, TAGGED};
 use std::alloc::{AllocError, Global};
 use std::test::Fail;
 use zerotrie_core::{TrieKind, ZeroTrieBuildError};
-use zerotrie_lines::{BadLine, Format, Header, LineEnd};
+use zerotrie_lines::{BadLine, TSV};
 use zerotrie_making::{
     Duplicates, MakeError, NoPair, NumberedKey, OtherFile, Plan, ReadPlan, Shown, Source,
 };
@@ -49,23 +49,20 @@ fn listings_are_made_again(rt: HostRuntime) -> Result<(), Fail> {
 /// How an input is read, and why it is no pairs.
 #[derive(Drop)]
 struct Unread {
-    source: Source,
+    source: Source<'static>,
     input: &'static [u8],
     why: MakeError,
 }
 
-/// Lines of pairs, without a header.
-const LINES: Source = Source::Text(Format::Tsv, LineEnd::CrLf, Header::Absent);
-
 /// An input for each error that says that it is no pairs.
 const UNREAD: [Unread; 5] = [
     Unread {
-        source: LINES,
+        source: Source::Text(TSV),
         input: b"\x1f\x8b\x08",
         why: MakeError::NotText(OtherFile::Gzip),
     },
     Unread {
-        source: LINES,
+        source: Source::Text(TSV),
         input: b"a\t1\nb\n",
         why: MakeError::Line(2, BadLine::NoTab),
     },
@@ -80,7 +77,7 @@ const UNREAD: [Unread; 5] = [
         why: MakeError::NotPairs,
     },
     Unread {
-        source: Source::JsonLines,
+        source: Source::JsonLines(PAIR),
         input: b"[\"a\",1]\n[\"b\"]\n",
         why: MakeError::NotPair(NoPair::Line(2)),
     },
@@ -89,7 +86,7 @@ const UNREAD: [Unread; 5] = [
 /// Returns whether an input makes no file, for this reason.
 fn is_unmade(
     alloc: Global,
-    read: ReadPlan,
+    read: ReadPlan<'_>,
     input: &[u8],
     why: &MakeError,
 ) -> Result<bool, AllocError> {

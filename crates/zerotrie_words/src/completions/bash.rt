@@ -1,7 +1,7 @@
 //! Completions for bash.
 
-use crate::arguments::{Argument, Subcommand};
-use crate::completions::{Offer, add_commands, add_words};
+use crate::arguments::{Rows, Subcommand};
+use crate::shown::{Listed, Maybe};
 use std::alloc::{AllocError, Global};
 
 const BEGIN: &str = "# Completions of zerotrie for bash.\n\
@@ -17,6 +17,15 @@ const AFTER_COMMANDS: &str = " -h --help -V --version' -- \"$word\")\n\
     \x20       return\n\
     \x20   fi\n\
     \x20   case $command:$before in\n";
+
+const WORDS: [&str; 3] = [
+    "mapfile -t COMPREPLY < <(compgen -W '",
+    " ",
+    "' -- \"$word\")",
+];
+
+const FILES: &str =
+    "compopt -o filenames 2> /dev/null\n                mapfile -t COMPREPLY < <(compgen -f -- \"$word\")";
 
 const AFTER_VALUES: &str = "    esac\n    case $command in\n";
 
@@ -36,68 +45,42 @@ const END: &str = "' ;;\n\
     }\n\
     complete -F _zerotrie zerotrie\n";
 
-/// Adds the case of an option with a word after its name.
-fn add_value(script: &mut String, command: &str, argument: &Argument) -> Result<(), AllocError> {
-    write!(script, "        {command}:--{}", argument.name)?;
-    if let Some(letter) = argument.letter() {
-        write!(script, "|{command}:-{letter}")?;
-    }
-    match argument.offer() {
-        Offer::Words(words) => {
-            script.push_str(") mapfile -t COMPREPLY < <(compgen -W '")?;
-            add_words(script, words)?;
-            script.push_str("' -- \"$word\"); return ;;\n")
-        }
-        Offer::Files => script.push_str(
-            ") compopt -o filenames 2> /dev/null\n                mapfile -t COMPREPLY < <(compgen -f -- \"$word\"); return ;;\n",
-        ),
-        Offer::Nothing => script.push_str(") COMPREPLY=(); return ;;\n"),
-    }
-}
-
-/// Adds the cases of the options of a command.
-fn add_values(script: &mut String, row: &Subcommand) -> Result<(), AllocError> {
-    for argument in row.arguments {
-        if argument.is_option() && argument.value().is_some() {
-            add_value(script, row.name, argument)?;
-        }
-    }
-    Ok(())
-}
-
-/// Adds the case of a command: the names of its options, and the words that stand at its places.
-fn add_command(script: &mut String, row: &Subcommand) -> Result<(), AllocError> {
-    write!(script, "        {}) options='", row.name)?;
+/// Adds the case of a command: the names of its options, and the words that stand at its places. To
+/// `values` it adds what completes the words of options.
+fn add(values: &mut String, cases: &mut String, row: &Subcommand) -> Result<(), AllocError> {
+    let command = row.name;
+    write!(cases, "        {command}) options='")?;
     for option in row.arguments.iter().filter(|it| it.is_option()) {
-        write!(script, "--{} ", option.name)?;
-        if let Some(letter) = option.letter() {
-            write!(script, "-{letter} ")?;
+        let (name, it) = (option.name, option.shown());
+        write!(cases, "--{name} {}", Maybe("-", it.letter, " "))?;
+        if it.value.is_some() {
+            write!(values, "        {command}:--{name}")?;
+            if let Some(letter) = it.letter {
+                write!(values, "|{command}:-{letter}")?;
+            }
+            let offer = it.offer(WORDS, FILES, "COMPREPLY=()");
+            write!(values, ") {offer}; return ;;\n")?;
         }
     }
-    script.push_str("--help -h' words='")?;
-    let mut has_files = false;
+    cases.push_str("--help -h' words='")?;
+    let mut files = false;
     for place in row.arguments.iter().filter(|it| !it.is_option()) {
-        add_words(script, place.words())?;
-        has_files = has_files || matches!(place.offer(), Offer::Files);
+        let it = place.shown();
+        write!(cases, "{}", Listed(["", " ", ""], it.words))?;
+        files = files || it.is_file();
     }
-    let files = if has_files { "yes" } else { "" };
-    write!(script, "' files={files} ;;\n")
+    let files = if files { "yes" } else { "" };
+    write!(cases, "' files={files} ;;\n")
 }
 
-/// Returns the script for bash.
-pub fn bash(alloc: Global, rows: &[&'static [Subcommand]]) -> Result<String, AllocError> {
-    let mut script = String::from_str(alloc, BEGIN)?;
-    add_commands(&mut script, rows)?;
-    script.push_str(AFTER_COMMANDS)?;
+/// Returns the script for bash, with the names of all commands.
+pub fn bash(alloc: Global, rows: Rows<'_>, names: &str) -> Result<String, AllocError> {
+    let mut values = String::new(alloc);
+    let mut cases = String::new(alloc);
     for row in rows.iter().copied().flatten() {
-        add_values(&mut script, row)?;
+        add(&mut values, &mut cases, row)?;
     }
-    script.push_str(AFTER_VALUES)?;
-    for row in rows.iter().copied().flatten() {
-        add_command(&mut script, row)?;
-    }
-    script.push_str("        help) words='")?;
-    add_commands(&mut script, rows)?;
-    script.push_str(END)?;
-    Ok(script)
+    format!(in alloc;
+        "{BEGIN}{names}{AFTER_COMMANDS}{values}{AFTER_VALUES}{cases}        help) words='{names}{END}"
+    )
 }

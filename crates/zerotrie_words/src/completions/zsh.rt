@@ -1,7 +1,7 @@
 //! Completions for zsh.
 
-use crate::arguments::{Argument, Subcommand};
-use crate::completions::{Offer, add_commands, add_words};
+use crate::arguments::{Argument, Rows};
+use crate::shown::{Maybe, Spelt};
 use std::alloc::{AllocError, Global};
 
 const BEGIN: &str = "#compdef zerotrie\n\
@@ -27,82 +27,42 @@ const END: &str = " ;;\n\
     }\n\
     _zerotrie \"$@\"\n";
 
-/// Adds a text between quotes, in which brackets, colons and backslashes mean themselves.
-fn add_literal(script: &mut String, text: &str) -> Result<(), AllocError> {
-    for letter in text.chars() {
-        match letter {
-            '\'' => script.push_str("'\\''")?,
-            '[' | ']' | ':' | '\\' => {
-                script.push('\\')?;
-                script.push(letter)?;
-            }
-            _ => script.push(letter)?,
-        }
-    }
-    Ok(())
-}
+const INDENT: &str = "            ";
 
-/// Adds what is offered for a word that help calls so.
-fn add_offer(script: &mut String, argument: &Argument) -> Result<(), AllocError> {
-    let Some(value) = argument.value() else {
-        return Ok(());
-    };
-    write!(script, ":{value}:")?;
-    match argument.offer() {
-        Offer::Words(words) => {
-            script.push_str("(")?;
-            add_words(script, words)?;
-            script.push_str(")")
-        }
-        Offer::Files => script.push_str("_files"),
-        Offer::Nothing => Ok(()),
-    }
-}
-
-/// Ends a name of an option by its help and what is offered for its word.
-fn end_option(script: &mut String, option: &Argument) -> Result<(), AllocError> {
-    script.push_str("[")?;
-    add_literal(script, option.short_help())?;
-    script.push_str("]")?;
-    add_offer(script, option)?;
-    script.push_str("' \\\n")
-}
+/// Letters of a text between quotes in which brackets and colons mean something.
+const LETTERS: &str = r"''\'' [\[ ]\] :\: \\\";
 
 /// Adds an argument, an option by each of its names.
-fn add_argument(script: &mut String, argument: &Argument) -> Result<(), AllocError> {
+fn add_argument(cases: &mut String, argument: &Argument) -> Result<(), AllocError> {
+    let (name, it) = (argument.name, argument.shown());
+    let value = Maybe(":", it.value, ":");
+    let offer = it.offer(["(", " ", ")"], "_files", "");
+    let help = Spelt(argument.short_help(), LETTERS);
     if !argument.is_option() {
         let many = if argument.is_many() { "*" } else { "" };
-        write!(script, "            '{many}")?;
-        add_offer(script, argument)?;
-        return script.push_str("' \\\n");
+        return write!(cases, "{INDENT}'{many}{value}{offer}' \\\n");
     }
-    write!(script, "            '--{}", argument.name)?;
-    end_option(script, argument)?;
-    if let Some(letter) = argument.letter() {
-        write!(script, "            '-{letter}")?;
-        end_option(script, argument)?;
+    write!(cases, "{INDENT}'--{name}[{help}]{value}{offer}' \\\n")?;
+    match it.letter {
+        Some(letter) => write!(cases, "{INDENT}'-{letter}[{help}]{value}{offer}' \\\n"),
+        None => Ok(()),
     }
-    Ok(())
 }
 
-/// Returns the script for zsh.
-pub fn zsh(alloc: Global, rows: &[&'static [Subcommand]]) -> Result<String, AllocError> {
-    let mut script = String::from_str(alloc, BEGIN)?;
+/// Returns the script for zsh, with the names of all commands.
+pub fn zsh(alloc: Global, rows: Rows<'_>, names: &str) -> Result<String, AllocError> {
+    let mut commands = String::new(alloc);
+    let mut cases = String::new(alloc);
     for row in rows.iter().copied().flatten() {
-        write!(script, "        '{}:", row.name)?;
-        add_literal(&mut script, row.about)?;
-        script.push_str("'\n")?;
-    }
-    script.push_str(AFTER_COMMANDS)?;
-    for row in rows.iter().copied().flatten() {
-        write!(script, "        {}) _arguments -s \\\n", row.name)?;
+        let (name, about) = (row.name, Spelt(row.about, LETTERS));
+        write!(commands, "        '{name}:{about}'\n")?;
+        write!(cases, "        {name}) _arguments -s \\\n")?;
         for argument in row.arguments {
-            add_argument(&mut script, argument)?;
+            add_argument(&mut cases, argument)?;
         }
-        script.push_str("            '--help[Print help]' ;;\n")?;
+        write!(cases, "{INDENT}'--help[Print help]' ;;\n")?;
     }
-    script.push_str("        help) _values command ")?;
-    add_commands(&mut script, rows)?;
-    script.push_str(END)?;
-    Ok(script)
+    format!(in alloc;
+        "{BEGIN}{commands}{AFTER_COMMANDS}{cases}        help) _values command {names}{END}"
+    )
 }

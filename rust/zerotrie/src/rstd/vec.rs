@@ -1,6 +1,7 @@
 //! `Vec` with an allocator, whose growth returns an error if there is no memory. The rest is Rust's own, by `Deref`.
 use super::alloc::{AllocError, AllocFailed, Allocator, Global};
 use super::boxed::BoxedSlice;
+pub use alloc::vec::IntoIter;
 use core::{borrow::Borrow, cmp::Ordering, fmt};
 
 type Own<T> = alloc::vec::Vec<T>;

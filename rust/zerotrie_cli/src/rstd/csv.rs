@@ -1,5 +1,5 @@
 //! Records of comma-separated fields, by the crate `csv`.
-use super::alloc::Allocator;
+use super::alloc::{AllocError, Allocator};
 pub use ::csv::Terminator;
 use std::ops;
 
@@ -36,6 +36,11 @@ pub struct ByteRecord(::csv::ByteRecord);
 impl ByteRecord {
     pub fn new<A: Allocator>(_: A) -> Self {
         ByteRecord(::csv::ByteRecord::new())
+    }
+
+    pub fn push_field(&mut self, field: &[u8]) -> Result<(), AllocError> {
+        self.0.push_field(field);
+        Ok(())
     }
 }
 

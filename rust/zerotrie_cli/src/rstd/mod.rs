@@ -15,7 +15,7 @@ pub mod json;
 mod tool;
 
 pub use tool::{AllocGlobal, HostRuntime, TryString};
-pub(crate) use tool::{eprint, eprintln, print, println};
+pub(crate) use tool::{eprint, eprintln, print};
 
 pub mod prelude {
     pub use super::{AllocGlobal, HostRuntime, TryString};

@@ -3,16 +3,26 @@
 
 use crate::rstd::prelude::*;
 use crate::zerotrie_files::found::{Found, Mode};
+use crate::rstd::alloc::Global;
 use crate::rstd::io;
+
+/// A file that is open, to be read at places and then as a whole.
+pub trait OpenFile {
+    /// Fills the room with its bytes from this place on. A file that has fewer is an error, and so is a
+    /// stream, of which nothing is read.
+    fn read_part(&self, place: u64, room: &mut [u8]) -> io::Result<()>;
+
+    /// Reads all of its bytes.
+    fn read_all(self, alloc: Global) -> io::Result<Vec<u8>>;
+}
 
 /// Where files are read, written, renamed and removed.
 pub trait Disk {
-    /// Reads the file of a path.
-    fn read(&self, path: &str) -> io::Result<Vec<u8>>;
+    /// An open file.
+    type File: OpenFile;
 
-    /// Fills the room with the bytes of the file of a path from this place on. A file that has fewer
-    /// is an error.
-    fn read_at(&self, path: &str, place: u64, room: &mut [u8]) -> io::Result<()>;
+    /// Opens the file of a path to be read. Nothing changes; but who has only lent the disk opens none.
+    fn open(&mut self, path: &str) -> io::Result<Self::File>;
 
     /// Returns what a path leads to, by whatever links. A link to nothing is an error.
     fn find(&self, path: &str) -> io::Result<Found>;

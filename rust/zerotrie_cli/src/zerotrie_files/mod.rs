@@ -18,7 +18,7 @@ mod store;
 mod system;
 mod writing;
 
-pub use disk::Disk;
+pub use disk::{Disk, OpenFile};
 pub use found::{Found, Mode};
 pub use noted::Noted;
 pub use output::write_output;

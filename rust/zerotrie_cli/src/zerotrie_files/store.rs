@@ -2,16 +2,18 @@
 //! Reads and replacements of whole files.
 
 use crate::rstd::prelude::*;
-use crate::zerotrie_files::disk::Disk;
+use crate::zerotrie_files::disk::{Disk, OpenFile};
 use crate::zerotrie_files::faults::{is_closed, is_fault};
 use crate::zerotrie_files::found::Found;
 use crate::zerotrie_files::output::write_output;
 use crate::rstd::alloc::Global;
 use crate::rstd::io;
 
-/// The files of a disk, read and replaced, with a note of what failed.
+/// The files of a disk, read and replaced, with a note of what failed and of how many were opened to be
+/// read.
 pub struct Store<D> {
     disk: D,
+    opened: u64,
     unread: bool,
     unwritten: bool,
     closed: bool,
@@ -22,6 +24,7 @@ impl<D: Disk> Store<D> {
     pub fn new(disk: D) -> Self {
         Store {
             disk,
+            opened: 0,
             unread: false,
             unwritten: false,
             closed: false,
@@ -31,6 +34,11 @@ impl<D: Disk> Store<D> {
     /// Returns the disk.
     pub fn disk(&self) -> &D {
         &self.disk
+    }
+
+    /// Returns how many files were opened to be read. No more than 2^64 - 1 are counted.
+    pub fn opened(&self) -> u64 {
+        self.opened
     }
 
     /// Returns whether a read failed, for another reason than memory.
@@ -49,9 +57,17 @@ impl<D: Disk> Store<D> {
         self.closed
     }
 
-    /// Reads the file of a path.
-    pub fn read(&mut self, path: &str) -> io::Result<Vec<u8>> {
-        let outcome = self.disk.read(path);
+    /// Opens the file of a path to be read.
+    pub fn open(&mut self, path: &str) -> io::Result<D::File> {
+        self.opened = self.opened.saturating_add(1);
+        let outcome = self.disk.open(path);
+        self.unread |= is_fault(&outcome);
+        outcome
+    }
+
+    /// Reads all of an open file.
+    pub fn read(&mut self, alloc: Global, file: D::File) -> io::Result<Vec<u8>> {
+        let outcome = file.read_all(alloc);
         self.unread |= is_fault(&outcome);
         outcome
     }

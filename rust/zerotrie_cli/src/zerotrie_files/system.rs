@@ -2,8 +2,9 @@
 //! The file system, of which no clause says what its files hold.
 
 use crate::rstd::prelude::*;
-use crate::zerotrie_files::disk::Disk;
+use crate::zerotrie_files::disk::{Disk, OpenFile};
 use crate::zerotrie_files::found::{Found, Mode};
+use crate::rstd::alloc::Global;
 use crate::rstd::fs::{File, Metadata, OpenOptions, Permissions, TryLockError};
 use crate::rstd::io::{ErrorKind, Read, Write};
 use crate::rstd::os::unix::fs::{FileExt, MetadataExt, PermissionsExt};
@@ -65,19 +66,27 @@ fn fill(file: &mut File, mode: Option<Mode>, bytes: &[u8]) -> io::Result<()> {
     file.sync_all()
 }
 
-impl<'a, R: Files<File = File> + AllocGlobal + RandomSource + Clone> Disk
-    for SystemDisk<'a, R> {
-    fn read(&self, path: &str) -> io::Result<Vec<u8>> {
-        let mut bytes = Vec::new(self.system.alloc());
-        let mut file = File::open(self.system, path)?;
+impl OpenFile for File {
+    fn read_part(&self, place: u64, room: &mut [u8]) -> io::Result<()> {
+        self.read_exact_at(room, place)
+    }
+
+    fn read_all(self, alloc: Global) -> io::Result<Vec<u8>> {
+        let mut file = self;
+        let mut bytes = Vec::new(alloc);
         let size = file.metadata()?.len();
         bytes.reserve(usize::try_from(size).unwrap_or(0).saturating_add(1))?;
         file.read_to_end(&mut bytes)?;
         Ok(bytes)
     }
+}
 
-    fn read_at(&self, path: &str, place: u64, room: &mut [u8]) -> io::Result<()> {
-        File::open(self.system, path)?.read_exact_at(room, place)
+impl<'a, R: Files<File = File> + AllocGlobal + RandomSource + Clone> Disk
+    for SystemDisk<'a, R> {
+    type File = File;
+
+    fn open(&mut self, path: &str) -> io::Result<File> {
+        File::open(self.system, path)
     }
 
     fn find(&self, path: &str) -> io::Result<Found> {

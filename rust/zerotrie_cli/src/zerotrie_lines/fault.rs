@@ -3,7 +3,6 @@
 
 use crate::rstd::prelude::*;
 use crate::rstd::alloc::AllocError;
-use crate::rstd::fmt;
 
 /// What is wrong with a field that is no value, which is a number below 2^64 of 1 to 20 decimal
 /// digits.
@@ -49,52 +48,19 @@ pub enum BadLine {
     Escape,
     /// Its value is none.
     Value(BadValue),
-    /// The record has not two fields.
-    Fields,
-}
-
-impl ValueFault {
-    /// Returns what a message says of it.
-    pub fn text(self) -> &'static str {
-        match self {
-            ValueFault::Empty => "the value is missing",
-            ValueFault::Sign => "the value has a sign",
-            ValueFault::Blank => "a blank is in the value",
-            ValueFault::CarriageReturn => "a carriage return is at the end of the value",
-            ValueFault::Hexadecimal => "the value is hexadecimal, not decimal",
-            ValueFault::Fraction => "the value is a fraction or has an exponent",
-            ValueFault::TooLong => "the value has more than 20 digits",
-            ValueFault::TooGreat => "the value is 2^64 or more",
-            ValueFault::Other => "the value is no decimal number",
-        }
-    }
-}
-
-impl BadLine {
-    /// Returns what a message says of it.
-    pub fn text(&self) -> &'static str {
-        match self {
-            BadLine::Empty => "an empty line",
-            BadLine::NoTab => "no tab between a key and its value",
-            BadLine::Escape => {
-                "a backslash that begins no escape; the escapes are \\t \\n \\r \\\\ \\xHH"
-            }
-            BadLine::Value(bad) => bad.fault.text(),
-            BadLine::Fields => "not two fields, a key and its value",
-        }
-    }
-}
-
-impl fmt::Display for BadLine {
-    fn fmt(&self, f: &mut fmt::Formatter<'_>) -> fmt::Result {
-        f.write_str(self.text())
-    }
+    /// The record has so many fields, and not as many as there are columns.
+    Fields(usize, usize),
+    /// No column of the header has this name.
+    NoColumn(Vec<u8>),
+    /// More than one column of the header has this name.
+    SameColumns(Vec<u8>),
 }
 
 /// Why an input is no pairs.
 #[derive(PartialEq, Eq, Debug)]
 pub enum ReadError {
-    /// The line, or record of comma-separated fields, with this number is no pair, and why.
+    /// The line, or record of comma-separated fields, with this number is no pair, or no header with
+    /// the columns that are named, and why.
     Line(usize, BadLine),
     /// An allocation failed.
     OutOfMemory,

@@ -4,7 +4,7 @@
 use crate::rstd::prelude::*;
 use crate::zerotrie_lines::lines::take_ended;
 use crate::zerotrie_lines::numbers::parse_number;
-use crate::zerotrie_lines::reading::{Format, Header, LineEnd, pair_text};
+use crate::zerotrie_lines::reading::{Format, Header, LineEnd, TextForm, pair_text};
 use crate::rstd::memchr::{memchr, memchr3};
 use crate::rstd::alloc::{AllocError, Global};
 use crate::rstd::simd::prelude::*;
@@ -159,6 +159,27 @@ fn items_of_raw(
     Ok(Some(items))
 }
 
+/// Reads lines with a tab behind the header. `None` if that names columns, or a key has an escape though
+/// keys are not raw, or a line is no pair.
+fn items_of_tabbed<'a>(
+    alloc: Global,
+    raw: bool,
+    form: TextForm<'_>,
+    input: &'a [u8],
+) -> Result<Option<Vec<(&'a [u8], usize)>>, AllocError> {
+    match form.header {
+        Header::Named(_) => Ok(None),
+        Header::Absent | Header::Present => {
+            let text = pair_text(form.header, input);
+            if raw {
+                items_of_raw(alloc, form.end, text)
+            } else {
+                items_of_tsv(alloc, form.end, text)
+            }
+        }
+    }
+}
+
 /// Reads lines that are keys. So many lines were before them.
 fn items_of_keys(
     alloc: Global,
@@ -178,28 +199,27 @@ fn items_of_keys(
 }
 
 /// Reads the pairs of an input, whose keys borrow it. It is `None` only if a line has a backslash
-/// before its tab, or is no pair, or the input is records: `read_pairs` then copies the keys, or
-/// returns the error.
+/// before its tab, or is no pair, or the input is records, or columns that a header names:
+/// `read_pairs` then copies the keys, or returns the error.
 ///
 /// ```
-/// let (tsv, end) = (Format::Tsv, LineEnd::CrLf);
-/// let items = read_items(rt.alloc(), tsv, end, Header::Absent, b"ad\t22\nadef\t33\n")?;
+/// let items = read_items(rt.alloc(), TSV, b"ad\t22\nadef\t33\n")?;
 /// assert_eq!(rt; items.map(|items| items[1]), Some((b"adef".as_slice(), 33)));
 /// ```
 ///
 /// It allocates the list alone.
-pub fn read_items(
+pub fn read_items<'a>(
     alloc: Global,
-    format: Format,
-    end: LineEnd,
-    header: Header,
-    input: &[u8],
-) -> Result<Option<Vec<(&[u8], usize)>>, AllocError> {
-    let text = pair_text(header, input);
-    match format {
-        Format::Tsv => items_of_tsv(alloc, end, text),
-        Format::TsvRaw => items_of_raw(alloc, end, text),
-        Format::Lines => Ok(Some(items_of_keys(alloc, end, header.rows(), text)?)),
+    form: TextForm<'_>,
+    input: &'a [u8],
+) -> Result<Option<Vec<(&'a [u8], usize)>>, AllocError> {
+    match form.format {
+        Format::Tsv => items_of_tabbed(alloc, false, form, input),
+        Format::TsvRaw => items_of_tabbed(alloc, true, form, input),
+        Format::Lines => {
+            let text = pair_text(form.header, input);
+            Ok(Some(items_of_keys(alloc, form.end, form.header.rows(), text)?))
+        }
         Format::Csv => Ok(None),
     }
 }

@@ -104,6 +104,26 @@ fn without_tab(raw: bool, line: &[u8]) -> BadLine {
     }
 }
 
+/// Adds the pair of the text of a key and the digits of a value, or returns why they are none. `key` is
+/// a buffer for a decoded key.
+pub(in crate::zerotrie_lines) fn add_pair(
+    alloc: Global,
+    raw: bool,
+    text: &[u8],
+    digits: &[u8],
+    key: &mut Vec<u8>,
+    table: &mut Table,
+) -> Result<Option<BadLine>, AllocError> {
+    let Some(value) = parse_number(digits) else {
+        return Ok(Some(BadLine::Value(bad_value(alloc, digits)?)));
+    };
+    if add_key(raw, text, value, key, table)? {
+        Ok(None)
+    } else {
+        Ok(Some(BadLine::Escape))
+    }
+}
+
 /// Adds the pair that a line is, or returns why it is none. `key` is a buffer for a decoded key.
 pub(in crate::zerotrie_lines) fn read_pair(
     alloc: Global,
@@ -115,15 +135,7 @@ pub(in crate::zerotrie_lines) fn read_pair(
     let Some(place) = memchr(b'\t', line) else {
         return Ok(Some(without_tab(raw, line)));
     };
-    let digits = &line[place + 1..];
-    let Some(value) = parse_number(digits) else {
-        return Ok(Some(BadLine::Value(bad_value(alloc, digits)?)));
-    };
-    if add_key(raw, &line[..place], value, key, table)? {
-        Ok(None)
-    } else {
-        Ok(Some(BadLine::Escape))
-    }
+    add_pair(alloc, raw, &line[..place], &line[place + 1..], key, table)
 }
 
 /// Writes the line of a pair: the key with escapes, a tab, the value and a line feed.

@@ -5,7 +5,7 @@ use crate::rstd::prelude::*;
 use crate::zerotrie_lines::escapes::without_mark;
 use crate::zerotrie_lines::fault::{ReadError, at_line};
 use crate::zerotrie_lines::lines::{read_pair, take_ended, take_line};
-use crate::zerotrie_lines::records::read_records;
+use crate::zerotrie_lines::records::{read_columns, read_records};
 use crate::zerotrie_lines::table::Table;
 use crate::rstd::alloc::Global;
 
@@ -33,39 +33,67 @@ pub enum LineEnd {
     Lf,
 }
 
+/// The names of the columns, or members, that have keys and values.
+#[derive(Clone, Copy, PartialEq, Eq, Debug)]
+pub struct Names<'a> {
+    pub key: &'a str,
+    pub value: &'a str,
+}
+
 /// Whether a header is in front of the pairs.
 #[derive(Clone, Copy, PartialEq, Eq, Debug)]
-pub enum Header {
+pub enum Header<'a> {
     /// The first line or record is a pair.
     Absent,
     /// The first line or record is a header, and no pair. It is counted in the numbers of the others.
     Present,
+    /// It is, and names columns. A pair is in the two with these names, as they are in the header, and
+    /// each line or record has a field for each column. Lines that are keys have no columns.
+    Named(Names<'a>),
 }
 
-impl Header {
+impl Header<'_> {
     /// Returns how many lines or records it is.
     pub fn rows(self) -> usize {
         match self {
             Header::Absent => 0,
-            Header::Present => 1,
+            Header::Present | Header::Named(_) => 1,
         }
     }
 }
 
+/// How a text is pairs.
+#[derive(Clone, Copy, PartialEq, Eq, Debug)]
+pub struct TextForm<'a> {
+    /// What a line or record is.
+    pub format: Format,
+    /// What ends it.
+    pub end: LineEnd,
+    /// Whether a header is in front.
+    pub header: Header<'a>,
+}
+
+/// Lines as they are written, without a header.
+pub const TSV: TextForm<'static> = TextForm {
+    format: Format::Tsv,
+    end: LineEnd::CrLf,
+    header: Header::Absent,
+};
+
 /// Returns the text of the lines that are to be pairs: without a byte order mark and the header.
-pub(in crate::zerotrie_lines) fn pair_text(header: Header, input: &[u8]) -> &[u8] {
+pub(in crate::zerotrie_lines) fn pair_text<'a>(header: Header<'_>, input: &'a [u8]) -> &'a [u8] {
     let mut rest = without_mark(input);
     match header {
         Header::Absent => rest,
-        Header::Present => {
+        Header::Present | Header::Named(_) => {
             take_line(&mut rest);
             rest
         }
     }
 }
 
-/// Reads lines with a tab, whose keys are raw or may have escapes. So many lines were before them.
-fn read_tsv(
+/// Reads lines with one tab, whose keys are raw or may have escapes. So many lines were before them.
+fn read_two(
     alloc: Global,
     raw: bool,
     end: LineEnd,
@@ -86,6 +114,17 @@ fn read_tsv(
     Ok(table)
 }
 
+/// Reads lines with tabs, whose keys are raw or may have escapes.
+fn read_tsv(alloc: Global, raw: bool, form: TextForm<'_>, input: &[u8]) -> Result<Table, ReadError> {
+    match form.header {
+        Header::Absent | Header::Present => {
+            let text = pair_text(form.header, input);
+            read_two(alloc, raw, form.end, form.header.rows(), text)
+        }
+        Header::Named(_) => read_columns(alloc, raw, form, input),
+    }
+}
+
 /// Reads lines that are keys. So many lines were before them.
 fn read_keys(alloc: Global, end: LineEnd, before: usize, text: &[u8]) -> Result<Table, ReadError> {
     let mut table = Table::new(alloc);
@@ -103,33 +142,35 @@ fn read_keys(alloc: Global, end: LineEnd, before: usize, text: &[u8]) -> Result<
 /// letters of their keys become lower case.
 ///
 /// ```
-/// let (tsv, end) = (Format::Tsv, LineEnd::CrLf);
 /// let text = b"ad\t22\na\\td\t33\r\n";
-/// let table = read_pairs(rt.alloc(), tsv, end, Header::Absent, false, text);
-/// assert_eq!(rt; table.map(|t| t.len()), Ok(2));
-/// let table = read_pairs(rt.alloc(), tsv, end, Header::Present, false, text);
-/// assert_eq!(rt; table.map(|t| t.len()), Ok(1));
-/// let table = read_pairs(rt.alloc(), tsv, end, Header::Present, false, b"key\tvalue\nad 33\n");
+/// assert_eq!(rt; read_pairs(rt.alloc(), TSV, false, text).map(|t| t.len()), Ok(2));
+/// let form = TextForm { header: Header::Present, ..TSV };
+/// assert_eq!(rt; read_pairs(rt.alloc(), form, false, text).map(|t| t.len()), Ok(1));
+/// let table = read_pairs(rt.alloc(), form, false, b"key\tvalue\nad 33\n");
 /// assert_eq!(rt; table.map(|t| t.len()), Err(ReadError::Line(2, BadLine::NoTab)));
+/// let header = Header::Named(Names { key: "name", value: "id" });
+/// let form = TextForm { header, ..form };
+/// let table = read_pairs(rt.alloc(), form, false, b"id\tage\tname\n22\t9\tad\n");
+/// let table = table.map_err(|_| "no pairs")?;
+/// assert_eq!(rt; table.items(rt.alloc())?[0], (b"ad".as_slice(), 22));
 /// ```
 ///
 /// It allocates nothing for a line alone. Input without a line or record has no header. An error names the first line or record that is no pair,
 /// and why.
 pub fn read_pairs(
     alloc: Global,
-    format: Format,
-    end: LineEnd,
-    header: Header,
+    form: TextForm<'_>,
     lower_case: bool,
     input: &[u8],
 ) -> Result<Table, ReadError> {
-    let before = header.rows();
-    let text = pair_text(header, input);
-    let mut table = match format {
-        Format::Lines => read_keys(alloc, end, before, text)?,
-        Format::Tsv => read_tsv(alloc, false, end, before, text)?,
-        Format::TsvRaw => read_tsv(alloc, true, end, before, text)?,
-        Format::Csv => read_records(alloc, end, header, input)?,
+    let mut table = match form.format {
+        Format::Lines => {
+            let text = pair_text(form.header, input);
+            read_keys(alloc, form.end, form.header.rows(), text)?
+        }
+        Format::Tsv => read_tsv(alloc, false, form, input)?,
+        Format::TsvRaw => read_tsv(alloc, true, form, input)?,
+        Format::Csv => read_records(alloc, form, input)?,
     };
     if lower_case {
         table.lower_case();

@@ -145,7 +145,7 @@ fn make_kept(alloc: Global, plan: FilePlan, kept: Kept<'_>) -> Result<Made, Make
 }
 
 /// Makes the file of those of the pairs that are kept. An error has the numbers among the pairs.
-fn make_numbered(alloc: Global, plan: Plan, items: &[(&[u8], usize)]) -> Result<Made, MakeError> {
+fn make_numbered(alloc: Global, plan: Plan<'_>, items: &[(&[u8], usize)]) -> Result<Made, MakeError> {
     match plan.read.duplicates {
         Duplicates::Refuse => make_of(alloc, plan.file, None, items),
         Duplicates::First => make_kept(alloc, plan.file, firsts(alloc, items)?),
@@ -157,7 +157,7 @@ fn make_numbered(alloc: Global, plan: Plan, items: &[(&[u8], usize)]) -> Result<
 }
 
 /// Makes the file of those of the pairs that are kept. An error has their numbers in the input.
-fn make_from(alloc: Global, plan: Plan, items: &[(&[u8], usize)]) -> Result<Made, MakeError> {
+fn make_from(alloc: Global, plan: Plan<'_>, items: &[(&[u8], usize)]) -> Result<Made, MakeError> {
     match make_numbered(alloc, plan, items) {
         Ok(made) => Ok(made),
         Err(error) => Err(error_behind(plan.read.source.rows_before(), error)),
@@ -166,7 +166,7 @@ fn make_from(alloc: Global, plan: Plan, items: &[(&[u8], usize)]) -> Result<Made
 
 /// Makes the file of the pairs of an input that is no other file. It takes the input. If keys must be
 /// copied from it, it is freed before the build.
-fn make_text(alloc: Global, plan: Plan, input: Vec<u8>) -> Result<Made, MakeError> {
+fn make_text(alloc: Global, plan: Plan<'_>, input: Vec<u8>) -> Result<Made, MakeError> {
     if let Some(items) = items_in(alloc, plan.read, input.as_slice())? {
         return make_from(alloc, plan, items.as_slice());
     }
@@ -180,7 +180,7 @@ fn make_text(alloc: Global, plan: Plan, input: Vec<u8>) -> Result<Made, MakeErro
 ///
 /// ```
 /// let read = ReadPlan {
-///     source: Source::Text(Format::Tsv, LineEnd::CrLf, Header::Absent),
+///     source: Source::Text(TSV),
 ///     lower_case: false,
 ///     duplicates: Duplicates::Refuse,
 /// };
@@ -193,12 +193,13 @@ fn make_text(alloc: Global, plan: Plan, input: Vec<u8>) -> Result<Made, MakeErro
 /// let input = Vec::from_slice(rt.alloc(), b"ad\t2\nadef\t33\nad\t20\n")?;
 /// let made = make(rt.alloc(), Plan { read: summed, file }, input).map_err(|_| "refused")?;
 /// assert_eq!(rt; made.file.as_slice(), b"\x00ad\x90\x06ef\x90\x11".as_slice());
-/// let source = Source::Text(Format::Csv, LineEnd::CrLf, Header::Present);
+/// let csv = TextForm { format: Format::Csv, header: Header::Present, ..TSV };
+/// let source = Source::Text(csv);
 /// let input = Vec::from_slice(rt.alloc(), b"key,value\nad,22\nadef,33\n")?;
 /// let plan = Plan { read: ReadPlan { source, ..read }, file };
 /// let made = make(rt.alloc(), plan, input).map_err(|_| "refused")?;
 /// assert_eq!(rt; made.file.as_slice(), b"\x00ad\x90\x06ef\x90\x11".as_slice());
-/// let source = Source::Text(Format::Lines, LineEnd::CrLf, Header::Absent);
+/// let source = Source::Text(TextForm { format: Format::Lines, ..TSV });
 /// let read = ReadPlan { source, ..read };
 /// let input = Vec::from_slice(rt.alloc(), b"\xFF\xFEa\0\n\0")?;
 /// let why = MakeError::NotText(OtherFile::Utf16);
@@ -209,7 +210,7 @@ fn make_text(alloc: Global, plan: Plan, input: Vec<u8>) -> Result<Made, MakeErro
 /// `NotText` if the input is another file, `Line`, `NotJson`, `NotPairs` or `NotPair` if it is no
 /// pairs, `SumTooLarge` if the plan adds values and a sum is 2^64 or more, `Keys` if keys show why a
 /// build of the pairs fails, `Refused` or `IndexRefused` if it fails and none do, and `OutOfMemory`.
-pub fn make(alloc: Global, plan: Plan, input: Vec<u8>) -> Result<Made, MakeError> {
+pub fn make(alloc: Global, plan: Plan<'_>, input: Vec<u8>) -> Result<Made, MakeError> {
     match other_file(input.as_slice()) {
         Some(other) => Err(MakeError::NotText(other)),
         None => make_text(alloc, plan, input),

@@ -11,15 +11,13 @@ use crate::zerotrie_lines::{Table, read_items, read_pairs};
 
 /// Reads the pairs of an input, in their order, whose keys borrow it. `None` if `read_input` has to
 /// copy them.
-pub(in crate::zerotrie_making) fn items_in(
+pub(in crate::zerotrie_making) fn items_in<'a>(
     alloc: Global,
-    read: ReadPlan,
-    input: &[u8],
-) -> Result<Option<Vec<(&[u8], usize)>>, AllocError> {
+    read: ReadPlan<'_>,
+    input: &'a [u8],
+) -> Result<Option<Vec<(&'a [u8], usize)>>, AllocError> {
     match read.source {
-        Source::Text(format, end, header) if !read.lower_case => {
-            read_items(alloc, format, end, header, input)
-        }
+        Source::Text(form) if !read.lower_case => read_items(alloc, form, input),
         _ => Ok(None),
     }
 }
@@ -35,12 +33,16 @@ fn lowered(lower_case: bool, pairs: Table) -> Table {
 
 /// Reads the pairs of an input, in their order. If the plan says so, the ASCII letters of their keys
 /// become lower case.
-pub(in crate::zerotrie_making) fn read_input(alloc: Global, read: ReadPlan, input: &[u8]) -> Result<Table, MakeError> {
+pub(in crate::zerotrie_making) fn read_input(
+    alloc: Global,
+    read: ReadPlan<'_>,
+    input: &[u8],
+) -> Result<Table, MakeError> {
     match read.source {
-        Source::Text(format, end, header) => {
-            Ok(read_pairs(alloc, format, end, header, read.lower_case, input)?)
-        }
+        Source::Text(form) => Ok(read_pairs(alloc, form, read.lower_case, input)?),
         Source::Json => Ok(lowered(read.lower_case, read_json(alloc, input)?)),
-        Source::JsonLines => Ok(lowered(read.lower_case, read_json_lines(alloc, input)?)),
+        Source::JsonLines(names) => {
+            Ok(lowered(read.lower_case, read_json_lines(alloc, names, input)?))
+        }
     }
 }

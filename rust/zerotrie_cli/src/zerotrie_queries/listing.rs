@@ -5,6 +5,7 @@ use crate::rstd::prelude::*;
 
 mod distances;
 mod forms;
+mod greatest;
 mod json_object;
 mod listed;
 mod printable;
@@ -97,6 +98,7 @@ fn write_selection<W: Write>(
 /// let nearest = ListQuery {
 ///     choice,
 ///     order: Order::Nearest,
+///     top: None,
 ///     limit: None,
 /// };
 /// let mut lines = Noted::new(Vec::new(rt.alloc()));

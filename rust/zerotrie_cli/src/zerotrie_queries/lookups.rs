@@ -16,41 +16,49 @@ use crate::rstd::io::Write;
 use crate::zerotrie_core::{CommonPrefixes, Trie, TrieRef};
 use crate::zerotrie_files::Noted;
 use crate::zerotrie_index::{ReadAt, get, get_at};
-use crate::zerotrie_lines::{unescape, write_number};
+use crate::zerotrie_lines::unescape;
 
-/// Adds the lines of the keys to come that a text begins with, and returns how many there are.
+/// Returns whether a key of this length, with which a text begins, ends at a border of the text, if that is asked
+/// for.
+fn ends_at(border: Option<u8>, text: &[u8], len: usize) -> bool {
+    match (border, text.get(len)) {
+        (Some(delimiter), Some(next)) => len == 0 || delimiter == *next,
+        (Some(_), None) | (None, _) => true,
+    }
+}
+
+/// Adds the lines of the keys to come that a text begins with, or of those that end at a border. Returns whether
+/// there is one.
 fn add_fronts(
     lines: &mut Vec<u8>,
     text: &[u8],
+    border: Option<u8>,
     fronts: &mut CommonPrefixes<'_, '_>,
-) -> Result<usize, AllocError> {
-    let mut count: usize = 0;
+) -> Result<bool, AllocError> {
+    let mut found = false;
     while let Some((len, value)) = fronts.next() {
-        add_front(lines, text, len, value)?;
-        count += 1;
+        if ends_at(border, text, len) {
+            add_front(lines, text, len, value)?;
+            found = true;
+        }
     }
-    Ok(count)
+    Ok(found)
 }
 
-/// Adds a line that says how many keys a text begins with and the line of each, or `none`. Returns
+/// Adds the line of each key that a text begins with, or of those that end at a border, or `none`. Returns
 /// whether there is one.
 fn add_prefixes(
-    alloc: Global,
     text: &mut Vec<u8>,
     trie: &TrieRef<'_>,
+    border: Option<u8>,
     asked: &[u8],
 ) -> Result<bool, AllocError> {
-    let mut lines = Vec::new(alloc);
     let mut fronts = trie.common_prefixes(asked);
-    let count = add_fronts(&mut lines, asked, &mut fronts)?;
-    if count == 0 {
+    let found = add_fronts(text, asked, border, &mut fronts)?;
+    if !found {
         text.extend_from_slice(b"none\n")?;
-        return Ok(false);
     }
-    write_number(text, count)?;
-    text.extend_from_slice(b" found\n")?;
-    text.extend_from_slice(lines.as_slice())?;
-    Ok(true)
+    Ok(found)
 }
 
 /// Adds what a trie was asked of a text, and returns whether it was found.
@@ -82,7 +90,7 @@ fn add_trie_answer(
             add_found(line, text, found)?;
             Ok(found.is_some())
         }
-        Asked::Prefixes => add_prefixes(alloc, line, trie, text),
+        Asked::Prefixes(border) => add_prefixes(line, trie, border, text),
         Asked::KeyOf => add_key_by_scan(alloc, line, trie, text),
     }
 }
@@ -99,7 +107,7 @@ fn add_indexed(
             add_key_value(line, key, value)?;
             Ok(value.is_some())
         }
-        Asked::Value | Asked::Longest | Asked::LongestAt(_) | Asked::Prefixes | Asked::KeyOf => {
+        Asked::Value | Asked::Longest | Asked::LongestAt(_) | Asked::Prefixes(_) | Asked::KeyOf => {
             add_value(line, value)?;
             Ok(value.is_some())
         }
@@ -251,8 +259,7 @@ fn write_each<W: Write>(
 
 /// Writes the answer to each text: what was looked up, or `none`. Returns whether all was found.
 ///
-/// An answer is one line, but for `Asked::Prefixes`: then it is `none`, or a line with the number
-/// of keys, as `2 found`, and a line of each. A key is written with escapes, a tab and its value;
+/// An answer is one line, but for `Asked::Prefixes`: then it is `none`, or a line of each key. A key is written with escapes, a tab and its value;
 /// after the tab is `none` if `Asked::Pair` looked for an absent key. With `Spelling::Escaped` the
 /// answer is that to the bytes that the text spells, and a line `none` if an escape is malformed.
 /// `Asked::KeyOf` looks for a key in the order of the trie: a table finds each by a search, and a trie
@@ -276,7 +283,7 @@ pub fn write_answers<W: Write>(
         (Finder::Trie(_), Asked::Value, Spelling::Escaped)
         | (
             Finder::Trie(_),
-            Asked::Pair | Asked::Longest | Asked::LongestAt(_) | Asked::Prefixes | Asked::KeyOf,
+            Asked::Pair | Asked::Longest | Asked::LongestAt(_) | Asked::Prefixes(_) | Asked::KeyOf,
             Spelling::Plain | Spelling::Escaped,
         )
         | (Finder::Index(_) | Finder::Table(_), _, _) => write_each(

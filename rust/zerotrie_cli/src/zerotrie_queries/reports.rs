@@ -8,7 +8,7 @@ mod count;
 mod lines;
 mod object;
 
-use crate::zerotrie_queries::reports::lines::add_report;
+use crate::zerotrie_queries::reports::lines::{add_heading, add_report};
 use crate::zerotrie_queries::reports::object::add_report_object;
 pub use branches::Branches;
 pub use count::Report;
@@ -27,22 +27,32 @@ pub enum ReportForm {
     Json,
 }
 
-fn add_in_form(text: &mut Vec<u8>, form: ReportForm, report: &Report) -> Result<(), AllocError> {
+fn add_in_form(
+    text: &mut Vec<u8>,
+    form: ReportForm,
+    name: Option<&str>,
+    report: &Report,
+) -> Result<(), AllocError> {
     match form {
-        ReportForm::Lines => add_report(text, report),
-        ReportForm::Json => add_report_object(text, report),
+        ReportForm::Lines => {
+            add_heading(text, name)?;
+            add_report(text, report)
+        }
+        ReportForm::Json => add_report_object(text, name, report),
     }
 }
 
-/// Writes the report of a trie. If it fails, a beginning of it was written.
+/// Writes the report of a trie, with the name of its file if one is given: as a line in front, or as a member. If
+/// it fails, a beginning of it was written.
 pub fn write_trie_report<W: Write>(
     alloc: Global,
     trie: &TrieRef<'_>,
     form: ReportForm,
+    name: Option<&str>,
     output: &mut Noted<W>,
 ) -> io::Result<()> {
     let report = Report::of(alloc, trie)?;
     let mut text = Vec::new(alloc);
-    add_in_form(&mut text, form, &report)?;
+    add_in_form(&mut text, form, name, &report)?;
     output.write_bytes(text.as_slice())
 }

@@ -8,7 +8,7 @@ use crate::zerotrie_run::found::write_found;
 use crate::zerotrie_run::front::{Hint, hint_of, refused_by_front};
 use crate::zerotrie_run::messages::ask::tell_number;
 use crate::zerotrie_run::open::{asks_index, open_index, open_trie};
-use crate::zerotrie_run::place::read_place;
+use crate::zerotrie_run::place::{open_place, read_opened};
 use crate::zerotrie_run::status::Status;
 use crate::zerotrie_run::stdin_lines::{AnswerError, answer_lines};
 use crate::rstd::alloc::Global;
@@ -111,7 +111,7 @@ fn answer_by_trie<R: Read, W: Write>(
         (Asked::KeyOf, Keys::Lines) => answer_by_table(alloc, trie, query, input, output),
         (Asked::KeyOf, Keys::Words(_))
         | (
-            Asked::Value | Asked::Pair | Asked::Longest | Asked::LongestAt(_) | Asked::Prefixes,
+            Asked::Value | Asked::Pair | Asked::Longest | Asked::LongestAt(_) | Asked::Prefixes(_),
             Keys::Words(_) | Keys::Lines,
         ) => {
             let finder = Finder::Trie(*trie);
@@ -145,8 +145,8 @@ fn answer<R: Read, W: Write>(
             Ok(true)
         }
         Question::Verify => Ok(true),
-        Question::Report(form) => {
-            write_trie_report(alloc, trie, form, output)?;
+        Question::Report(form, name) => {
+            write_trie_report(alloc, trie, form, name, output)?;
             Ok(true)
         }
         Question::View(view) => {
@@ -173,7 +173,7 @@ fn answer_of_index<R: Read, W: Write>(
         Question::List(_, _)
         | Question::Code(_, _)
         | Question::Verify
-        | Question::Report(_)
+        | Question::Report(_, _)
         | Question::View(_) => Ok(true),
     }
 }
@@ -219,14 +219,18 @@ pub fn ask<D: Disk, R: Read, W: Write, M: Write>(
     output: &mut Noted<BufWriter<W>>,
     messages: &mut Noted<M>,
 ) -> Result<bool, AskError> {
-    if let Some((text, all)) = answer_at_places(alloc, file, question, files.disk()) {
+    let opened = match open_place(file.place, files) {
+        Ok(opened) => opened,
+        Err(error) => return Err(AskError::Unread(error)),
+    };
+    if let Some((text, all)) = answer_at_places(alloc, file, question, &opened) {
         print(text.as_slice(), output)?;
         return Ok(all);
     }
-    if let Some((why, hint)) = refused_by_front(file, asks_index(question), files.disk()) {
+    if let Some((why, hint)) = refused_by_front(file, asks_index(question), &opened) {
         return Err(AskError::NoTrie(why, hint));
     }
-    let held = match read_place(alloc, file.place, files, input) {
+    let held = match read_opened(alloc, opened, files, input) {
         Ok(held) => held,
         Err(error) => return Err(AskError::Unread(error)),
     };

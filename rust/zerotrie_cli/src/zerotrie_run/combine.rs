@@ -1,113 +1,37 @@
 // Made from crates/zerotrie_run/src/combine.rt by rust/make: edit that.
-//! A file that is made of the tries of others.
+//! A file of the tries of others.
 
 use crate::rstd::prelude::*;
-use crate::zerotrie_run::build::{BuildError, spare};
-use crate::zerotrie_run::command::{Combine, Place};
-use crate::zerotrie_run::front::{Hint, hint_of, refused_by_front};
-use crate::zerotrie_run::messages::build::tell_removed;
-use crate::zerotrie_run::messages::combine::{combined_text, file_of};
-use crate::zerotrie_run::messages::line::tell;
+use crate::zerotrie_run::command::Place;
+use crate::zerotrie_run::front::hint_of;
+use crate::zerotrie_run::making::MakingError;
 use crate::zerotrie_run::open::open_in_full;
-use crate::zerotrie_run::place::{read_place, write_place};
-use crate::zerotrie_run::status::Status;
-use crate::rstd::alloc::{AllocError, AllocFailed, Global};
-use crate::rstd::io;
-use crate::rstd::io::{BufWriter, Read, Write};
+use crate::rstd::alloc::Global;
 use crate::zerotrie_core::{TrieKind, TrieRef};
-use crate::zerotrie_files::{Disk, Noted, Store};
-use crate::zerotrie_making::{CombinationError, Made, MakeError, kind_kept, make_combined};
-use crate::zerotrie_queries::OpenError;
-use crate::zerotrie_sets::RuleError;
+use crate::zerotrie_making::{Combination, Made, kind_kept, make_combined};
 
-/// Why no file is made of the tries of others.
-#[derive(Debug)]
-pub enum CombineError {
-    /// The file with this number, from 0 on, can't be read.
-    Unopened(usize, io::Error),
-    /// The file with this number has no trie, and looks so.
-    NoTrie(usize, OpenError, Hint),
-    /// This key is taken, and gets no value: why.
-    NoValue(RuleError, Vec<u8>),
-    /// No file is made of the pairs that are taken, or it can't be written.
-    NotBuilt(BuildError),
-}
-
-impl CombineError {
-    /// Returns how the run ends if the command is refused. `None` if something failed.
-    pub fn refusal(&self) -> Option<Status> {
-        match self {
-            CombineError::Unopened(_, _) => None,
-            CombineError::NoTrie(_, why, _) => match why {
-                OpenError::BadTag(_) | OpenError::Damaged(_) | OpenError::NotWellFormed(_, _) => {
-                    Some(Status::BadInput)
-                }
-                OpenError::OutOfMemory => None,
-            },
-            CombineError::NoValue(_, _) => Some(Status::Refused),
-            CombineError::NotBuilt(error) => error.refusal(),
-        }
-    }
-}
-
-impl From<BuildError> for CombineError {
-    fn from(error: BuildError) -> Self {
-        CombineError::NotBuilt(error)
-    }
-}
-
-impl From<AllocError> for CombineError {
-    fn from(_: AllocError) -> Self {
-        CombineError::NotBuilt(BuildError::NotMade(MakeError::OutOfMemory))
-    }
-}
-
-impl<T> From<AllocFailed<T>> for CombineError {
-    fn from(_: AllocFailed<T>) -> Self {
-        CombineError::NotBuilt(BuildError::NotMade(MakeError::OutOfMemory))
-    }
-}
-
-/// Returns the number of the first file whose first bytes show that it has no trie, and why.
-fn refused_in<D: Disk>(from: &[Place<'_>], disk: &D) -> Option<(usize, OpenError, Hint)> {
-    for number in 0..from.len() {
-        if let Some((why, hint)) = refused_by_front(file_of(from[number]), false, disk) {
-            return Some((number, why, hint));
-        }
-    }
-    None
-}
-
-/// Reads all files, of which at most one is standard input.
-fn read_all<D: Disk, R: Read>(
+/// Opens the trie in the bytes of a file, and validates them.
+fn open_one<'a, 'h>(
     alloc: Global,
-    places: &[Place<'_>],
-    files: &mut Store<D>,
-    input: &mut Noted<R>,
-) -> Result<Vec<Vec<u8>>, CombineError> {
-    let mut held = Vec::with_capacity(alloc, places.len())?;
-    for number in 0..places.len() {
-        match read_place(alloc, places[number], files, input) {
-            Ok(bytes) => held.push(bytes)?,
-            Err(error) => return Err(CombineError::Unopened(number, error)),
-        }
-    }
-    Ok(held)
-}
-
-/// Opens the trie that the file with this number holds, and validates its bytes.
-fn open_one(alloc: Global, number: usize, held: &[u8]) -> Result<TrieRef<'_>, CombineError> {
+    place: Place<'a>,
+    held: &'h [u8],
+) -> Result<TrieRef<'h>, MakingError<'a>> {
     match open_in_full(alloc, None, held) {
         Ok(trie) => Ok(trie),
-        Err(why) => Err(CombineError::NoTrie(number, why, hint_of(held))),
+        Err(why) => Err(MakingError::NoTrie(place, why, hint_of(held))),
     }
 }
 
 /// Opens the trie that each file holds.
-fn open_all(alloc: Global, held: &[Vec<u8>]) -> Result<Vec<TrieRef<'_>>, CombineError> {
+fn open_all<'a, 'h>(
+    alloc: Global,
+    from: &[Place<'a>],
+    held: &'h [Vec<u8>],
+) -> Result<Vec<TrieRef<'h>>, MakingError<'a>> {
     let mut tries = Vec::with_capacity(alloc, held.len())?;
     for number in 0..held.len() {
-        match open_one(alloc, number, held[number].as_slice()) {
+        let place = from[number];
+        match open_one(alloc, place, held[number].as_slice()) {
             Ok(trie) => tries.push(trie)?,
             Err(error) => return Err(error),
         }
@@ -120,48 +44,16 @@ fn have_several_kinds(named: Option<TrieKind>, tries: &[TrieRef<'_>]) -> bool {
     !tries.is_empty() && kind_kept(named, tries).is_none()
 }
 
-/// Makes the new file of what the files hold, and returns whether no kind is named for it and their
-/// tries have several.
-fn combine_held(
+/// Makes a file of what files hold, and returns whether no kind is named for it and their tries have
+/// several.
+pub fn combine<'a>(
     alloc: Global,
-    combine: Combine<'_>,
+    combination: Combination,
+    from: &[Place<'a>],
     held: &[Vec<u8>],
-) -> Result<(Made, bool), CombineError> {
-    let tries = open_all(alloc, held)?;
-    let several = have_several_kinds(combine.combination.kind, tries.as_slice());
-    match make_combined(alloc, combine.combination, tries.as_slice()) {
-        Ok(made) => Ok((made, several)),
-        Err(CombinationError::NoValue(why, key)) => Err(CombineError::NoValue(why, key)),
-        Err(CombinationError::NotMade(error)) => {
-            Err(CombineError::NotBuilt(BuildError::NotMade(error)))
-        }
-    }
-}
-
-/// Makes a file of the tries of others, and writes it to its place, unless there is a file already
-/// that is to be left as it is. It reports that at the end, as its summary says, and then how many files
-/// of killed builds were removed.
-pub fn combine<D: Disk, R: Read, W: Write, M: Write>(
-    alloc: Global,
-    combine: Combine<'_>,
-    files: &mut Store<D>,
-    input: &mut Noted<R>,
-    output: &mut Noted<BufWriter<W>>,
-    messages: &mut Noted<M>,
-) -> Result<(), CombineError> {
-    spare(combine.to, combine.no_clobber, files)?;
-    if let Some((number, why, hint)) = refused_in(combine.from, files.disk()) {
-        return Err(CombineError::NoTrie(number, why, hint));
-    }
-    let held = read_all(alloc, combine.from, files, input)?;
-    let (made, several) = combine_held(alloc, combine, held.as_slice())?;
-    let done = combined_text(alloc, combine, several, &made)?;
-    match write_place(alloc, combine.to, made.file.as_slice(), files, output) {
-        Ok(removed) => {
-            tell(messages, done.as_slice());
-            tell_removed(alloc, messages, combine.summary, combine.to, removed);
-            Ok(())
-        }
-        Err(error) => Err(CombineError::NotBuilt(BuildError::Unwritten(error))),
-    }
+) -> Result<(Made, bool), MakingError<'a>> {
+    let tries = open_all(alloc, from, held)?;
+    let several = have_several_kinds(combination.kind, tries.as_slice());
+    let made = make_combined(alloc, combination, tries.as_slice())?;
+    Ok((made, several))
 }

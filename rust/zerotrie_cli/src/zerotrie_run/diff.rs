@@ -4,17 +4,17 @@
 use crate::rstd::prelude::*;
 use crate::zerotrie_run::ask::AskError;
 use crate::zerotrie_run::command::{Check, Diff, TrieFile};
-use crate::zerotrie_run::front::{Hint, hint_of, refused_by_front};
+use crate::zerotrie_run::front::{hint_of, refused_by_front};
 use crate::zerotrie_run::messages::ask::tell_number;
 use crate::zerotrie_run::open::open_in_full;
-use crate::zerotrie_run::place::read_place;
+use crate::zerotrie_run::place::{open_place, read_opened};
 use crate::zerotrie_run::stdin_lines::AnswerError;
 use crate::rstd::alloc::Global;
 use crate::rstd::io;
 use crate::rstd::io::{BufWriter, Read, Write};
 use crate::zerotrie_core::TrieRef;
 use crate::zerotrie_files::{Disk, Noted, Store};
-use crate::zerotrie_queries::{OpenError, write_diff};
+use crate::zerotrie_queries::write_diff;
 
 /// Why two files are not compared, and which of them shows it.
 #[derive(Debug)]
@@ -41,18 +41,7 @@ fn new_file<'a>(diff: Diff<'a>) -> TrieFile<'a> {
     }
 }
 
-/// Returns the first of the two files that has no trie, if its first bytes show it, and why.
-fn refused_in<'a, D: Disk>(diff: Diff<'a>, disk: &D) -> Option<(TrieFile<'a>, OpenError, Hint)> {
-    let old = old_file(diff);
-    if let Some((why, hint)) = refused_by_front(old, false, disk) {
-        return Some((old, why, hint));
-    }
-    let new = new_file(diff);
-    let (why, hint) = refused_by_front(new, false, disk)?;
-    Some((new, why, hint))
-}
-
-/// Reads a file. If it is read as bare bytes and begins with the number of a kind, a message says
+/// Reads a file, unless its first bytes show that it has no trie. If it is read as bare bytes and begins with the number of a kind, a message says
 /// so.
 fn read_file<'a, D: Disk, R: Read, M: Write>(
     alloc: Global,
@@ -61,7 +50,22 @@ fn read_file<'a, D: Disk, R: Read, M: Write>(
     input: &mut Noted<R>,
     messages: &mut Noted<M>,
 ) -> Result<Vec<u8>, DiffError<'a>> {
-    let held = match read_place(alloc, file.place, files, input) {
+    let opened = match open_place(file.place, files) {
+        Ok(opened) => opened,
+        Err(error) => {
+            return Err(DiffError {
+                file,
+                error: AskError::Unread(error),
+            });
+        }
+    };
+    if let Some((why, hint)) = refused_by_front(file, false, &opened) {
+        return Err(DiffError {
+            file,
+            error: AskError::NoTrie(why, hint),
+        });
+    }
+    let held = match read_opened(alloc, opened, files, input) {
         Ok(held) => held,
         Err(error) => {
             return Err(DiffError {
@@ -142,12 +146,6 @@ pub fn compare<'a, D: Disk, R: Read, W: Write, M: Write>(
     output: &mut Noted<BufWriter<W>>,
     messages: &mut Noted<M>,
 ) -> Result<bool, DiffError<'a>> {
-    if let Some((file, why, hint)) = refused_in(diff, files.disk()) {
-        return Err(DiffError {
-            file,
-            error: AskError::NoTrie(why, hint),
-        });
-    }
     let held = read_file(alloc, old_file(diff), files, input, messages)?;
     let other = read_file(alloc, new_file(diff), files, input, messages)?;
     compare_and_hand_on(alloc, diff, held.as_slice(), other.as_slice(), output)

@@ -11,11 +11,15 @@ use crate::zerotrie_queries::{Form, ListError, ListQuery, Style, write_list};
 
 /// Returns whether a listing has a pair: it reads up to the first one.
 fn finds_pair(alloc: Global, trie: &TrieRef<'_>, selection: ListQuery<'_>) -> io::Result<bool> {
+    if selection.top == Some(0) {
+        return Ok(false);
+    }
     if selection.limit == Some(0) {
         return Ok(false);
     }
     let mut lines = Noted::new(Vec::new(alloc));
     let first = ListQuery {
+        top: None,
         limit: Some(1),
         ..selection
     };

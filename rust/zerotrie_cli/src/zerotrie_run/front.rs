@@ -1,9 +1,10 @@
 // Made from crates/zerotrie_run/src/front.rt by rust/make: edit that.
 //! What the first bytes of a file show: that it has no trie, and what it looks like.
 
-use crate::zerotrie_run::command::{Place, TrieFile};
+use crate::zerotrie_run::command::TrieFile;
+use crate::zerotrie_run::place::Opened;
 use crate::zerotrie_core::TrieKind;
-use crate::zerotrie_files::{Disk, Found};
+use crate::zerotrie_files::OpenFile;
 use crate::zerotrie_making::{OtherFile, other_file};
 use crate::zerotrie_queries::{OpenError, looks_like_text, open_unchecked};
 use crate::zerotrie_sealed::{SealError, is_index_number};
@@ -93,20 +94,16 @@ fn refusal_of_front(named: Option<TrieKind>, takes_index: bool, front: &[u8]) ->
 
 /// Returns why a large file has no trie, nor an index if one is taken, and what it looks like, if its first
 /// bytes show it: only they are read then. `None` if all of it is to be read, also after a fault.
-pub fn refused_by_front<D: Disk>(
+pub fn refused_by_front<F: OpenFile>(
     file: TrieFile<'_>,
     takes_index: bool,
-    disk: &D,
+    opened: &Opened<F>,
 ) -> Option<(OpenError, Hint)> {
-    let Place::File(path) = file.place else {
+    let Opened::File(open) = opened else {
         return None;
     };
-    match disk.find(path) {
-        Ok(Found::File(_)) => {}
-        Ok(Found::Nothing | Found::Folder | Found::Stream) | Err(_) => return None,
-    }
     let mut front = [0; FRONT_LEN + 1];
-    match disk.read_at(path, 0, &mut front) {
+    match open.read_part(0, &mut front) {
         Ok(()) => {}
         Err(_) => return None,
     }

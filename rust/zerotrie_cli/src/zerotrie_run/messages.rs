@@ -3,7 +3,6 @@
 
 pub mod ask;
 pub mod build;
-pub mod combine;
 pub mod key;
 pub mod line;
 pub mod pairs;

@@ -8,17 +8,43 @@ use crate::rstd::io;
 use crate::rstd::io::{BufWriter, Read, Write};
 use crate::zerotrie_files::{Disk, Noted, Store};
 
-/// Reads all bytes of a place.
+/// A place that is open to be read.
+pub enum Opened<F> {
+    File(F),
+    /// Standard input.
+    Stream,
+}
+
+/// Opens a place to be read.
+pub fn open_place<D: Disk>(place: Place<'_>, files: &mut Store<D>) -> io::Result<Opened<D::File>> {
+    match place {
+        Place::File(path) => Ok(Opened::File(files.open(path)?)),
+        Place::Stream => Ok(Opened::Stream),
+    }
+}
+
+/// Reads all bytes of an open place.
+pub fn read_opened<D: Disk, R: Read>(
+    alloc: Global,
+    opened: Opened<D::File>,
+    files: &mut Store<D>,
+    input: &mut Noted<R>,
+) -> io::Result<Vec<u8>> {
+    match opened {
+        Opened::File(file) => files.read(alloc, file),
+        Opened::Stream => input.read_all(alloc),
+    }
+}
+
+/// Opens a place and reads all of its bytes.
 pub fn read_place<D: Disk, R: Read>(
     alloc: Global,
     place: Place<'_>,
     files: &mut Store<D>,
     input: &mut Noted<R>,
 ) -> io::Result<Vec<u8>> {
-    match place {
-        Place::File(path) => files.read(path),
-        Place::Stream => input.read_all(alloc),
-    }
+    let opened = open_place(place, files)?;
+    read_opened(alloc, opened, files, input)
 }
 
 /// Writes bytes to a place: replaces its file, or prints them and flushes the buffer. If that

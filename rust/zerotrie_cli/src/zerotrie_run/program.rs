@@ -3,11 +3,10 @@
 
 use crate::rstd::prelude::*;
 use crate::zerotrie_run::ask::ask;
-use crate::zerotrie_run::build::build;
-use crate::zerotrie_run::combine::combine;
 use crate::zerotrie_run::command::{Command, reads_twice};
 use crate::zerotrie_run::diff::compare;
 use crate::zerotrie_run::error::CommandError;
+use crate::zerotrie_run::making::{Making, Recipe, make_file};
 use crate::zerotrie_run::messages::line::{NO_MEMORY, tell, twice_line};
 use crate::zerotrie_run::status::Status;
 use crate::rstd::alloc::{AllocError, Global};
@@ -79,10 +78,20 @@ fn carry_out<'a, D: Disk, R: Read, W: Write, M: Write>(
     messages: &mut Noted<M>,
 ) -> Result<bool, CommandError<'a>> {
     match command {
-        Command::Build(plan) => match build(alloc, plan, files, input, output, messages) {
-            Ok(()) => Ok(true),
-            Err(error) => Err(CommandError::Build(plan, error)),
-        },
+        Command::Build(build) => {
+            let from = [build.from];
+            let making = Making {
+                from: &from,
+                recipe: Recipe::Pairs(build.plan),
+                to: build.to,
+                no_clobber: build.no_clobber,
+                summary: build.summary,
+            };
+            match make_file(alloc, making, files, input, output, messages) {
+                Ok(()) => Ok(true),
+                Err(error) => Err(CommandError::Build(build, error)),
+            }
+        }
         Command::Ask(file, question) => {
             match ask(alloc, file, question, files, input, output, messages) {
                 Ok(all) => Ok(all),
@@ -93,10 +102,19 @@ fn carry_out<'a, D: Disk, R: Read, W: Write, M: Write>(
             Ok(same) => Ok(same),
             Err(error) => Err(CommandError::Diff(diff, error)),
         },
-        Command::Combine(given) => match combine(alloc, given, files, input, output, messages) {
-            Ok(()) => Ok(true),
-            Err(error) => Err(CommandError::Combine(given, error)),
-        },
+        Command::Combine(combine) => {
+            let making = Making {
+                from: combine.from,
+                recipe: Recipe::Tries(combine.combination),
+                to: combine.to,
+                no_clobber: combine.no_clobber,
+                summary: combine.summary,
+            };
+            match make_file(alloc, making, files, input, output, messages) {
+                Ok(()) => Ok(true),
+                Err(error) => Err(CommandError::Combine(combine, error)),
+            }
+        }
     }
 }
 
@@ -110,7 +128,8 @@ fn carry_out<'a, D: Disk, R: Read, W: Write, M: Write>(
 /// `Closed` only if a replacement of a file or a write to the output did: in `Closed` if it failed
 /// because the reader has closed the pipe. If nothing failed, it ends by itself or in `OutOfMemory`.
 /// If one of these did, its number is 3 or 4: otherwise nothing failed that the files and streams
-/// note. A message that can't be written changes nothing.
+/// note. A message that can't be written changes nothing. It opens no more files to read than the command
+/// names.
 ///
 /// After success, or if a key is absent, no pair is listed or pairs differ, the buffer is flushed if it
 /// was empty before. The only messages are then what a build or a combination made, as its summary says,

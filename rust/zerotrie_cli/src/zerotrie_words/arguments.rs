@@ -7,6 +7,7 @@ use crate::rstd::clap::{Arg, ArgAction, Command};
 use crate::rstd::alloc::{AllocError, Global};
 
 /// What holds if an option is left out.
+#[derive(Clone, Copy)]
 pub enum Otherwise {
     /// The words are no command.
     Refused,
@@ -49,6 +50,9 @@ pub struct Subcommand {
     pub help: &'static str,
     pub arguments: &'static [Argument],
 }
+
+/// Rows of commands, in parts.
+pub type Rows<'a> = &'a [&'static [Subcommand]];
 
 /// Returns an option with what holds if it is left out.
 fn or_otherwise<'a>(option: Arg<'a>, otherwise: &Otherwise) -> Arg<'a> {
@@ -134,7 +138,7 @@ fn with_commands<'a>(
 }
 
 /// Returns what the command line may be, by rows of commands.
-pub fn program<'a>(alloc: Global, rows: &[&'static [Subcommand]]) -> Result<Command<'a>, AllocError> {
+pub fn program<'a>(alloc: Global, rows: Rows<'_>) -> Result<Command<'a>, AllocError> {
     let mut program = Command::new(alloc, "zerotrie")
         .bin_name("zerotrie")?
         .version(VERSION)

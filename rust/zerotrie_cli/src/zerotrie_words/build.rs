@@ -6,9 +6,15 @@ use crate::zerotrie_words::misuse::Misuse;
 use crate::zerotrie_words::names::{kind_of, place_of, source_of};
 use crate::zerotrie_words::options::{BuildOptions, MakeOptions};
 use crate::zerotrie_core::TrieKind;
-use crate::zerotrie_lines::{Format, Header, LineEnd};
+use crate::zerotrie_lines::{Format, Header, LineEnd, Names, TextForm};
 use crate::zerotrie_making::{Duplicates, FileForm, FilePlan, Plan, ReadPlan, Source};
 use crate::zerotrie_run::{Build, Place, Summary};
+
+/// The members of a pair in a line of JSON, if none are named.
+const MEMBERS: Names<'static> = Names {
+    key: "key",
+    value: "value",
+};
 
 /// Returns the line end with this name, or `None` if no line end has it.
 fn end_named(name: &str) -> Option<LineEnd> {
@@ -100,31 +106,52 @@ impl<'a> BuildOptions<'a> {
         }
     }
 
-    /// Returns whether a header is in front of an input of this format.
-    fn header(&self, input: Input) -> Result<Header, Misuse> {
-        match (self.header, input) {
-            (false, _) => Ok(Header::Absent),
-            (true, Input::Tsv | Input::Csv) => Ok(Header::Present),
-            (true, Input::Lines | Input::Json | Input::JsonLines) => Err(Misuse::HeaderIsOfColumns),
+    /// Returns the names of the columns or members of the pairs, if they are given.
+    fn names(&self, input: Input) -> Result<Option<Names<'a>>, Misuse> {
+        match (self.key, self.value, input) {
+            (None, None, _) => Ok(None),
+            (Some(_), None, _) | (None, Some(_), _) => Err(Misuse::OneName),
+            (Some(key), Some(value), Input::Tsv | Input::Csv | Input::JsonLines) => {
+                Ok(Some(Names { key, value }))
+            }
+            (Some(_), Some(_), Input::Lines | Input::Json) => Err(Misuse::NamesAreOfColumns),
+        }
+    }
+
+    /// Returns whether a header is in front of an input of this format. Named columns have one.
+    fn header(&self, input: Input, names: Option<Names<'a>>) -> Result<Header<'a>, Misuse> {
+        match (input, self.header, names) {
+            (Input::Tsv | Input::Csv, _, Some(names)) => Ok(Header::Named(names)),
+            (Input::Tsv | Input::Csv, true, None) => Ok(Header::Present),
+            (_, false, _) => Ok(Header::Absent),
+            (Input::Lines | Input::Json | Input::JsonLines, true, _) => {
+                Err(Misuse::HeaderIsOfColumns)
+            }
         }
     }
 
     /// Returns how the input is pairs. Only `tsv` is raw.
-    fn source(&self) -> Result<Source, Misuse> {
+    fn source(&self) -> Result<Source<'a>, Misuse> {
         let input = self.format()?;
         let end = self.end(input)?;
-        let header = self.header(input)?;
-        match (input, self.raw) {
-            (Input::Tsv, true) => Ok(Source::Text(Format::TsvRaw, end, header)),
-            (Input::Tsv, false) => Ok(Source::Text(Format::Tsv, end, header)),
-            (Input::Csv, false) => Ok(Source::Text(Format::Csv, end, header)),
-            (Input::Lines, false) => Ok(Source::Text(Format::Lines, end, header)),
-            (Input::Json, false) => Ok(Source::Json),
-            (Input::JsonLines, false) => Ok(Source::JsonLines),
-            (Input::Csv | Input::Lines | Input::Json | Input::JsonLines, true) => Err(
-                Misuse::RawIsTsv,
-            ),
-        }
+        let names = self.names(input)?;
+        let header = self.header(input, names)?;
+        let format = match (input, self.raw) {
+            (Input::Tsv, true) => Format::TsvRaw,
+            (Input::Tsv, false) => Format::Tsv,
+            (Input::Csv, false) => Format::Csv,
+            (Input::Lines, false) => Format::Lines,
+            (Input::Json, false) => return Ok(Source::Json),
+            (Input::JsonLines, false) => return Ok(Source::JsonLines(names.unwrap_or(MEMBERS))),
+            (Input::Csv | Input::Lines | Input::Json | Input::JsonLines, true) => {
+                return Err(Misuse::RawIsTsv);
+            }
+        };
+        Ok(Source::Text(TextForm {
+            format,
+            end,
+            header,
+        }))
     }
 
     /// Returns what becomes of a key that comes again.
@@ -136,7 +163,7 @@ impl<'a> BuildOptions<'a> {
     }
 
     /// Returns how the file is to be made.
-    fn plan(&self) -> Result<Plan, Misuse> {
+    fn plan(&self) -> Result<Plan<'a>, Misuse> {
         let (kind, form) = self.make.content()?;
         Ok(Plan {
             read: ReadPlan {

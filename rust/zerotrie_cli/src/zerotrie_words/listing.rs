@@ -21,6 +21,11 @@ fn form_named(name: &str) -> Option<Form> {
     }
 }
 
+/// Returns how pairs are printed that are to be printed so: if none is to be, as their number.
+fn form_shown(quiet: bool, named: Form) -> Form {
+    if quiet { Form::Count } else { named }
+}
+
 /// Returns the order of pairs by flags. What is only to be counted needs none.
 fn order_by(count: bool, sorted: bool) -> Order {
     match (count, sorted) {
@@ -52,7 +57,7 @@ fn most_of(quiet: bool, limit: Option<usize>) -> Option<usize> {
 
 impl<'a> ListOptions<'a> {
     /// Returns how pairs are to be printed.
-    pub fn form(&self) -> Result<Form, Misuse> {
+    fn named_form(&self) -> Result<Form, Misuse> {
         match (self.count, self.raw, self.format) {
             (true, false, None) => Ok(Form::Count),
             (true, _, _) => Err(Misuse::CountWithForm),
@@ -60,6 +65,22 @@ impl<'a> ListOptions<'a> {
             (false, true, Some(_)) => Err(Misuse::RawIsTsv),
             (false, false, None) => Ok(Form::Lines(Style::Tsv)),
             (false, false, Some(name)) => form_named(name).ok_or(Misuse::UnknownWord),
+        }
+    }
+
+    /// Returns how pairs are printed: if none is to be, as their number, which any key allows.
+    pub fn form(&self) -> Result<Form, Misuse> {
+        let named = self.named_form()?;
+        Ok(form_shown(self.quiet, named))
+    }
+
+    /// Returns how many pairs of the greatest values are listed, if only these are. It is an error if there is
+    /// a limit, too.
+    pub fn top(&self) -> Result<Option<usize>, Misuse> {
+        match (self.top, self.limit) {
+            (None, _) => Ok(None),
+            (Some(_), None) => limit_of(self.top),
+            (Some(_), Some(_)) => Err(Misuse::TopAndLimit),
         }
     }
 
@@ -105,6 +126,7 @@ impl<'a> ListOptions<'a> {
         let query = ListQuery {
             choice: self.choice()?,
             order: order_by(self.count, sorted),
+            top: self.top()?,
             limit: self.most()?,
         };
         Ok(Question::List(form, query))

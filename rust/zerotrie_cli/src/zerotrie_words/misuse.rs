@@ -38,6 +38,10 @@ pub enum Misuse {
     EndOfJson,
     /// `--header` is given for a format without columns.
     HeaderIsOfColumns,
+    /// Only one of `--key` and `--value` is given.
+    OneName,
+    /// `--key` and `--value` are given for a format without columns and members.
+    NamesAreOfColumns,
     /// `--tagged` and `--bare` are both given.
     TaggedAndBare,
     /// `--index` is given with `--tagged` or `--bare`.
@@ -52,8 +56,8 @@ pub enum Misuse {
     HyphenAmongKeys,
     /// The word of `--at` is not one byte.
     NoBorder,
-    /// `--all` and `--at` are both given.
-    AllAndAt,
+    /// `--top` and `--limit` are both given.
+    TopAndLimit,
     /// `--limit` is given for a dump.
     LimitOfDump,
     /// `--alone` is given for another language than C.
@@ -117,6 +121,8 @@ impl Misuse {
             }
             Misuse::EndOfJson => "--eol is for lines and records: leave it out for json and jsonl",
             Misuse::HeaderIsOfColumns => "--header is for tsv and csv",
+            Misuse::OneName => "--key and --value go together",
+            Misuse::NamesAreOfColumns => "--key and --value are for tsv, csv and jsonl",
             Misuse::TaggedAndBare => "--tagged and --bare exclude each other",
             Misuse::IndexExcludes => "--index excludes --tagged and --bare",
             Misuse::IndexHasNoKind => "an index has no kind: leave out --kind or --index",
@@ -125,7 +131,7 @@ impl Misuse {
             Misuse::HyphenAmongKeys =>
                 "- reads standard input only if no other key, text or value is given; the key - is \\x2d with --escaped",
             Misuse::NoBorder => "--at asks for one byte",
-            Misuse::AllAndAt => "--all and --at exclude each other",
+            Misuse::TopAndLimit => "--top and --limit exclude each other",
             Misuse::LimitOfDump => "--limit is for inspect dot",
             Misuse::AloneIsC => "--alone is for --lang c",
             Misuse::BadName => "--name asks for ASCII letters, digits and _, and no digit in front",

@@ -51,12 +51,12 @@ fn nth_file<'a>(matches: &ArgMatches<'a>, number: usize) -> Option<&'a str> {
     files.get(number).copied()
 }
 
-/// Returns the name of the file with this number, if it has to be in front of a report on it: of
-/// several files, unless the report is JSON.
-pub fn heading_in<'a>(matches: &ArgMatches<'a>, number: usize) -> Option<&'a str> {
-    match report_in(matches) {
-        ReportForm::Lines if file_count(matches) > 1 => nth_file(matches, number),
-        ReportForm::Lines | ReportForm::Json => None,
+/// Returns the name of the file with this number, if a report has to say it: of several files.
+fn name_told<'a>(matches: &ArgMatches<'a>, number: usize) -> Option<&'a str> {
+    if file_count(matches) > 1 {
+        nth_file(matches, number)
+    } else {
+        None
     }
 }
 
@@ -110,13 +110,12 @@ fn border_in(matches: &ArgMatches<'_>) -> Result<Option<u8>, Misuse> {
     }
 }
 
-/// Returns what is asked of texts. It is an error if options exclude each other.
+/// Returns what is asked of texts. It is an error if the word of `--at` is not one byte.
 fn longest_in(matches: &ArgMatches<'_>) -> Result<Asked, Misuse> {
     match (matches.get_flag("all"), border_in(matches)?) {
+        (true, border) => Ok(Asked::Prefixes(border)),
         (false, None) => Ok(Asked::Longest),
-        (true, None) => Ok(Asked::Prefixes),
         (false, Some(byte)) => Ok(Asked::LongestAt(byte)),
-        (true, Some(_)) => Err(Misuse::AllAndAt),
     }
 }
 
@@ -154,11 +153,12 @@ fn query_in(matches: &ArgMatches<'_>, asked: Asked) -> Query {
     }
 }
 
-/// Returns the question of a command. It is an error if an option has a wrong
+/// Returns the question of a command to the file with this number. It is an error if an option has a wrong
 /// word.
 fn question_in<'w, 'a: 'w>(
     matches: &ArgMatches<'a>,
     topic: Topic,
+    number: usize,
     words: &'w Option<Vec<&'a [u8]>>,
 ) -> Result<Question<'w>, Misuse> {
     match topic {
@@ -180,7 +180,7 @@ fn question_in<'w, 'a: 'w>(
         Topic::List => ListOptions::of(matches).question(matches.get_flag("sorted")),
         Topic::Search => SearchOptions::of(matches).question(),
         Topic::Verify => Ok(Question::Verify),
-        Topic::Stats => Ok(Question::Report(report_in(matches))),
+        Topic::Stats => Ok(Question::Report(report_in(matches), name_told(matches, number))),
         Topic::Inspect => Ok(Question::View(view_in(matches)?)),
         Topic::Code => CodeOptions::of(matches).question(),
     }
@@ -195,6 +195,6 @@ pub fn ask_in<'w, 'a: 'w>(
     words: &'w Option<Vec<&'a [u8]>>,
 ) -> Result<Command<'w>, Misuse> {
     let file = file_in(matches, topic, number)?;
-    let question = question_in(matches, topic, words)?;
+    let question = question_in(matches, topic, number, words)?;
     Ok(Command::Ask(file, question))
 }

@@ -10,7 +10,7 @@ use crate::zerotrie_words::keys::words_in;
 use crate::zerotrie_words::manual::manual;
 use crate::zerotrie_words::misuse::Misuse;
 use crate::zerotrie_words::options::{BuildOptions, MakeOptions};
-use crate::zerotrie_words::question::{ask_in, file_count, heading_in};
+use crate::zerotrie_words::question::{ask_in, file_count};
 use crate::zerotrie_words::reply::{Reply, reply_to};
 use crate::zerotrie_words::table::commands;
 use crate::zerotrie_words::task::{Task, Topic, task_in};
@@ -109,15 +109,6 @@ impl<'a> Request<'a> {
         match self.task {
             Task::Ask(Topic::Verify | Topic::Stats) => file_count(&self.matches),
             Task::Build | Task::Ask(_) | Task::Diff | Task::Combine(_) => 1,
-        }
-    }
-
-    /// Returns the name of the file with this number, if it has to stand in front of what is printed of
-    /// it: in front of the lines of a report on one of several files.
-    pub fn heading(&self, file: usize) -> Option<&'a str> {
-        match self.task {
-            Task::Ask(Topic::Stats) => heading_in(&self.matches, file),
-            Task::Build | Task::Ask(_) | Task::Diff | Task::Combine(_) => None,
         }
     }
 

@@ -169,6 +169,7 @@ impl<'a> SearchOptions<'a> {
         let query = ListQuery {
             choice: self.choice()?,
             order: self.order(),
+            top: self.list.top()?,
             limit: self.list.most()?,
         };
         Ok(Question::List(form, query))

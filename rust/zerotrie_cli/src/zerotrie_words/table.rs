@@ -116,6 +116,12 @@ const LIMIT: Argument = Argument {
     help: "At most this many pairs",
 };
 
+const TOP: Argument = Argument {
+    name: "top",
+    form: Form::Number("N", None, GREATEST),
+    help: "Only this many pairs of the greatest values, the greatest first",
+};
+
 const COUNT: Argument = Argument {
     name: "count",
     form: Form::Flag(Some('c')),
@@ -277,6 +283,16 @@ const LOOK_UPS: &[Subcommand] = &[
                 help: "Leave out the first line or record of tsv or csv, which is a header",
             },
             Argument {
+                name: "key",
+                form: Form::Text("NAME", None, Otherwise::Nothing),
+                help: "The column of keys by its name in the header; of jsonl the member, else key",
+            },
+            Argument {
+                name: "value",
+                form: Form::Text("NAME", None, Otherwise::Nothing),
+                help: "The column of values by its name in the header; of jsonl the member, else value",
+            },
+            Argument {
                 name: "eol",
                 form: Form::OneOf("E", None, ENDS, Otherwise::Nothing),
                 help: "What ends a line, else crlf: lf keeps carriage returns",
@@ -380,8 +396,8 @@ const LISTINGS: &[Subcommand] = &[
             The order is that of the trie, but with --from, --below and --to that of bytes.\n\
             Status: 1 if no key is listed, 2 if FILE is no trie.",
         arguments: &[
-            FILE, PREFIX, FROM, BELOW, TO, FORMAT, RAW, LIMIT, COUNT, SORTED, ONLY_ASK, BARE_KIND,
-            NO_CHECK,
+            FILE, PREFIX, FROM, BELOW, TO, FORMAT, RAW, TOP, LIMIT, COUNT, SORTED, ONLY_ASK,
+            BARE_KIND, NO_CHECK,
         ],
     },
     Subcommand {
@@ -450,6 +466,7 @@ const LISTINGS: &[Subcommand] = &[
             TO,
             FORMAT,
             RAW,
+            TOP,
             LIMIT,
             COUNT,
             ONLY_ASK,

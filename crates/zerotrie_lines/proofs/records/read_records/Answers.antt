@@ -1,12 +1,11 @@
-use Rattle.std.proofs.Common.{Bor, List, ℕ, ◌∙◌, ◌++◌, ◌∷◌, [], Some, inl, inr, refl, sym, subst, arith, length-append}
+use Rattle.std.proofs.Common.{Bor, List, ℕ, ◌∙◌, ◌++◌, ◌∷◌, [], Some, inl, inr, refl, sym, true, arith, length-append}
 use Rattle.csv.specs.Reading.{Reached, strip_bom}
 use Rattle.csv.specs.Records.{fields_of}
 use Rattle.csv.specs.declared.parser.State.TheVariants as st
-use Rattle.csv.proofs.ReadFacts.{rows-more}
-use Rattle.zerotrie_lines.specs.Lines.{behind}
+use Rattle.csv.proofs.ReadFacts.{rows-end, rows-more}
 use Rattle.zerotrie_lines.specs.Reads.{ExplainsRecords}
-use Rattle.zerotrie_lines.specs.Records.{ArePairRecords, config_of}
-use Rattle.zerotrie_lines.proofs.RecordLemmas.{behind_more, behind_nothing, none_behind, records_push, with_end}
+use Rattle.zerotrie_lines.specs.Records.{config_of}
+use Rattle.zerotrie_lines.proofs.RecordLemmas.{bad_read, explains_records, next_read, own_read, passed_on}
 use Rattle.zerotrie_lines.proofs.records.read_records.Goals as goal
 
 pub loop-index-init : goal.loop-index-init
@@ -18,48 +17,40 @@ loop-index-init c =
     let f = c.flexible.ensures in (
       rw (f, h, t) at fr.trim ∙ c.new.ensures.trim,
       inr (inr (rw (f, h) at fr.has_headers, fr.headers)),
-      rw (f, h, t) at fr.config ∙ rw (c.new.ensures.config, c.terminator_of.ensures) (with_end c.args.end),
+      rw (f, h, t) at fr.config ∙ rw (c.new.ensures.config, c.terminator_of.ensures) refl,
       strip_bom c.args.input.now,
       fr.source,
       [],
       (sym fr.state, refl),
-      subst (λ t. ArePairRecords (behind c.args.header []) t) (sym c.new-table.ensures) (subst (λ r. ArePairRecords r []) (sym (behind_nothing c.args.header)) tt),
+      c.new-records.ensures,
       refl,
     )
 
-pub returns-in-Some-clause-err : goal.returns-in-Some-clause-err
-returns-in-Some-clause-err c =
-    let (trim, ready, config, y, source, rows, reached, pairs, count) = c.loop-index.invariant in
-    let fields = fields_of c.read_byte_record.new.row in
-    let r = rw c.if-not-found.false at (c.in-Ok.ensures.reads trim ready) in
-    let m = rows-more (λ (s : Bor (List ℕ)). Some s.now) c.loop-index.reader c.read_byte_record.new.self fields (config_of c.args.end) st.StartRecord (strip_bom c.args.input.now) y rows config source reached r in
-    subst (λ e. ExplainsRecords c.args.end c.args.header c.args.input.now e) (sym c.at_line.ensures)
-    (rows, fields, c.loop-index.table, (c.read_byte_record.new.self.state, m.0, m.2), pairs, omega (arith, count, c.if-index-rows.false, c.rows.ensures), omega (arith, count), rw c.in-Some.is at c.in_ok-bad.ensures.none)
+pub returns-then-not-found-clause-ok : goal.returns-then-not-found-clause-ok
+returns-then-not-found-clause-ok c =
+    let (trim, ready, config, y, source, rows, reached, read, count) = c.loop-index.invariant in
+    let r = rw c.if-not-found.true at (c.in-Ok.ensures.reads trim ready) in
+    let none = rows-end (λ (s : Bor (List ℕ)). Some s.now) c.loop-index.reader c.read_byte_record.new.self (fields_of c.read_byte_record.new.row) (config_of c.args.form) y config source r in
+    (rows, (c.loop-index.reader.state, y, reached, none), (c.loop-index.records.columns, read.columns, read.pairs))
 
-pub loop-index-preserved-then-index-rows : goal.loop-index-preserved-then-index-rows
-loop-index-preserved-then-index-rows c =
-    let (trim, ready, config, y, source, rows, reached, pairs, count) = c.loop-index.invariant in
+pub returns-in_err-add-clause-err : goal.returns-in_err-add-clause-err
+returns-in_err-add-clause-err c =
+    let (trim, ready, config, y, source, rows, reached, read, count) = c.loop-index.invariant in
     let fields = fields_of c.read_byte_record.new.row in
+    let form = c.args.form in
     let r = rw c.if-not-found.false at (c.in-Ok.ensures.reads trim ready) in
-    let m = rows-more (λ (s : Bor (List ℕ)). Some s.now) c.loop-index.reader c.read_byte_record.new.self fields (config_of c.args.end) st.StartRecord (strip_bom c.args.input.now) y rows config source reached r in (
-      r.3 ∙ trim,
-      inl (c.in-Ok.ensures.ready trim),
-      r.2 ∙ config,
-      m.0,
-      m.1,
-      rows ++ fields ∷ [],
-      m.2,
-      subst (λ rs. ArePairRecords rs c.loop-index.table) (sym (none_behind c.args.header rows fields (omega (arith, count, c.if-index-rows.true, c.rows.ensures)))) pairs,
-      omega (arith, length-append rows (fields ∷ []), count),
-    )
+    let m = rows-more (λ (s : Bor (List ℕ)). Some s.now) c.loop-index.reader c.read_byte_record.new.self fields (config_of form) st.StartRecord (strip_bom c.args.input.now) y rows config source reached r in
+    passed_on c.from_residual.result c.in_err-add.field-0.0 (ExplainsRecords form c.args.input.now) c.from_residual.ensures.1
+    (explains_records form c.args.input.now rows fields c.in_err-add.field-0.0 (c.read_byte_record.new.self.state, m.0, m.2)
+    (bad_read true form.header rows fields c.loop-index.records c.in_err-add.field-0.0 read (c.in_err-add.ensures.err rows count (own_read true form.header rows c.loop-index.records read))))
 
 pub loop-index-preserved : goal.loop-index-preserved
 loop-index-preserved c =
-    let (trim, ready, config, y, source, rows, reached, pairs, count) = c.loop-index.invariant in
+    let (trim, ready, config, y, source, rows, reached, read, count) = c.loop-index.invariant in
     let fields = fields_of c.read_byte_record.new.row in
+    let form = c.args.form in
     let r = rw c.if-not-found.false at (c.in-Ok.ensures.reads trim ready) in
-    let m = rows-more (λ (s : Bor (List ℕ)). Some s.now) c.loop-index.reader c.read_byte_record.new.self fields (config_of c.args.end) st.StartRecord (strip_bom c.args.input.now) y rows config source reached r in
-    let pair = rw c.in_default-2.is at c.in_ok-bad.ensures.pair in (
+    let m = rows-more (λ (s : Bor (List ℕ)). Some s.now) c.loop-index.reader c.read_byte_record.new.self fields (config_of form) st.StartRecord (strip_bom c.args.input.now) y rows config source reached r in (
       r.3 ∙ trim,
       inl (c.in-Ok.ensures.ready trim),
       r.2 ∙ config,
@@ -67,8 +58,6 @@ loop-index-preserved c =
       m.1,
       rows ++ fields ∷ [],
       m.2,
-      subst (λ t. ArePairRecords (behind c.args.header (rows ++ fields ∷ [])) t) (sym pair.2)
-          (subst (λ rs. ArePairRecords rs (c.loop-index.table ++ pair.0 ∷ [])) (sym (behind_more c.args.header rows (fields ∷ []) (omega (arith, count, c.if-index-rows.false, c.rows.ensures))))
-          (records_push (behind c.args.header rows) c.loop-index.table fields pair.0 pairs pair.1)),
+      next_read true form.header rows fields c.loop-index.records c.add.new.self read (c.in_ok-add.ensures.ok rows count (own_read true form.header rows c.loop-index.records read)),
       omega (arith, length-append rows (fields ∷ []), count),
     )

@@ -1,6 +1,5 @@
 use Rattle.std.proofs.Common.{◌+◌, ◌∙◌, None, ap, subst, sym, take}
 use Rattle.std.specs.List.{AllZip}
-use Rattle.zerotrie_run.specs.Combined.{IsUnopenedAt}
 use Rattle.zerotrie_run.specs.Runs.{OpensBy}
 use Rattle.zerotrie_run.specs.declared.command.Check.TheVariants.{Full}
 use Rattle.zerotrie_run.proofs.CombinedLemmas.{OpensTrie, none_at, zip_next}
@@ -11,7 +10,7 @@ returns-in-Err-clause-err c =
     let l = c.loop-number in
     let bytes = c.index-held-number.result in
     let same = c.as_slice.ensures.value ∙ ap (λ b. b.items) c.index-held-number.is in
-    none_at c.args.held.now l.number bytes c.in-Err.error c.loop-number-test.true (subst (λ held. IsUnopenedAt l.number held c.in-Err.error) same c.in-Err.ensures.err)
+    none_at c.args.from.now c.args.held.now l.number _ bytes c.in-Err.error c.loop-number-test.true c.requires (rw same at c.in-Err.ensures.err)
 
 pub loop-number-preserved : goal.loop-number-preserved
 loop-number-preserved c =

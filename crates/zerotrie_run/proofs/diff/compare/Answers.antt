@@ -1,8 +1,7 @@
-use Rattle.std.proofs.Common.{false, refl, subst}
-use Rattle.std.proofs.lemmas.Result.{IfOk-weaker, IfErr-weaker}
+use Rattle.std.proofs.Common.{inl, inr, refl}
+use Rattle.std.proofs.lemmas.Result.{err_from_is_err_and, IfOk-weaker, IfErr-weaker}
 use Rattle.std.specs.Io.Buffered.{writer_contents}
-use Rattle.zerotrie_run.specs.Runs.{IsRefusedUnread}
-use Rattle.zerotrie_run.proofs.DiffLemmas.{are_diffed, both_read, ends_refused, ends_uncompared, numbers_noted, of_any, quiet_twice, reason_refused, reason_uncompared, told_twice}
+use Rattle.zerotrie_run.proofs.DiffLemmas.{are_diffed, both_read, ends_uncompared, ends_unread, numbers_noted, of_any, quiet_twice, reason_uncompared, reason_unread, told_twice}
 use Rattle.zerotrie_run.proofs.diff.compare.Goals as goal
 
 pub returns-in_err-other-clause-tells : goal.returns-in_err-other-clause-tells
@@ -89,16 +88,24 @@ returns-clause-quiet g c =
     c.args.messages.now c.read_file.new.messages c.read_file-2.new.messages
     c.requires c.old_file.ensures c.new_file.ensures c.read_file.ensures.same c.read_file.ensures.untouched c.read_file.ensures.quiet c.read_file-2.ensures.quiet
 
-pub returns-in-Some-clause-err : goal.returns-in-Some-clause-err
-returns-in-Some-clause-err g c =
-    let files = g.D.Disk.story c.args.files.now.disk in
-    let file = c.in-Some.file in
-    let refused = subst (λ disk. IsRefusedUnread file false (g.D.Disk.story disk) c.in-Some.why c.in-Some.hint) c.disk.ensures c.in-Some.ensures.1 in
-    ends_refused c.args.diff file (g.R.Read.remaining c.args.input.now.inner) files (writer_contents g.W.Write.contents c.args.output.now.inner) c.in-Some.why c.in-Some.hint c.in-Some.ensures.0 refused
+pub returns-in_err-held-clause-err : goal.returns-in_err-held-clause-err
+returns-in_err-held-clause-err g c =
+    let same = err_from_is_err_and c.from_residual.result c.from_residual.ensures.1 in
+    rw (same.1, same.2) (ends_unread c.args.diff c.old_file.result (g.R.Read.remaining c.args.input.now.inner) (g.D.Disk.story c.args.files.now.disk) (writer_contents g.W.Write.contents c.args.output.now.inner) c.in_err-held.field-0.0.error (inl c.old_file.ensures) c.in_err-held.ensures.err.1)
 
-pub returns-in-Some-clause-why : goal.returns-in-Some-clause-why
-returns-in-Some-clause-why g c =
-    let files = g.D.Disk.story c.args.files.now.disk in
-    let file = c.in-Some.file in
-    let refused = subst (λ disk. IsRefusedUnread file false (g.D.Disk.story disk) c.in-Some.why c.in-Some.hint) c.disk.ensures c.in-Some.ensures.1 in
-    (c.in-Some.ensures.0, reason_refused file (g.R.Read.remaining c.args.input.now.inner) files c.in-Some.why c.in-Some.hint refused)
+pub returns-in_err-held-clause-why : goal.returns-in_err-held-clause-why
+returns-in_err-held-clause-why g c =
+    let same = err_from_is_err_and c.from_residual.result c.from_residual.ensures.1 in
+    rw (same.1, same.2) (reason_unread c.args.diff c.old_file.result (g.R.Read.remaining c.args.input.now.inner) (g.D.Disk.story c.args.files.now.disk) c.in_err-held.field-0.0 (inl c.old_file.ensures) c.in_err-held.ensures.err)
+
+pub returns-in_err-other-clause-err : goal.returns-in_err-other-clause-err
+returns-in_err-other-clause-err g c =
+    let unread = rw c.read_file.ensures.same at c.in_err-other.ensures.err in
+    let same = err_from_is_err_and c.from_residual-in_err-other.result c.from_residual-in_err-other.ensures.1 in
+    rw (same.1, same.2) (ends_unread c.args.diff c.new_file.result (g.R.Read.remaining c.args.input.now.inner) (g.D.Disk.story c.args.files.now.disk) (writer_contents g.W.Write.contents c.args.output.now.inner) c.in_err-other.field-0.0.error (inr c.new_file.ensures) unread.1)
+
+pub returns-in_err-other-clause-why : goal.returns-in_err-other-clause-why
+returns-in_err-other-clause-why g c =
+    let unread = rw c.read_file.ensures.same at c.in_err-other.ensures.err in
+    let same = err_from_is_err_and c.from_residual-in_err-other.result c.from_residual-in_err-other.ensures.1 in
+    rw (same.1, same.2) (reason_unread c.args.diff c.new_file.result (g.R.Read.remaining c.args.input.now.inner) (g.D.Disk.story c.args.files.now.disk) c.in_err-other.field-0.0 (inr c.new_file.ensures) unread)

@@ -2,7 +2,7 @@ use Rattle.std.proofs.Common.{◌||◌, []}
 use Rattle.std.specs.Io.Buffered.{writer_contents}
 use Rattle.zerotrie_run.specs.Commands.{command_refusal}
 use Rattle.zerotrie_run.specs.Runs.{world}
-use Rattle.zerotrie_run.proofs.EndLemmas.{absent_leaves, command_end, command_ends, command_told, end_closed, end_not_closed, end_pipe_closed, end_unread, end_unwritten, found_leaves, is_not, leaves, misused, names_its_file, not_open}
+use Rattle.zerotrie_run.proofs.EndLemmas.{absent_leaves, command_end, command_ends, command_told, end_closed, end_not_closed, end_pipe_closed, end_unread, end_unwritten, found_leaves, is_not, leaves, misused, not_open}
 use Rattle.zerotrie_run.proofs.NoteLemmas.{was_refused}
 use Rattle.zerotrie_run.proofs.program.run.Goals as goal
 
@@ -12,9 +12,6 @@ returns-then-reads_twice-clause-runs g c =
 
 pub returns-then-reads_twice-clause-told : goal.returns-then-reads_twice-clause-told
 returns-then-reads_twice-clause-told g c = λ ok. (c.twice_line.result.now, c.twice_line.ensures, ([], (c.tell.ensures.told ok).1))
-
-pub text-requires : goal.text-requires
-text-requires g c = names_its_file c.args.command (g.R.Read.remaining c.args.input.now.inner) (g.D.Disk.story c.args.files.now.disk) c.in-Err.error c.in-Err.ensures.why
 
 pub returns-in-Ok-true-clause-unread : goal.returns-in-Ok-true-clause-unread
 returns-in-Ok-true-clause-unread g c = λ left. c.in-Ok-true.ensures.unread (found_leaves c.args.command left)
@@ -49,6 +46,7 @@ returns-in-Err g c =
       pipe_closed = end_pipe_closed (read || unread) (write || unwritten) closed gone (command_refusal e) result end;
       not_closed = end_not_closed (read || unread) (write || unwritten) closed gone (command_refusal e) result end;
       failed = λ other. c.in-Err.ensures.noted (was_refused (read || unread) (write || unwritten) (closed || gone) (command_refusal e) status result c.text.result is c.end.ensures.status other);
+      once = c.carry_out.ensures.once;
       handed = not_open (read || unread) (write || unwritten) (closed || gone) (command_refusal e) result end;
       told = λ ok.
           let told = c.end.ensures.told ok in

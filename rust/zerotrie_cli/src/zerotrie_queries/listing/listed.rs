@@ -6,6 +6,7 @@ use crate::zerotrie_queries::first_pairs::FirstPairs;
 use crate::zerotrie_queries::folding::FoldedWords;
 use crate::zerotrie_queries::found::Found;
 use crate::zerotrie_queries::kept::{Conditions, conditions};
+use crate::zerotrie_queries::listing::greatest::HeldPairs;
 use crate::zerotrie_queries::near::Near;
 use crate::zerotrie_queries::question::{Choice, ListQuery, Order};
 use crate::rstd::alloc::{AllocError, Global};
@@ -23,8 +24,8 @@ type WordPairs<'t, 'q, W> = ZeroTrieSearch<'t, 'q, ByKind<Found<W>>>;
 /// The pairs that edits of a word find, the nearest first.
 type NearPairs<'t, W> = ZeroTrieNearest<'t, ByKind<Near<W>>>;
 
-/// The pairs with a prefix in the order of the trie, those of which the conditions of a choice hold, or those
-/// that a word finds.
+/// The pairs with a prefix in the order of the trie, those of which the conditions of a choice hold, those
+/// that a word finds, or some that are held.
 pub(in crate::zerotrie_queries) enum ListedPairs<'t, 'q> {
     Plain(ZeroTrieStream<'t>),
     Kept(ZeroTrieSearch<'t, 'q, Conditions<'q>>),
@@ -41,6 +42,7 @@ pub(in crate::zerotrie_queries) enum ListedPairs<'t, 'q> {
     NearFuzzyChars(NearPairs<'t, LevenshteinChars>),
     NearSwaps(NearPairs<'t, Osa>),
     NearSwapsChars(NearPairs<'t, OsaChars>),
+    Held(HeldPairs),
 }
 
 /// Evaluates an expression with the listing that there is, under a name.
@@ -62,6 +64,7 @@ macro_rules! by_pairs {
             ListedPairs::NearFuzzyChars($pairs) => $result,
             ListedPairs::NearSwaps($pairs) => $result,
             ListedPairs::NearSwapsChars($pairs) => $result,
+            ListedPairs::Held($pairs) => $result,
         }
     };
 }
@@ -399,8 +402,24 @@ fn ordered<'t, 'q>(
     }
 }
 
-/// Lists the pairs of a selection: the first whose keys are chosen, in its order. `words` are those of its
-/// choice.
+/// Lists pairs that are chosen or, if a number is given, those of them that have the greatest values.
+fn topped<'t, 'q>(
+    alloc: Global,
+    pairs: ChosenPairs<'t, 'q>,
+    top: Option<usize>,
+) -> Result<ChosenPairs<'t, 'q>, AllocError> {
+    let Some(most) = top else {
+        return Ok(pairs);
+    };
+    let held = HeldPairs::greatest(alloc, pairs, most)?;
+    Ok(ChosenPairs {
+        pairs: ListedPairs::Held(held),
+        condition: None,
+    })
+}
+
+/// Lists the pairs of a selection: the first whose keys are chosen, in its order, or those of the greatest
+/// values. `words` are those of its choice.
 ///
 /// It validates no bytes. In the order of the trie it reads the part with the prefix. In the order of bytes
 /// it reads the part between the bounds of the range or, if there are none and the kind does not ignore case,
@@ -414,7 +433,7 @@ pub(in crate::zerotrie_queries) fn listed<'t, 'q>(
     let folded = words.in_place_of(selection.choice);
     let pairs = ordered(alloc, trie, folded, words.above(), selection.order)?;
     Ok(FirstPairs {
-        source: pairs,
+        source: topped(alloc, pairs, selection.top)?,
         limit: selection.limit,
         ended: false,
     })

@@ -41,7 +41,7 @@ fn can_print(form: Form, key: &[u8]) -> bool {
     }
 }
 
-fn copied(alloc: Global, bytes: &[u8]) -> Result<Vec<u8>, AllocError> {
+pub(in crate::zerotrie_queries) fn copied(alloc: Global, bytes: &[u8]) -> Result<Vec<u8>, AllocError> {
     let mut copy = Vec::new(alloc);
     copy.extend_from_slice(bytes)?;
     Ok(copy)

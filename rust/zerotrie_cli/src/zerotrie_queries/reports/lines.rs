@@ -5,7 +5,7 @@ use crate::rstd::prelude::*;
 use crate::zerotrie_queries::print::add_text;
 use crate::zerotrie_queries::reports::count::Report;
 use crate::rstd::alloc::AllocError;
-use crate::zerotrie_lines::write_number;
+use crate::zerotrie_lines::{write_escaped, write_number};
 
 fn add_text_line(lines: &mut Vec<u8>, name: &str, text: &str) -> Result<(), AllocError> {
     add_text(lines, name)?;
@@ -123,6 +123,15 @@ fn add_nodes(lines: &mut Vec<u8>, report: &Report) -> Result<(), AllocError> {
     add_number_line(lines, "literals", report.literals)?;
     add_number_line(lines, "spans", report.spans)?;
     add_number_line(lines, "branches", report.branches.count)
+}
+
+/// Adds the line of the name of a file, if one is given.
+pub(in crate::zerotrie_queries) fn add_heading(lines: &mut Vec<u8>, name: Option<&str>) -> Result<(), AllocError> {
+    if let Some(name) = name {
+        write_escaped(lines, name.as_bytes())?;
+        add_text(lines, ":\n")?;
+    }
+    Ok(())
 }
 
 pub(in crate::zerotrie_queries) fn add_report(lines: &mut Vec<u8>, report: &Report) -> Result<(), AllocError> {

@@ -6,7 +6,7 @@ use crate::zerotrie_queries::json_text::add_comma;
 use crate::zerotrie_queries::print::add_text;
 use crate::zerotrie_queries::reports::count::Report;
 use crate::rstd::alloc::AllocError;
-use crate::zerotrie_lines::write_number;
+use crate::zerotrie_lines::{write_number, write_quoted};
 
 fn add_number_member(text: &mut Vec<u8>, name: &str, number: usize) -> Result<(), AllocError> {
     add_text(text, ",\"")?;
@@ -77,8 +77,18 @@ fn add_cell_objects(text: &mut Vec<u8>, cells: &[usize; 64]) -> Result<(), Alloc
     Ok(())
 }
 
+/// Adds the beginning of the object, with the name of a file if one is given.
+fn add_front(text: &mut Vec<u8>, name: Option<&str>) -> Result<(), AllocError> {
+    let Some(name) = name else {
+        return add_text(text, "{");
+    };
+    add_text(text, "{\"file\":")?;
+    write_quoted(text, name.as_bytes())?;
+    add_text(text, ",")
+}
+
 fn add_size_members(text: &mut Vec<u8>, report: &Report) -> Result<(), AllocError> {
-    add_text(text, "{\"kind\":\"")?;
+    add_text(text, "\"kind\":\"")?;
     add_text(text, report.kind.name())?;
     add_text(text, "\"")?;
     add_number_member(text, "bytes", report.bytes)?;
@@ -104,8 +114,13 @@ fn add_branch_member(text: &mut Vec<u8>, report: &Report) -> Result<(), AllocErr
     add_text(text, "]}\n")
 }
 
-/// Adds a report as one JSON object, and a line feed.
-pub(in crate::zerotrie_queries) fn add_report_object(text: &mut Vec<u8>, report: &Report) -> Result<(), AllocError> {
+/// Adds a report as one JSON object, with the name of its file if one is given, and a line feed.
+pub(in crate::zerotrie_queries) fn add_report_object(
+    text: &mut Vec<u8>,
+    name: Option<&str>,
+    report: &Report,
+) -> Result<(), AllocError> {
+    add_front(text, name)?;
     add_size_members(text, report)?;
     add_key_members(text, report)?;
     add_node_members(text, report)?;

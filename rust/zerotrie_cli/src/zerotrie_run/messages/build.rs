@@ -2,14 +2,18 @@
 //! Messages on a file that is made.
 
 use crate::rstd::prelude::*;
-use crate::zerotrie_run::build::BuildError;
-use crate::zerotrie_run::command::{Build, Place, Summary};
+use crate::zerotrie_run::command::{Place, Summary};
+use crate::zerotrie_run::making::{Making, MakingError, Recipe, file_of};
+use crate::zerotrie_run::messages::ask::no_trie;
+use crate::zerotrie_run::messages::key::with_key;
 use crate::zerotrie_run::messages::line::{fault_on, line_on, source_name, target_name, tell, unwritten};
 use crate::zerotrie_run::messages::pairs::{PairUnit, made_words};
 use crate::rstd::alloc::{AllocError, Global};
 use crate::rstd::io::Write;
+use crate::zerotrie_core::TrieKind;
 use crate::zerotrie_files::Noted;
-use crate::zerotrie_making::MakeError;
+use crate::zerotrie_making::{CombinationError, FileForm, Made, MakeError};
+use crate::zerotrie_sets::RuleError;
 
 /// Returns a line that says why no file is made.
 fn unmade(
@@ -47,9 +51,18 @@ fn key_word(keys: usize) -> &'static str {
     if keys == 1 { "key" } else { "keys" }
 }
 
+/// Returns whether it is reported that a file with this many keys was made.
+fn is_told(summary: Summary, keys: usize) -> bool {
+    match summary {
+        Summary::Never => false,
+        Summary::IfEmpty => keys == 0,
+        Summary::Always => true,
+    }
+}
+
 /// Returns a line that says how many keys a file has that was made, and how long it is. It is empty
 /// if that is not told.
-pub fn made_text(
+fn made_text(
     alloc: Global,
     is_told: bool,
     place: &str,
@@ -62,6 +75,52 @@ pub fn made_text(
     let (word, size) = (key_word(keys), size_text(alloc, len)?);
     let words = format!("{keys} {word}, {size}");
     line_on(alloc, place, words.as_bytes())
+}
+
+/// Returns what file a recipe makes.
+fn form_of(recipe: Recipe<'_>) -> FileForm {
+    match recipe {
+        Recipe::Pairs(plan) => plan.file.form,
+        Recipe::Tries(combination) => combination.form,
+    }
+}
+
+/// Returns whether it is told of which kind a file is, if no kind is named for it and the tries of the
+/// files have several.
+fn tells_kind(making: Making<'_, '_>) -> bool {
+    making.summary != Summary::Never && form_of(making.recipe) != FileForm::Index
+}
+
+/// Returns a line that says of which kind a file is, and why. It is empty if that is not told.
+fn kind_text(
+    alloc: Global,
+    tells_kind: bool,
+    place: &str,
+    kind: TrieKind,
+) -> Result<Vec<u8>, AllocError> {
+    if !tells_kind {
+        return Ok(Vec::new(alloc));
+    }
+    let name = kind.name();
+    let words = format!("the files have tries of several kinds, so it is of kind {name}"
+    );
+    line_on(alloc, place, words.as_bytes())
+}
+
+/// Returns what is told of a file that was made, as the summary says. `several` is whether no kind is named
+/// for it and the tries of its files have several.
+pub fn made_lines(
+    alloc: Global,
+    making: Making<'_, '_>,
+    several: bool,
+    made: &Made,
+) -> Result<Vec<u8>, AllocError> {
+    let place = target_name(making.to);
+    let mut text = kind_text(alloc, several && tells_kind(making), place, made.kind)?;
+    let is_told = is_told(making.summary, made.keys);
+    let line = made_text(alloc, is_told, place, made.keys, made.file.len())?;
+    text.extend_from_slice(line.as_slice())?;
+    Ok(text)
 }
 
 /// Returns the word after a number of files.
@@ -100,35 +159,45 @@ pub fn tell_removed<M: Write>(
     }
 }
 
-/// Returns a line that says why no file is made of pairs, or why it can't be written. The places are
-/// named.
-pub fn unbuilt(
+/// Returns why a key that is taken gets no value.
+fn value_words(why: RuleError) -> &'static str {
+    match why {
+        RuleError::SeveralValues => {
+            "more than one file has this key; --values first, sum or another gives it one value: "
+        }
+        RuleError::DifferentValues => "files have different values for this key: ",
+        RuleError::SumTooLarge => "the sum of the values of this key is 2^64 or more: ",
+    }
+}
+
+/// Returns a line that says that a key gets no value, and why.
+fn no_value(alloc: Global, place: &str, why: RuleError, key: &[u8]) -> Result<Vec<u8>, AllocError> {
+    let words = with_key(alloc, value_words(why), key)?;
+    line_on(alloc, place, words.as_slice())
+}
+
+/// Returns a line that says why no file is made. The places are named whose pairs make none, and where the
+/// file goes.
+pub fn unmade_text(
     alloc: Global,
-    from: &str,
+    pairs: &str,
     unit: PairUnit,
     to: &str,
-    error: &BuildError,
+    error: &MakingError<'_>,
 ) -> Result<Vec<u8>, AllocError> {
     match error {
-        BuildError::Unread(error) => fault_on(alloc, from, error),
-        BuildError::NotMade(error) => unmade(alloc, from, unit, error),
-        BuildError::Unwritten(error) => unwritten(alloc, to, error),
-        BuildError::Taken => line_on(
+        MakingError::Taken => line_on(
             alloc,
             to,
             b"the file is there already, and --no-clobber leaves it",
         ),
-        BuildError::Unfound(error) => fault_on(alloc, to, error),
+        MakingError::Unread(place, error) => fault_on(alloc, source_name(*place), error),
+        MakingError::NoTrie(place, why, hint) => no_trie(alloc, file_of(*place), why, *hint),
+        MakingError::NotMade(CombinationError::NoValue(why, key)) => {
+            no_value(alloc, to, *why, key.as_slice())
+        }
+        MakingError::NotMade(CombinationError::NotMade(error)) => unmade(alloc, pairs, unit, error),
+        MakingError::Unfound(error) => fault_on(alloc, to, error),
+        MakingError::Unwritten(error) => unwritten(alloc, to, error),
     }
-}
-
-/// Returns a line that says why no file is made.
-pub fn build_text(
-    alloc: Global,
-    build: Build<'_>,
-    error: &BuildError,
-) -> Result<Vec<u8>, AllocError> {
-    let from = source_name(build.from);
-    let unit = PairUnit::of(build.plan.read.source);
-    unbuilt(alloc, from, unit, target_name(build.to), error)
 }

@@ -22,12 +22,14 @@ pub enum PairUnit {
 
 impl PairUnit {
     /// Returns what holds one pair of a source.
-    pub fn of(source: Source) -> Self {
+    pub fn of(source: Source<'_>) -> Self {
         match source {
-            Source::Text(Format::Csv, _, _) => PairUnit::Record,
-            Source::Text(Format::Tsv | Format::TsvRaw | Format::Lines, _, _) => PairUnit::Line,
+            Source::Text(form) => match form.format {
+                Format::Csv => PairUnit::Record,
+                Format::Tsv | Format::TsvRaw | Format::Lines => PairUnit::Line,
+            },
             Source::Json => PairUnit::Pair,
-            Source::JsonLines => PairUnit::Line,
+            Source::JsonLines(_) => PairUnit::Line,
         }
     }
 
@@ -60,20 +62,66 @@ fn bad_hint(unit: PairUnit, number: usize, bad: &BadLine) -> &'static str {
             if number == 1 && unit != PairUnit::Pair && value.fault == ValueFault::Other => {
             "; if it is a header, say so by --header"
         }
-        BadLine::Empty | BadLine::Escape | BadLine::Value(_) | BadLine::Fields => "",
+        BadLine::Empty
+        | BadLine::Escape
+        | BadLine::Value(_)
+        | BadLine::Fields(_, _)
+        | BadLine::NoColumn(_)
+        | BadLine::SameColumns(_) => "",
     }
 }
 
-/// Returns what a field begins with that is no value, in quotes.
+/// Returns a field or a name in quotes.
+fn quoted_words(alloc: Global, field: &[u8]) -> Result<Vec<u8>, AllocError> {
+    let mut words = Vec::from_slice(alloc, b": \"")?;
+    write_escaped(&mut words, field)?;
+    words.push(b'"')?;
+    Ok(words)
+}
+
+/// Returns what a field begins with that is no value, the name of a column, or how many fields there
+/// are.
 fn field_words(alloc: Global, bad: &BadLine) -> Result<Vec<u8>, AllocError> {
     match bad {
-        BadLine::Value(value) => {
-            let mut words = Vec::from_slice(alloc, b": \"")?;
-            write_escaped(&mut words, value.front.as_slice())?;
-            words.push(b'"')?;
-            Ok(words)
+        BadLine::Value(value) => quoted_words(alloc, value.front.as_slice()),
+        BadLine::NoColumn(name) | BadLine::SameColumns(name) => {
+            quoted_words(alloc, name.as_slice())
         }
-        BadLine::Empty | BadLine::NoTab | BadLine::Escape | BadLine::Fields => Ok(Vec::new(alloc)),
+        BadLine::Fields(found, wanted) => {
+            let words = format!(": {found}, not {wanted}");
+            Vec::from_slice(alloc, words.as_bytes())
+        }
+        BadLine::Empty | BadLine::NoTab | BadLine::Escape => Ok(Vec::new(alloc)),
+    }
+}
+
+/// Returns what is wrong with a field that is no value.
+fn value_fault_words(fault: ValueFault) -> &'static str {
+    match fault {
+        ValueFault::Empty => "the value is missing",
+        ValueFault::Sign => "the value has a sign",
+        ValueFault::Blank => "a blank is in the value",
+        ValueFault::CarriageReturn => "a carriage return is at the end of the value",
+        ValueFault::Hexadecimal => "the value is hexadecimal, not decimal",
+        ValueFault::Fraction => "the value is a fraction or has an exponent",
+        ValueFault::TooLong => "the value has more than 20 digits",
+        ValueFault::TooGreat => "the value is 2^64 or more",
+        ValueFault::Other => "the value is no decimal number",
+    }
+}
+
+/// Returns why a line or record is no pair.
+fn bad_line_words(bad: &BadLine) -> &'static str {
+    match bad {
+        BadLine::Empty => "an empty line",
+        BadLine::NoTab => "no tab between a key and its value",
+        BadLine::Escape => {
+            "a backslash that begins no escape; the escapes are \\t \\n \\r \\\\ \\xHH"
+        }
+        BadLine::Value(value) => value_fault_words(value.fault),
+        BadLine::Fields(_, _) => "wrong number of fields",
+        BadLine::NoColumn(_) => "no column has this name",
+        BadLine::SameColumns(_) => "more than one column has this name",
     }
 }
 
@@ -84,7 +132,7 @@ fn bad_words(
     number: usize,
     bad: &BadLine,
 ) -> Result<Vec<u8>, AllocError> {
-    let (word, why) = (unit.word(), bad.text());
+    let (word, why) = (unit.word(), bad_line_words(bad));
     let field = field_words(alloc, bad)?;
     let text = format!("{word} {number}: {why}");
     let mut words = Vec::from_slice(alloc, text.as_bytes())?;
@@ -123,7 +171,7 @@ fn no_pair_words(alloc: Global, bad: &NoPair) -> Result<Vec<u8>, AllocError> {
             Vec::from_slice(alloc, words.as_bytes())
         }
         NoPair::Line(number) => {
-            let words = format!("line {number}: no JSON list [key, value], and no object {{\"key\": key, \"value\": value}}, whose value is written as a whole number below 2^64"
+            let words = format!("line {number}: no JSON list [key, value], and no object {{\"key\": key, \"value\": value}} or with the names of --key and --value, whose value is written as a whole number below 2^64"
             );
             Vec::from_slice(alloc, words.as_bytes())
         }

@@ -2,7 +2,8 @@ use Rattle.std.proofs.Common.{rules, ◌≡◌, ◌<◌, ◌^◌, ℕ, List, Boo
 use Rattle.std.specs.Range.Bound.{bound_map}
 use Rattle.zerotrie_core.specs.Kinds.{kind_of}
 use Rattle.zerotrie_index.specs.Tries.{folded_key}
-use Rattle.zerotrie_queries.specs.Chosen.{found_from, is_matched}
+use Rattle.zerotrie_queries.specs.Chosen.{is_matched}
+use Rattle.zerotrie_queries.specs.Found.{found_from}
 use Rattle.zerotrie_queries.proofs.ChoiceLemmas.{if_ok_so}
 use Rattle.zerotrie_queries.proofs.SortedLemmas.{gives_between}
 use Rattle.zerotrie_queries.proofs.listing.listed.by_word.Goals as goal

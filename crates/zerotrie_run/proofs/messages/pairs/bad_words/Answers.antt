@@ -2,4 +2,4 @@ use Rattle.std.proofs.Common.{rules}
 use Rattle.zerotrie_run.proofs.messages.pairs.bad_words.Goals as goal
 
 pub returns : goal.returns
-returns c = (c.text-why.result.now, search rules)
+returns c = search rules
