@@ -144,7 +144,8 @@ typedef enum zerotrie_status ZEROTRIE_ENUM {
     /** a branch would reach 2^32 bytes (not in EXTENDED_CAPACITY), or the trie 2^64;
      * zerotrie_dense_build(): also more than 65,535 suffixes; zerotrie_index_build(): 4 GiB */
     ZEROTRIE_CAPACITY_EXCEEDED = 2,
-    /** no perfect hash was found for the edges of a branch; this is rare */
+    /** no perfect hash was found for the edges of a branch: rare for text, and to be expected for
+     * 300 to 2,000 or 60,000 to 600,000 keys of random bytes */
     ZEROTRIE_NO_PERFECT_HASH = 3,
     /** IGNORE_CASE: two keys begin alike up to case, but not byte by byte */
     ZEROTRIE_MIXED_CASE = 4,
@@ -2220,7 +2221,8 @@ ZEROTRIE_INLINE const char *zerotrie_status_text(uint32_t status) {
                "pairs or suffixes";
     case ZEROTRIE_NO_PERFECT_HASH:
         return "Failed to solve the perfect hash function. This is rare! Please report your "
-               "case to the ICU4X team. Take a kind without hashed tables, or change a key";
+               "case to the ICU4X team. For keys of random bytes, build an index, or write them "
+               "in hex in a kind without hashed tables; else change a key";
     case ZEROTRIE_MIXED_CASE:
         return "Mixed-case data added to case-insensitive trie: lower-case the keys first";
     case ZEROTRIE_ILLEGAL_DELIMITER:

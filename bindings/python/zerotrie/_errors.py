@@ -33,7 +33,7 @@ TEXTS = (
     "Done",
     "Non-ASCII cannot be added to an ASCII-only trie: take a kind of trie for keys of any bytes",
     "Reached maximum capacity of trie: take the kind of extended capacity, or fewer pairs or suffixes",
-    "Failed to solve the perfect hash function. This is rare! Please report your case to the ICU4X team. Take a kind without hashed tables, or change a key",
+    "Failed to solve the perfect hash function. This is rare! Please report your case to the ICU4X team. For keys of random bytes, build an index, or write them in hex in a kind without hashed tables; else change a key",
     "Mixed-case data added to case-insensitive trie: lower-case the keys first",
     "Delimiter is contained in one or more strings: take a delimiter that is in none of them",
     "The same key was given twice: give each key once",
