@@ -75,6 +75,7 @@ def test_flat():
             memoryview(array.array("Q", [n for end in ends for n in (end, 0)]))[::2], (ctypes.c_size_t * 5)(*ends)
         ):
             assert columns.get_many_flat(kept, places, missing=-1) == array.array("q", [2, 5, -1, 3, 1])
+        assert list(Index.build(columns).get_many_flat(kept, ends, missing=9)) == [2, 5, 9, 3, 1]
     assert columns.get_many_flat(data, ends) == columns.get_many(words) and not columns.get_many_flat(b"", [])
     # the offsets of Arrow have a 0 in front
     offsets = array.array("i", [0, *ends])
@@ -94,3 +95,4 @@ def test_flat_errors():
     told(OverflowError, lambda: large.get_many_flat(b"high", [4], -1), "a value is 2**63 or more")
     told(OverflowError, lambda: large.get_many_flat(b"top", [3], -1), "a value is 2**63 or more")
     told(ValueError, lambda: closed.get_many_flat(b"", []), "the trie is closed")
+    told(OverflowError, lambda: Index.build(EDGE).get_many_flat(b"high", [4], -1), "a value is 2**63 or more")

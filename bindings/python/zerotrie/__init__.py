@@ -58,9 +58,10 @@ import hashlib
 import operator
 import reprlib
 from array import array
-from collections.abc import Iterable, Iterator, Mapping, Sequence, Set
+from collections.abc import Callable, Iterable, Iterator, Mapping, Sequence, Set
 from copy import deepcopy
 from ctypes import c_char_p, c_size_t
+from functools import partial
 from itertools import islice
 from pickle import PickleBuffer
 from typing import Any, NoReturn, Optional, TypeVar, Union, cast, overload
@@ -374,28 +375,9 @@ class _Trie(Reader[Word], _InBytes, Mapping[Word, int]):
         Ends of 64 bits are read in place, and others are copied. An end beyond the data is its end,
         and one below the end before it makes an empty key, as a row without text has it.
         """
-        try:
-            text, where = in_place(memoryview(data).cast("B"))
-        except TypeError:
-            raise TypeError(f"data is the bytes of keys, not {type(data).__name__}") from None
-        numbers = numbers_in(ends)
-        rows, places = in_place(numbers.cast("B"))
-        count = len(rows) // 8
-
-        def find(missing: Any) -> bytes:
-            other, values = whole_number(missing, 64, "missing"), (c_size_t * count)()
-            # the views keep the bytes in place during the call
-            view, *lent = self._lent()
-            check_status(lib.zerotrie_get_many(
-                *lent, c_char_p(where), len(text), (c_size_t * count).from_address(places), count,
-                other, values, count))
-            return bytes(values)
-
-        def lost(found: array[int]) -> Any:
-            others = array("Q", find(0))
-            return (other for value, other in zip(found, others) if value == missing)
-
-        return _signed(find, lost, missing)
+        # the view keeps the bytes in place during the call
+        view, *lent = self._lent()
+        return _many_flat(partial(lib.zerotrie_get_many, *lent), data, ends, missing)
 
     def cursor(self) -> Cursor:
         """A cursor before all keys."""
@@ -882,6 +864,12 @@ class Index(Table, _InBytes, Mapping[bytes, int]):
         """The value of each key, or `missing`, as an array of numbers; see get_many() of a trie."""
         return _many(self._values_of, keys, missing)
 
+    def get_many_flat(self, data: Any, ends: Any, missing: int = NO_VALUE) -> array[int]:
+        """The value of each key of a column, or `missing`; see get_many_flat() of a trie."""
+        # the view keeps the bytes in place during the call
+        view, _, *lent = self._lent()
+        return _many_flat(partial(lib.zerotrie_index_get_many, *lent), data, ends, missing)
+
     def __iter__(self) -> Iterator[bytes]:
         """The keys."""
         return (key for key, _ in index_entries(self._lent()[0]))
@@ -915,6 +903,30 @@ class Index(Table, _InBytes, Mapping[bytes, int]):
 def __dir__() -> list[str]:
     """The names that are meant for users."""
     return sorted({*__all__, *(name for name in globals() if name.startswith("__"))})
+
+
+def _many_flat(get_many: Callable[..., int], data: Any, ends: Any, missing: int) -> array[int]:
+    """get_many_flat() by a call of the library for such a column."""
+    try:
+        text, where = in_place(memoryview(data).cast("B"))
+    except TypeError:
+        raise TypeError(f"data is the bytes of keys, not {type(data).__name__}") from None
+    numbers = numbers_in(ends)
+    rows, places = in_place(numbers.cast("B"))
+    count = len(rows) // 8
+
+    def find(missing: Any) -> bytes:
+        other, values = whole_number(missing, 64, "missing"), (c_size_t * count)()
+        check_status(get_many(
+            c_char_p(where), len(text), (c_size_t * count).from_address(places), count, other, values,
+            count))
+        return bytes(values)
+
+    def lost(found: array[int]) -> Any:
+        others = array("Q", find(0))
+        return (other for value, other in zip(found, others) if value == missing)
+
+    return _signed(find, lost, missing)
 
 
 def _both(key: Any) -> tuple[Key, Key]:
