@@ -23,7 +23,6 @@ pub use Rattle.zerotrie_core.specs.Parts
 pub use Rattle.zerotrie_core.specs.Values
 pub use Rattle.zerotrie_core.specs.Prefixes
 pub use Rattle.zerotrie_core.specs.Borders
-pub use Rattle.zerotrie_core.specs.Nodewise
 pub use Rattle.zerotrie_core.specs.Canonical
 pub use Rattle.zerotrie_core.specs.Bounds
 pub use Rattle.zerotrie_core.specs.Fits

@@ -2,10 +2,8 @@
 pub mod Ascending
 pub mod Grouped
 pub mod Left
-pub mod Moved
 pub mod Nodes
 pub mod Passed
 pub mod Prefixes
 pub mod Rows
 pub mod Skipped
-pub mod Wanted

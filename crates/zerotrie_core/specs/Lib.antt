@@ -28,7 +28,6 @@ pub mod Parts
 pub mod Values
 pub mod Skips
 pub mod ByteSets
-pub mod Nodewise
 pub mod listing
 pub mod cursor
 pub mod CursorLaws

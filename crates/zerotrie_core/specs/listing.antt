@@ -2,7 +2,5 @@
 pub mod Listed
 pub mod Grouped
 pub mod Opened
-pub mod Moved
 pub mod Runs
 pub mod Passed
-pub mod Wanted

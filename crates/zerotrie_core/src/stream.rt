@@ -6,24 +6,22 @@
 
 ghost use Rattle.std.specs.Prelude.{◌≡◌, ◌≤◌, ◌<◌, List, [], ℕ, length, take, slice_index, IfOk, IfSome, false};
 ghost use Rattle.std.specs.Option.{option_map};
-ghost use Rattle.zerotrie_base.specs.Kind.{Kind, kind_with};
+ghost use Rattle.zerotrie_base.specs.Kind.{kind_with};
 ghost use Rattle.zerotrie_base.specs.Maps.{Pairs, with_run, beginning};
 ghost use Rattle.zerotrie_base.specs.Texts.{Lists};
 ghost use Rattle.zerotrie_core.specs.Places.{ListsAt};
-ghost use Rattle.zerotrie_core.specs.Shapes.{shape, branch_shape};
+ghost use Rattle.zerotrie_core.specs.Shapes.{branch_shape};
 ghost use Rattle.zerotrie_base.specs.Nodes.{Begins};
 ghost use Rattle.zerotrie_base.specs.Nodes.Shape.{literal, span};
 ghost use Rattle.zerotrie_core.specs.declared.stream.opened.OpenBranch.{OpenBranch};
 ghost use Rattle.zerotrie_core.specs.listing.Runs.{Moves, MovesLiterals, MovesAny};
 ghost use Rattle.zerotrie_core.specs.listing.Opened.{Stands, pairs_left, MovesOn};
-ghost use Rattle.zerotrie_core.specs.listing.Moved.{EntersNext, MovesOver};
 ghost use Rattle.zerotrie_core.specs.listing.Passed.{IsBehind, IsAfterEdge, IsAfterFront, IsPast, IsEntered, IsTowards, gone_to};
 
 mod open_branches;
 mod opened;
 
 use crate::branch::Branch;
-use crate::byte_set::ByteSet;
 use crate::here::Here;
 use crate::node::{Node, first_node};
 use crate::span_cursor::SpanCursor;
@@ -32,19 +30,6 @@ use opened::OpenBranch;
 use std::alloc::{AllocError, Allocator, Global};
 use std::marker::Model;
 use zerotrie_base::{ZeroTrieBuilderOptions, ZeroTrieWithOptions, by_kind, folded};
-
-/// What a stream comes to when it moves by one node.
-#[derive(Clone, Copy, Debug, PartialEq, Eq)]
-pub enum Reached {
-    /// A pair: the current key, and its value.
-    Pair,
-    /// Other bytes of the current key after this many, and no pair yet.
-    Bytes(usize),
-    /// The targets of a branch, each after the current key and its edge.
-    Branch,
-    /// No pair is left.
-    End,
-}
 
 /// Lists the pairs of a trie, one after another, each key borrowed from one buffer. A value comes
 /// before what follows it, and the targets of a branch come in the order of its table.
@@ -93,9 +78,7 @@ impl<'a, A: Allocator> Model for ZeroTrieStream<'a, A> {
 
 impl<'a, A: Allocator> ZeroTrieStream<'a, A> {
     ghost use Rattle.zerotrie_core.specs.Listings.{ListsOne, MemoryOnly, over, item_of};
-    ghost use Rattle.zerotrie_core.specs.Skips.{Skips, SkipsOutside, NoneBegins, IsGrouped};
-    ghost use Rattle.zerotrie_core.specs.Nodewise.{MovesByNode, work};
-    ghost use Rattle.zerotrie_core.specs.listing.Wanted.{IsNextWanted};
+    ghost use Rattle.zerotrie_core.specs.Skips.{Skips, NoneBegins, IsGrouped};
 
     /// Moves to the next pair, and returns whether there is one. An error ends the stream.
     ///
@@ -121,46 +104,6 @@ impl<'a, A: Allocator> ZeroTrieStream<'a, A> {
         self.value = value;
         self.ended = false;
         Ok(true)
-    }
-
-    /// Moves by one node: to the value of the current key, to more bytes of the keys that come
-    /// next, or to the targets of a branch. An error ends the stream.
-    ///
-    /// ```
-    /// // the keys "ab", "ac" and "b" with values 1, 2 and 3
-    /// let bytes = b"\xC2ab\x06\xC2bc\x01\x81\x82\x83";
-    /// let mut pairs = ZeroTrieStream::new::<Simple>(rt.alloc(), bytes);
-    /// assert_eq!(rt; pairs.advance_node()?, Reached::Branch);
-    /// assert_eq!(rt; pairs.advance_node()?, Reached::Bytes(0));
-    /// assert_eq!(rt; pairs.key(), b"a".as_slice());
-    /// pairs.skip(1);
-    /// assert_eq!(rt; pairs.advance_node()?, Reached::Bytes(0));
-    /// assert_eq!(rt; pairs.key(), b"b".as_slice());
-    /// assert_eq!(rt; pairs.advance_node()?, Reached::Pair);
-    /// assert_eq!(rt; pairs.value(), 3);
-    /// assert_eq!(rt; pairs.advance_node()?, Reached::End);
-    /// ```
-    ///
-    /// So a program can skip the keys with some beginning before it reads any of them. Calls of
-    /// `advance` may come between. The only error is a failed allocation for a longer key or a
-    /// deeper branch.
-    pub fn advance_node(&mut self) -> Result<Reached, AllocError>
-        ensures moves { MovesByNode self.old result self.new }
-        ensures grouped { IsGrouped self.old → IsGrouped self.new }
-    {
-        if self.ended {
-            return Ok(Reached::End);
-        }
-        self.ended = true;
-        let reached = next_node_of(
-            self.options,
-            &mut self.here,
-            &mut self.key,
-            &mut self.value,
-            &mut self.branches,
-        )?;
-        self.ended = matches!(reached, Reached::End);
-        Ok(reached)
     }
 
     /// Returns the key of the current pair, the one that the last call of `advance` moved to.
@@ -200,55 +143,11 @@ impl<'a, A: Allocator> ZeroTrieStream<'a, A> {
         ensures key { self.new.key ≡ self.old.key }
         ensures value { self.new.value ≡ self.old.value }
         ensures skips { Skips (take depth self.old.key) self.old.left self.new.left }
-        ensures less { work self.new ≤ work self.old }
         ensures grouped { IsGrouped self.old → IsGrouped self.new }
         ensures all { IsGrouped self.old → NoneBegins (take depth self.old.key) self.new.left.pairs }
     {
         self.here = Here::nowhere();
         self.branches.leave(depth.min(self.key.len()));
-    }
-
-    /// Returns after how many bytes of the key the branch is whose target comes next, or `None` if
-    /// the next node is no target's.
-    #[inline]
-    pub fn next_branch(&self) -> Option<usize>
-        ensures within { IfSome result (λ depth. depth ≤ length self.now.key) }
-        ensures going { IfSome result (λ depth. self.now.left.ended ≡ false) }
-    {
-        if self.ended || !self.here.rest.is_empty() {
-            return None;
-        }
-        self.branches.next_depth()
-    }
-
-    /// Skips targets of the branch after the first `depth` bytes of the key, up to the next one
-    /// whose edge is in the set. The key and its value stay.
-    ///
-    /// ```
-    /// // the keys "ab", "ac" and "b" with values 1, 2 and 3
-    /// let bytes = b"\xC2ab\x06\xC2bc\x01\x81\x82\x83";
-    /// let mut pairs = ZeroTrieStream::new::<Simple>(rt.alloc(), bytes);
-    /// assert_eq!(rt; pairs.advance_node()?, Reached::Branch);
-    /// assert_eq!(rt; pairs.next_branch(), Some(0));
-    /// pairs.pass(0, &ByteSet::from_bytes(b"bcd"));
-    /// assert!(rt; pairs.advance()?);
-    /// assert_eq!(rt; pairs.key(), b"b".as_slice());
-    /// ```
-    ///
-    /// It reads no node of them, only their edges and offsets. If a target of another branch comes
-    /// next, or none, it does nothing.
-    pub fn pass(&mut self, depth: usize, wanted: &ByteSet)
-        ensures key { self.new.key ≡ self.old.key }
-        ensures value { self.new.value ≡ self.old.value }
-        ensures skips { SkipsOutside (take depth self.old.key) wanted.now self.old.left self.new.left }
-        ensures less { work self.new ≤ work self.old }
-        ensures grouped { IsGrouped self.old → IsGrouped self.new }
-        ensures next { self.old.left.ended ≡ false → self.old.reading.rest ≡ []
-            → IsNextWanted depth wanted.now self.new.reading.branches }
-    {
-        if !self.ended && self.here.rest.is_empty() {
-            self.branches.pass(depth, wanted);
-        }
     }
 
     /// Lists nothing more.
@@ -704,78 +603,4 @@ fn next_value_of<'a, A: Allocator>(
         key.new.items here.new.rest.now branches.new) }
 {
     by_kind!(options.kind(), next_value::<_, A>(here, key, branches))
-}
-
-/// Enters the next target of the open branches. The key gets its edge, and the literals that
-/// follow.
-#[inline(always)]
-fn enter_next<'a, A: Allocator>(
-    here: &mut Here<'a>,
-    key: &mut Vec<u8, A>,
-    branches: &mut OpenBranches<'a, A>,
-) -> Result<Reached, AllocError>
-    requires { Stands (length key.old.items) branches.old }
-    ensures { (kind : Kind) → IfOk result (EntersNext kind key.old.items branches.old
-        key.new.items here.new.rest.now branches.new) }
-{
-    if !branches.has_target() {
-        return Ok(Reached::End);
-    }
-    let kept = branches.depth();
-    *here = push_run(branches.enter(key)?, key)?;
-    Ok(Reached::Bytes(kept))
-}
-
-/// Moves over the next node. The value is written if the node is one.
-fn next_node<'a, K: ZeroTrieWithOptions, A: Allocator>(
-    here: &mut Here<'a>,
-    key: &mut Vec<u8, A>,
-    value: &mut usize,
-    branches: &mut OpenBranches<'a, A>,
-) -> Result<Reached, AllocError>
-    requires { Stands (length key.old.items) branches.old }
-    ensures { IfOk result (MovesOver K.kind key.old.items here.old.rest.now branches.old
-        key.new.items here.new.rest.now branches.new value.old value.new) }
-{
-    let kept = key.len();
-    match first_node::<K>(here.rest) {
-        None => enter_next(here, key, branches),
-        Some(Node::Value(number, after)) => {
-            *here = here.behind(after);
-            *value = number;
-            Ok(Reached::Pair)
-        }
-        Some(Node::Literal(_byte, _after)) => {
-            *here = push_literals(*here, key)?;
-            Ok(Reached::Bytes(kept))
-        }
-        Some(Node::Span(run, after)) => {
-            key.extend_from_slice(run)?;
-            *here = here.behind(after);
-            Ok(Reached::Bytes(kept))
-        }
-        Some(Node::Branch(branch)) => {
-            branches.open(OpenBranch::new(*here, branch, kept))?;
-            *here = Here::nowhere();
-            Ok(Reached::Branch)
-        }
-    }
-}
-
-/// Calls `next_node` for the kind that the options name.
-fn next_node_of<'a, A: Allocator>(
-    options: ZeroTrieBuilderOptions,
-    here: &mut Here<'a>,
-    key: &mut Vec<u8, A>,
-    value: &mut usize,
-    branches: &mut OpenBranches<'a, A>,
-) -> Result<Reached, AllocError>
-    requires { Stands (length key.old.items) branches.old }
-    ensures { IfOk result (MovesOver (kind_with options) key.old.items here.old.rest.now
-        branches.old key.new.items here.new.rest.now branches.new value.old value.new) }
-{
-    by_kind!(
-        options.kind(),
-        next_node::<_, A>(here, key, value, branches)
-    )
 }

@@ -36,10 +36,6 @@ pub cased_more : (any_case : Bool) (i : Item) (more : List Item) → cased any_c
 cased_more true i more = refl
 cased_more false i more = refl
 
-pub cased_none : (any_case : Bool) → cased any_case [] ≡ []
-cased_none true = refl
-cased_none false = refl
-
 -- a case changes no role
 length_map : (is : List Item) → length (map in_any_case is) ≡ length is
 length_map [] = refl

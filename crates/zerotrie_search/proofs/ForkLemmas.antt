@@ -33,14 +33,6 @@ next_edge pairs n b low none (c ∷ key) v e = elim (cases_lt c n) [
   ]
 ]
 
--- past the last edge
-pub past_edges : (pairs : Pairs) (n : ℕ) → NoEdge pairs n → NoneFrom pairs (n ∷ [])
-past_edges pairs n none [] v e = refl
-past_edges pairs n none (c ∷ key) v e = elim (cases_lt c n) [
-  | inl below ↦ from_low n c [] key below
-  | inr high ↦ absurd (no_key pairs c key v (none c high) e)
-]
-
 -- past a byte after which no key comes
 pub past_byte : (pairs : Pairs) (c : ℕ) (x : List ℕ) → NoneFrom (residual c pairs) x → SameFrom pairs (c ∷ x) (suc c ∷ [])
 past_byte pairs c x none [] v e = refl

@@ -176,9 +176,6 @@ none_less : (q : List ℕ) → is_lt (slice_cmp nat_cmp q []) ≡ false
 none_less [] = refl
 none_less (c ∷ q) = refl
 
-pub end_all : IsEnd Unbounded (Some ([], None))
-end_all = ((λ q. refl), (λ e. refl))
-
 pub end_included : (b : List ℕ) → IsEnd (Included b) (Some (b, Some 0))
 end_included b = ((λ q. ap is_le (nat_list_cmp_total.antisymm q b) ∙ rev_le (slice_cmp nat_cmp b q) ∙ ap not (sym (above_is b q))), (λ e. absurd (some_none 0 e)))
 

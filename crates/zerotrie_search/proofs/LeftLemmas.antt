@@ -1,7 +1,7 @@
 -- What is left of a sorted listing.
 use Rattle.std.proofs.Common.{◌≡◌, ℕ, ◌-◌, List, [], ◌∷◌, ◌++◌, length, refl, sym, ◌∙◌, ap, subst, arith, ◌≤◌, Option, Some, None, Bool, true, false, cond, Ordering, Less, Equal, Greater}
 use Rattle.std.specs.Prelude.{T, filter, ◌&&◌}
-use Rattle.std.specs.Cmp.{tied_itself, unsigned_ties, eq_by_cmp_equiv}
+use Rattle.std.specs.Cmp.{unsigned_ties, eq_by_cmp_equiv}
 use Rattle.std.specs.Cmp.Lexicographic.{slice_cmp, nat_list_cmp_total, lists_ties}
 use Rattle.std.specs.FinMap.{entries, find, is_sorted, entries_sorted, nat_cmp-IsAntisymmetric, slice_cmp-IsAntisymmetric}
 use Rattle.std.specs.FinMap.Entries.{below_all, is_sorted-where_key, find-where_key, same_entries}
@@ -83,16 +83,9 @@ lt_le Greater h = refl
 pub above_other : (key q : List ℕ) → (key ≡ q → ⊥) → is_from (key ++ 0 ∷ []) q ≡ is_from key q
 above_other key q other = above_is key q ∙ lt_le (slice_cmp nat_cmp key q) (λ e. other (alike_keys key q e))
 
-pub from_itself : (key : List ℕ) → is_from key key ≡ true
-from_itself key = ap is_le (tied_itself nat_list_cmp_total key)
-
 and_first : (a b : Bool) → (a && b) ≡ true → a ≡ true
 and_first true b e = refl
 and_first false b e = e
-
-and_second : (a b : Bool) → (a && b) ≡ true → b ≡ true
-and_second true b e = e
-and_second false b e = absurd (cc)
 
 true_T : (b : Bool) → b ≡ true → T b
 true_T b e = subst T (sym e) tt

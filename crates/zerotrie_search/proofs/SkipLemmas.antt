@@ -100,9 +100,5 @@ pub left_ended : (ended : Bool) (kind : Kind) (bytes : List ℕ) (to : Bound (Li
 left_ended true kind bytes to p r = refl
 left_ended false kind bytes to p r = refl
 
-pub left_ended_is : (ended : Bool) (kind : Kind) (bytes : List ℕ) (to : Bound (List ℕ)) (p : List ℕ → Bool) → (left_where ended kind bytes to p).ended ≡ ended
-left_ended_is true kind bytes to p = refl
-left_ended_is false kind bytes to p = refl
-
 pub same_trie : (kind kind' : Kind) (bytes bytes' : List ℕ) → kind' ≡ kind → bytes' ≡ bytes → IsWellFormed kind bytes → IsWellFormed kind' bytes'
 same_trie kind kind' bytes bytes' k b well = subst (λ x. IsWellFormed x bytes') (sym k) (subst (λ x. IsWellFormed kind x) (sym b) well)

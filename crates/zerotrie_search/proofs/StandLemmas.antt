@@ -1,6 +1,6 @@
 -- Where a sorted listing stands, node by node.
 use Rattle.std.proofs.Common.{◌≡◌, ℕ, suc, ◌<◌, ◌≤◌, List, [], ◌∷◌, ◌++◌, length, take, refl, sym, ◌∙◌, ap, subst, arith, Option, Some, None, Bool, true, false, cond, inl, inr, append_assoc, Ordering, Less, Equal, Greater, length-append}
-use Rattle.std.specs.Prelude.{◌≢◌, ◌||◌, ◌&&◌, nat_le, reverse}
+use Rattle.std.specs.Prelude.{◌≢◌, ◌||◌, ◌&&◌, nat_le}
 use Rattle.std.specs.Borrow.{Bor}
 use Rattle.std.specs.Cmp.{nat_cmp_is, tied_itself, nat_cmp_total}
 use Rattle.std.specs.Cmp.Lexicographic.{slice_cmp}
@@ -355,12 +355,6 @@ span_shorter bytes run after b =
 pub parts_of : (xs : List ℕ) → xs ≢ [] → (x : ℕ) × (more : List ℕ) × (xs ≡ x ∷ more)
 parts_of [] some = absurd (some refl)
 parts_of (x ∷ xs) some = (x, xs, refl)
-
--- at the beginning of a bound, and where its way ends
-pub follow_start : (kind : Kind) (pairs : Pairs) (bound bytes key : List ℕ) (forks : List Fork) → key ≡ [] → forks ≡ [] → Lists kind bytes pairs → Follows kind pairs bound bound key bytes (reverse forks)
-follow_start kind pairs bound bytes key forks no_key no_forks text =
-    subst (λ k. Follows kind pairs bound bound k bytes (reverse forks)) (sym no_key) (subst (λ fs. Follows kind pairs bound bound [] bytes (reverse fs)) (sym no_forks)
-    (record { below = pairs; text = text; same = λ c. refl; whole = λ e. refl; way = tt; is = refl }))
 
 pub found_for : (with_it : Bool) (kind : Kind) (pairs : Pairs) (bound key : List ℕ) (forks : List Fork) (found : Option (Bor (List ℕ))) → (value_at simple_ascii pairs bound ≡ None) × StandsOrEnds kind pairs bound key forks found
     → StandsOrEnds kind pairs (cond with_it bound (bound ++ 0 ∷ [])) key forks found

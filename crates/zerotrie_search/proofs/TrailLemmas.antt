@@ -34,13 +34,6 @@ front_kept kept bytes key other front same = elim (cases_lt kept (length bytes))
       all ∙ front ∙ sym (take-take n kept key (omega (arith, more))) ∙ ap (take n) (sym same) ∙ take-take n kept other (omega (arith, more)) ∙ ap (λ xs. take (length xs) other) (sym all)
 ]
 
--- bytes in front of a front of a key
-pub front_whole : (d : ℕ) (bytes key : List ℕ) → IsFront bytes (take d key) → IsFront bytes key
-front_whole d bytes key front =
-    let within = front_within bytes (take d key) front in
-    let most = length-take d key in
-    front ∙ take-take (length bytes) d key (omega (arith, within, most))
-
 -- a front of a key that is no shorter is the key
 pub whole_front : {S : Type 0} (trail : List (ℕ × S)) (key : List ℕ) → IsFront (trail_bytes trail) key → length key ≤ length trail → trail_bytes trail ≡ key
 whole_front trail key front low = let len = bytes_len trail in front ∙ take_all (length (trail_bytes trail)) key (omega (arith, low, len))

@@ -9,8 +9,8 @@ use Rattle.zerotrie_base.specs.Maps.{Pairs, Map, after_run}
 use Rattle.zerotrie_core.specs.ByteSets.{is_in}
 use Rattle.zerotrie_core.specs.Listings.{Left, ListsOne, MemoryOnly, over}
 use Rattle.zerotrie_core.specs.declared.byte_set.ByteSet.{ByteSet}
-use Rattle.zerotrie_core.specs.declared.stream.Reached.{Reached}
-use Rattle.zerotrie_core.specs.declared.stream.Reached.TheVariants.{Pair, Bytes, Branch, End}
+use Rattle.zerotrie_search.specs.declared.sorted.walk.Reached.{Reached}
+use Rattle.zerotrie_search.specs.declared.sorted.walk.Reached.TheVariants.{Pair, Bytes, Branch, End}
 use Rattle.zerotrie_core.specs.declared.listing.ListError.{ListError}
 use Rattle.zerotrie_core.specs.declared.listing.ListError.TheVariants.{OutOfMemory}
 use Rattle.zerotrie_core.specs.WellFormed.{IsWellFormed}

@@ -14,8 +14,8 @@ use Rattle.zerotrie_core.specs.ByteSets.{is_in}
 use Rattle.zerotrie_core.specs.Listings.{Left, to_come, over}
 use Rattle.zerotrie_core.specs.listing.Listed.{listed}
 use Rattle.zerotrie_core.specs.declared.byte_set.ByteSet.{ByteSet}
-use Rattle.zerotrie_core.specs.declared.stream.Reached.{Reached}
-use Rattle.zerotrie_core.specs.declared.stream.Reached.TheVariants.{Pair, Bytes, Branch, End}
+use Rattle.zerotrie_search.specs.declared.sorted.walk.Reached.{Reached}
+use Rattle.zerotrie_search.specs.declared.sorted.walk.Reached.TheVariants.{Pair, Bytes, Branch, End}
 use Rattle.zerotrie_search.specs.Forks.{SameEdges, IsOpen, IsOver, IsRun, TakesLeast}
 use Rattle.zerotrie_search.specs.Sets.{by_bytes}
 use Rattle.zerotrie_search.specs.declared.sorted.fork.Fork.{Fork}

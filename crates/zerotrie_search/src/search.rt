@@ -8,11 +8,10 @@ ghost use Rattle.zerotrie_search.specs.Sorted.{Ends, moved};
 ghost use Rattle.zerotrie_search.specs.Trails.{IsTrail, IsFront, trail_bytes};
 
 use crate::automaton::Automaton;
-use crate::sorted::ZeroTrieSorted;
+use crate::sorted::{Reached, ZeroTrieSorted};
 use crate::trail::{Verdict, last_state, read};
 use std::alloc::{AllocError, Allocator, Global};
 use std::marker::Model;
-use zerotrie_core::Reached;
 
 /// Lists the pairs of a sorted listing whose keys an automaton accepts, in the order of bytes, each key
 /// borrowed from one buffer.

@@ -1,5 +1,5 @@
 -- Listings of encodings, in which the pairs that begin alike come one after another.
-use Rattle.std.proofs.Common.{◌≡◌, ℕ, zero, suc, ◌+◌, ◌-◌, ◌<◌, ◌≤◌, List, [], ◌∷◌, ◌++◌, ◌⊎◌, length, refl, sym, ◌∙◌, ap, subst, arith, Some, None, Bool, true, false, take, inl, inr, get_or, length-append}
+use Rattle.std.proofs.Common.{◌≡◌, ℕ, zero, suc, ◌+◌, ◌-◌, ◌<◌, ◌≤◌, List, [], ◌∷◌, ◌++◌, length, refl, sym, ◌∙◌, ap, subst, arith, Some, None, Bool, true, false, take, inl, inr, get_or, length-append}
 use Rattle.std.specs.Prelude.{slice_index, nat_lt}
 use Rattle.std.specs.Borrow.{Bor}
 use Rattle.std.proofs.lemmas.Bool.{cases_lt, ltb-true, ltb-false}
@@ -10,7 +10,7 @@ use Rattle.zerotrie_base.specs.Maps.{Pairs, with_front, with_run}
 use Rattle.zerotrie_base.specs.Texts.{Lists, ListEach}
 use Rattle.zerotrie_base.specs.Texts.Lists.{nothing}
 use Rattle.zerotrie_base.specs.Texts.ListEach.{no_edge, edge}
-use Rattle.zerotrie_base.specs.Nodes.{Shape, Begins, targets_behind, IsTargetResult}
+use Rattle.zerotrie_base.specs.Nodes.{Shape, Begins, IsTargetResult}
 use Rattle.zerotrie_base.specs.Nodes as shapes
 use Rattle.zerotrie_core.specs.Skips.{NoneBegins}
 use Rattle.zerotrie_core.specs.listing.Listed.{listed, of_targets, node_of, is_in_order, target_of}
@@ -299,38 +299,16 @@ none_open kind key d e (o ∷ branches) within are below =
       | inr none ↦ rw (none_behind kind o none) tt
     ]
 
--- so it is of a stream that skipped them
-goes_left : (kind : Kind) (key rest : List ℕ) (old new : List OpenBranch) (d : ℕ) → GoesGrouped kind key rest old → Leaves d old new → AreEntered kind key (length key) new ⊎ IsFresh kind key [] new
-goes_left kind key rest old new d goes leaves = elim goes.1 [
-  | inl are ↦ inl (leaves.entered kind key (length key) are)
-  | inr fresh ↦ leaves.fresh kind key (fresh_alone old fresh)
-]
-  where
-    fresh_alone : (branches : List OpenBranch) → IsFresh kind key rest branches → IsFresh kind key [] branches
-    fresh_alone [] fresh = fresh
-    fresh_alone (o ∷ branches) fresh = (refl, fresh.1, fresh.2, fresh.3)
-
--- a branch that was just opened is not below the whole key
-none_fresh : (kind : Kind) (key : List ℕ) (d : ℕ) (branches : List OpenBranch) → d ≤ length key → IsFresh kind key [] branches → StandsBelow d branches → ⊥
-none_fresh kind key d [] low fresh below = fresh
-none_fresh kind key d (o ∷ branches) low fresh below = elim below [
-  | inl deep ↦ (let at = fresh.3 in omega (arith, deep, low, at))
-  | inr over ↦ (let none = over.0 in let some = fresh.1 in omega (arith, none, some))
-]
-
-pub skips_all : (ended : Bool) (kind : Kind) (key rest : List ℕ) (old new : List OpenBranch) (d : ℕ) → d ≤ length key → ((left_in ended kind key rest old).ended ≡ false → GoesGrouped kind key rest old) → Leaves d old new → StandsBelow d new
+pub skips_all : (ended : Bool) (kind : Kind) (key rest : List ℕ) (old new : List OpenBranch) (d : ℕ) → d ≤ length key → ((left_in ended kind key rest old).ended ≡ false → AreGrouped kind key rest old) → Leaves d old new → StandsBelow d new
     → NoneBegins (take d key) (left_in ended kind key [] new).pairs
 skips_all true kind key rest old new d low grouped leaves below = tt
 skips_all false kind key rest old new d low grouped leaves below =
-    subst (NoneBegins (take d key)) (sym (at_nothing kind key new)) (elim (goes_left kind key rest old new d (grouped refl) leaves) [
-      | inl are ↦ none_open kind key d (length key) new (omega arith) are below
-      | inr fresh ↦ absurd (none_fresh kind key d new low fresh below)
-    ])
+    subst (NoneBegins (take d key)) (sym (at_nothing kind key new)) (none_open kind key d (length key) new (omega arith) (leaves.entered kind key (length key) (grouped refl).1) below)
 
-pub skips_grouped : (ended : Bool) (kind : Kind) (key rest : List ℕ) (old new : List OpenBranch) (d : ℕ) → ((left_in ended kind key rest old).ended ≡ false → GoesGrouped kind key rest old) → Leaves d old new
-    → (left_in ended kind key [] new).ended ≡ false → GoesGrouped kind key [] new
+pub skips_grouped : (ended : Bool) (kind : Kind) (key rest : List ℕ) (old new : List OpenBranch) (d : ℕ) → ((left_in ended kind key rest old).ended ≡ false → AreGrouped kind key rest old) → Leaves d old new
+    → (left_in ended kind key [] new).ended ≡ false → AreGrouped kind key [] new
 skips_grouped true kind key rest old new d grouped leaves going = absurd (cc)
-skips_grouped false kind key rest old new d grouped leaves going = (([], nothing), goes_left kind key rest old new d (grouped refl) leaves)
+skips_grouped false kind key rest old new d grouped leaves going = (([], nothing), leaves.entered kind key (length key) (grouped refl).1)
 
 -- at the start of an encoding no branch is open
 pub starts_grouped : (kind : Kind) (key bytes : List ℕ) (pairs : Pairs) (branches : List OpenBranch) → Lists kind bytes pairs → AreEntered kind key (length key) branches → AreGrouped kind key bytes branches

@@ -1,5 +1,5 @@
 -- Skipping the pairs whose keys begin with a front of the key in hand.
-use Rattle.std.proofs.Common.{◌≡◌, ℕ, ◌≤◌, List, [], ◌∷◌, ◌++◌, length, refl, sym, ◌∙◌, ap, subst, arith, inl, inr, take, drop, append_assoc, Bool, true, false}
+use Rattle.std.proofs.Common.{◌≡◌, ℕ, ◌≤◌, List, [], ◌∷◌, ◌++◌, length, refl, sym, ◌∙◌, ap, subst, arith, take, drop, append_assoc, Bool, true, false}
 use Rattle.std.proofs.lemmas.List.{take-append-drop, take-take}
 use Rattle.zerotrie_base.specs.Kind.{Kind}
 use Rattle.zerotrie_base.specs.Maps.{Pairs, with_run}
@@ -35,7 +35,7 @@ passes_branch kind d key o branches h stands = (
 )
 
 pub leaves_none : (d : ℕ) (branches : List OpenBranch) → Leaves d branches branches
-leaves_none d branches = record { stands = λ len s. s; entered = λ kind key e are. are; fresh = λ kind key fresh. inr fresh; passes = λ kind key s. ([], refl) }
+leaves_none d branches = record { stands = λ len s. s; entered = λ kind key e are. are; passes = λ kind key s. ([], refl) }
 
 -- the innermost one too
 pub leaves_more : (d : ℕ) (old : List OpenBranch) (o p : OpenBranch) (branches : List OpenBranch) → d ≤ o.depth → Leaves d old (o ∷ p ∷ branches) → Leaves d old (p ∷ branches)
@@ -47,10 +47,6 @@ leaves_more d old o p branches h leaves = record {
       (record { low = omega (arith, a, b); inside = at.1.0.inside; begins = at.1.0.begins }, at.1.2)
       );
   entered = λ kind key e are. (let at = leaves.entered kind key e are in entered_longer kind key o.depth e (p ∷ branches) at.0 at.2);
-  fresh = λ kind key fresh. elim (leaves.fresh kind key fresh) [
-    | inl are ↦ inl (entered_longer kind key o.depth (length key) (p ∷ branches) are.0 are.2)
-    | inr fresh ↦ inl (entered_longer kind key o.depth (length key) (p ∷ branches) (let at = fresh.3 in omega (arith, at)) fresh.2.1)
-  ];
   passes = λ kind key s. passes_on (take d key) (pairs_open kind key old) (pairs_open kind key (o ∷ p ∷ branches)) (pairs_open kind key (p ∷ branches)) (leaves.passes kind key s)
       (passes_branch kind d key o (p ∷ branches) h (leaves.stands (length key) s));
 }
@@ -60,7 +56,6 @@ pub leaves_all : (d : ℕ) (old : List OpenBranch) (o closed : OpenBranch) → d
 leaves_all d old o closed h edges next depth leaves = record {
   stands = λ len s. (record { low = omega arith; inside = omega arith; begins = λ some. absurd (omega arith) }, tt);
   entered = λ kind key e are. (omega arith, λ some. absurd (omega arith), tt);
-  fresh = λ kind key fresh. inl (omega arith, λ some. absurd (omega arith), tt);
   passes = λ kind key s. (
       let none : pairs_open kind key (closed ∷ []) ≡ [] = rw (none_behind kind closed (omega arith)) refl in
       subst (Passes (take d key) (pairs_open kind key old)) (sym none)

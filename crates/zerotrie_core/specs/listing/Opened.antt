@@ -1,11 +1,11 @@
 -- The state of a listing: the text that it is in, and the branches that are open.
-use Rattle.std.specs.Prelude.{◌≡◌, ℕ, Option, Some, None, ◌+◌, ◌-◌, ◌<◌, ◌≤◌, ◌⊎◌, List, [], ◌∷◌, ◌++◌, length, take, Bool, nat_lt, if◌then◌else◌}
+use Rattle.std.specs.Prelude.{◌≡◌, ℕ, Option, Some, None, ◌+◌, ◌-◌, ◌<◌, ◌≤◌, List, [], ◌∷◌, ◌++◌, length, take, Bool, nat_lt, if◌then◌else◌}
 use Rattle.zerotrie_base.specs.Kind.{Kind}
 use Rattle.zerotrie_base.specs.Maps.{Pairs, with_run}
 use Rattle.zerotrie_base.specs.Nodes.{targets_behind, begin_of}
 use Rattle.zerotrie_core.specs.Listings.{Left, to_come, over}
 use Rattle.zerotrie_core.specs.Skips.{Passes}
-use Rattle.zerotrie_core.specs.listing.Grouped.{AreEntered, IsFresh, GoesGrouped}
+use Rattle.zerotrie_core.specs.listing.Grouped.{AreEntered, AreGrouped}
 use Rattle.zerotrie_core.specs.listing.Listed.{listed, of_targets}
 use Rattle.zerotrie_core.specs.declared.stream.opened.OpenBranch.{OpenBranch}
 
@@ -50,7 +50,6 @@ still_open (o ∷ branches) = if nat_lt o.next o.edges then o ∷ branches else 
 pub record Leaves (d : ℕ) (old new : List OpenBranch) : Type 0 where
   pub stands : (depth : ℕ) → Stands depth old → Stands depth new
   pub entered : (kind : Kind) (prefix : List ℕ) (depth : ℕ) → AreEntered kind prefix depth old → AreEntered kind prefix depth new
-  pub fresh : (kind : Kind) (prefix : List ℕ) → IsFresh kind prefix [] old → AreEntered kind prefix (length prefix) new ⊎ IsFresh kind prefix [] new
   pub passes : (kind : Kind) (prefix : List ℕ) → Stands (length prefix) old → Passes (take d prefix) (pairs_open kind prefix old) (pairs_open kind prefix new)
 
 -- how many bytes of targets, edges and branches are still to be gone over
@@ -69,7 +68,7 @@ IsFound before key after (Some v) = before ≡ (key, v) ∷ after
 -- what is left of an encoding before a value was found is so after it
 abbrev pub StaysGrouped : Kind → List ℕ → List ℕ → List OpenBranch → List ℕ → List ℕ → List OpenBranch → Option ℕ → Type 0
 StaysGrouped kind key rest branches key' rest' branches' None = Unit {0}
-StaysGrouped kind key rest branches key' rest' branches' (Some v) = GoesGrouped kind key rest branches → GoesGrouped kind key' rest' branches'
+StaysGrouped kind key rest branches key' rest' branches' (Some v) = AreGrouped kind key rest branches → AreGrouped kind key' rest' branches'
 
 -- A stream moves to the next value, with these bytes, key and branches before it, and those after it.
 abbrev pub MovesOn : Kind → List ℕ → List ℕ → List OpenBranch → List ℕ → List ℕ → List OpenBranch → Option ℕ → Type 0

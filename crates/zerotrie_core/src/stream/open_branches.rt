@@ -1,14 +1,11 @@
 //! The branches that a stream has opened.
 
-ghost use Rattle.std.specs.Prelude.{◌≡◌, ◌<◌, ◌≤◌, ◌∷◌, ℕ, List, [], false, length, reverse, take, IfOk, IfSome, OnOk, IsTrue};
+ghost use Rattle.std.specs.Prelude.{◌≡◌, ◌<◌, ◌∷◌, ℕ, List, [], false, length, reverse, IfOk, OnOk, IsTrue};
 ghost use Rattle.zerotrie_base.specs.Kind.{Kind};
 ghost use Rattle.zerotrie_core.specs.listing.Opened.{Nested, Stands, Leaves, still_open, pairs_open, pairs_left, work_open, work_left};
-ghost use Rattle.zerotrie_core.specs.listing.Moved.{first_depth};
 ghost use Rattle.zerotrie_core.specs.listing.Grouped.{AreEntered, CanEnter, AreGrouped, StandsBelow};
-ghost use Rattle.zerotrie_core.specs.listing.Wanted.{PassesTargets, IsNextWanted};
 ghost use Rattle.zerotrie_core.specs.declared.stream.opened.OpenBranch.{OpenBranch};
 
-use crate::byte_set::ByteSet;
 use crate::here::Here;
 use crate::stream::opened::OpenBranch;
 use std::alloc::{AllocError, Allocator};
@@ -40,14 +37,6 @@ impl<'a, A: Allocator> OpenBranches<'a, A> {
         }
     }
 
-    /// Returns after how many bytes of the key the innermost branch is.
-    #[inline(always)]
-    pub(crate) fn depth(&self) -> usize
-        ensures { result ≡ first_depth self.now }
-    {
-        self.top.depth
-    }
-
     /// Leaves the innermost branch if none of its targets is left, and returns whether any branch
     /// has one.
     #[inline(always)]
@@ -67,33 +56,6 @@ impl<'a, A: Allocator> OpenBranches<'a, A> {
         }
     }
 
-    /// Returns after how many bytes of the key the innermost branch is that has a target left.
-    #[inline(always)]
-    pub(crate) fn next_depth(&self) -> Option<usize>
-        ensures { (within : ℕ) → Stands within self.now → IfSome result (λ depth. depth ≤ within) }
-    {
-        if self.top.has_next() {
-            return Some(self.top.depth);
-        }
-        match self.outer.as_slice().split_last() {
-            Some((outer, _others)) => Some(outer.depth),
-            None => None,
-        }
-    }
-
-    /// Passes the next targets whose edges are not in the set, of the innermost branch that has one
-    /// left, if that is after this many bytes of the key.
-    #[inline(always)]
-    pub(crate) fn pass(&mut self, depth: usize, wanted: &ByteSet)
-        requires { (within : ℕ) × Stands within self.old }
-        ensures passes { PassesTargets depth wanted.now self.old self.new }
-        ensures next { IsNextWanted depth wanted.now self.new }
-    {
-        if self.has_target() && self.top.depth == depth {
-            self.top.pass(wanted);
-        }
-    }
-
     /// Opens a branch inside the others. Keeps the one around it only if that has targets left.
     #[inline(always)]
     pub(crate) fn open(&mut self, inner: OpenBranch<'a>) -> Result<(), AllocError>
@@ -110,7 +72,6 @@ impl<'a, A: Allocator> OpenBranches<'a, A> {
     pub(crate) fn leave(&mut self, depth: usize)
         ensures leaves { Leaves depth self.old self.new }
         ensures below { StandsBelow depth self.new }
-        ensures less { work_open self.new ≤ work_open self.old }
     {
         while depth <= self.top.depth {
             let Some(outer) = self.outer.pop() else {
@@ -131,8 +92,6 @@ impl<'a, A: Allocator> OpenBranches<'a, A> {
             pairs_left kind key.new.items here.rest.now self.new ≡ pairs_open kind key.old.items self.old) }
         ensures grouped { (kind : Kind) → IfOk result (λ here. CanEnter kind key.old.items self.old
             → AreGrouped kind key.new.items here.rest.now self.new) }
-        ensures kept { IfOk result (λ _. take (first_depth self.old) key.new.items
-            ≡ take (first_depth self.old) key.old.items) }
         ensures less { IfOk result (λ here. work_left here.rest.now self.new < work_open self.old) }
     {
         key.truncate(self.top.depth);

@@ -6,7 +6,6 @@ ghost use Rattle.zerotrie_base.specs.Nodes.{targets_behind, begin_of, IsTargetRe
 ghost use Rattle.zerotrie_core.specs.listing.Runs.{EndsWith};
 
 use crate::branch::Branch;
-use crate::byte_set::ByteSet;
 use crate::here::Here;
 use crate::offsets::{begin_at, end_at, offsets_and_targets};
 
@@ -34,8 +33,6 @@ pub(crate) struct OpenBranch<'a> {
 }
 
 impl<'a> OpenBranch<'a> {
-    ghost use Rattle.zerotrie_core.specs.listing.Wanted.{PassesEdges, IsWanted};
-
     /// Returns a branch without edges.
     pub(crate) fn closed() -> Self
         ensures edges { result.edges ≡ 0 }
@@ -115,24 +112,5 @@ impl<'a> OpenBranch<'a> {
             tail: self.tail,
         };
         targets.part(self.begin, end)
-    }
-
-    /// Passes the next targets whose edges are not in the set. If the offsets of one fall, none is
-    /// left.
-    #[inline(always)]
-    pub(crate) fn pass(&mut self, wanted: &ByteSet)
-        requires { self.old.next < self.old.edges
-            → self.old.begin ≡ begin_of self.old.edges self.old.width self.old.behind.now self.old.next }
-        ensures passes { PassesEdges wanted.now self.old self.new }
-        ensures next { IsWanted wanted.now self.new }
-    {
-        while self.next < self.edges && !wanted.has(self.behind[self.next]) {
-            let Some(target) = self.target() else {
-                self.next = self.edges;
-                return;
-            };
-            self.begin += target.rest.len();
-            self.next += 1;
-        }
     }
 }

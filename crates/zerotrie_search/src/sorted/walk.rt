@@ -7,9 +7,20 @@ ghost use Rattle.zerotrie_search.specs.Walks.{Walks, WalksOn, StepsOn, HasRun, F
 
 use crate::sorted::fork::{Fork, climb};
 use std::alloc::{AllocError, Allocator};
-use zerotrie_core::{
-    Node, Reached, ZeroTrieBuilderOptions, ZeroTrieWithOptions, by_kind, first_node,
-};
+use zerotrie_core::{Node, ZeroTrieBuilderOptions, ZeroTrieWithOptions, by_kind, first_node};
+
+/// What a listing comes to when it moves by one node.
+#[derive(Clone, Copy, Debug)]
+pub(crate) enum Reached {
+    /// A pair: the current key, and its value.
+    Pair,
+    /// Other bytes of the current key after this many, and no pair yet.
+    Bytes(usize),
+    /// The targets of a branch, each after the current key and its edge.
+    Branch,
+    /// No pair is left.
+    End,
+}
 
 /// Enters the next target of the open branches. The key gets its edge.
 #[inline(always)]

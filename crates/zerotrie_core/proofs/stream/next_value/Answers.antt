@@ -18,7 +18,7 @@ returns-in-Some-Value g c =
     let read = rw c.in-Some-Value.field-0-is at c.in-Some-Value.ensures.node in
     let begins = rw c.in-Some-Value.field-0-is at c.in-Some-Value.ensures.begins in
     rw c.behind.ensures
-    (l.invariant.stands, λ grouped. (let at = goes_value g.K.ZeroTrieWithOptions.kind l.key.items l.at.0.now c.in-Some-Value.after.now c.in-Some-Value.value l.branches begins (l.invariant.grouped grouped) in (at.0, inl at.1)), l.invariant.same ∙ at_value g.K.ZeroTrieWithOptions.kind l.key.items l.at.0.now c.in-Some-Value.after.now c.in-Some-Value.value l.branches read)
+    (l.invariant.stands, λ grouped. goes_value g.K.ZeroTrieWithOptions.kind l.key.items l.at.0.now c.in-Some-Value.after.now c.in-Some-Value.value l.branches begins (l.invariant.grouped grouped), l.invariant.same ∙ at_value g.K.ZeroTrieWithOptions.kind l.key.items l.at.0.now c.in-Some-Value.after.now c.in-Some-Value.value l.branches read)
 
 pub loop-branches-preserved-in-Some-Literal : goal.loop-branches-preserved-in-Some-Literal
 loop-branches-preserved-in-Some-Literal g c =

@@ -1,11 +1,11 @@
 use Rattle.std.proofs.Common.{◌≡◌, ◌∙◌, ◌∷◌, [], inl, inr, ap, arith, reverse, subst, sym}
 use Rattle.std.proofs.lemmas.List.{nil_from_length, reverse-append}
-use Rattle.zerotrie_core.specs.listing.Opened.{Leaves, work_open}
+use Rattle.zerotrie_core.specs.listing.Opened.{Leaves}
 use Rattle.zerotrie_core.proofs.ListingLemmas.Skipped.{leaves_none, leaves_more, leaves_all}
 use Rattle.zerotrie_core.proofs.stream.open_branches.OpenBranches.leave.Goals as goal
 
 pub loop-self-init : goal.loop-self-init
-loop-self-init g c = record { leaves = leaves_none c.args.depth (c.self.inside.top ∷ reverse c.self.inside.outer.items); less = omega arith }
+loop-self-init g c = leaves_none c.args.depth (c.self.inside.top ∷ reverse c.self.inside.outer.items)
 
 pub loop-self-preserved : goal.loop-self-preserved
 loop-self-preserved g c =
@@ -14,10 +14,7 @@ loop-self-preserved g c =
     let outer = c.in-Some.outer in
     let rest = c.pop.new.self.items in
     let around : reverse l.self-inside.outer.items ≡ outer ∷ reverse rest = ap reverse c.in-Some.ensures.items ∙ reverse-append rest (outer ∷ []) in
-    record {
-      leaves = leaves_more c.args.depth all l.self-inside.top outer (reverse rest) c.loop-self-test.true (subst (λ bs. Leaves c.args.depth all (l.self-inside.top ∷ bs)) around l.invariant.leaves);
-      less = omega (arith, l.invariant.less, ap work_open around);
-    }
+    leaves_more c.args.depth all l.self-inside.top outer (reverse rest) c.loop-self-test.true (subst (λ bs. Leaves c.args.depth all (l.self-inside.top ∷ bs)) around l.invariant)
 
 pub returns-in_default-clause-leaves : goal.returns-in_default-clause-leaves
 returns-in_default-clause-leaves g c =
@@ -29,13 +26,10 @@ returns-in_default-clause-leaves g c =
     let closed = c.closed-self-inside in
     rw (sym c.self.view_is, left)
     (leaves_all c.args.depth all l.self-inside.top closed.result c.loop-self-test.true closed.ensures.edges closed.ensures.next closed.ensures.depth
-    (subst (λ bs. Leaves c.args.depth all (l.self-inside.top ∷ reverse bs)) none l.invariant.leaves))
+    (subst (λ bs. Leaves c.args.depth all (l.self-inside.top ∷ reverse bs)) none l.invariant))
 
 pub returns-clause-leaves : goal.returns-clause-leaves
-returns-clause-leaves g c = rw (sym c.self.view_is) c.loop-self.invariant.leaves
-
-pub returns-clause-less : goal.returns-clause-less
-returns-clause-less g c = rw (sym c.self.view_is) c.loop-self.invariant.less
+returns-clause-leaves g c = rw (sym c.self.view_is) c.loop-self.invariant
 
 pub returns-in_default-clause-below : goal.returns-in_default-clause-below
 returns-in_default-clause-below g c =
