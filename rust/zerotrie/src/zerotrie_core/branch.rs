@@ -56,6 +56,26 @@ impl<'a> Branch<'a> {
         place_in::<K>(edges, byte)
     }
 
+    /// Like `place_of`, for more than two edges. A place that is no edge's stands for `None`, so that
+    /// one test tells all ways to search.
+    #[inline(always)]
+    fn place_or_beyond<K: ZeroTrieWithOptions>(&self, byte: u8) -> usize {
+        let (low, high) = both_cases::<K>(byte);
+        if self.edges <= 16 && self.behind.len() >= 16 {
+            return first_in_16(self.behind, low, high);
+        }
+        if self.edges <= 32 && self.behind.len() >= 32 {
+            return first_in_32(self.behind, low, high);
+        }
+        if self.edges <= 64 && self.behind.len() >= 64 {
+            return first_in_64(self.behind, low, high);
+        }
+        match self.place_by_table::<K>(byte) {
+            Some(place) => place,
+            None => self.edges,
+        }
+    }
+
     /// Returns the place of the edge that equals the byte in this kind.
     ///
     /// Compares two edges one by one, and up to 64 at once, in any order, if enough bytes follow.
@@ -65,17 +85,7 @@ impl<'a> Branch<'a> {
         if self.edges == 2 {
             return self.place_of_two::<K>(byte);
         }
-        let (low, high) = both_cases::<K>(byte);
-        if self.edges <= 16 && self.behind.len() >= 16 {
-            return before_end(first_in_16(self.behind, low, high), self.edges);
-        }
-        if self.edges <= 32 && self.behind.len() >= 32 {
-            return before_end(first_in_32(self.behind, low, high), self.edges);
-        }
-        if self.edges <= 64 && self.behind.len() >= 64 {
-            return before_end(first_in_64(self.behind, low, high), self.edges);
-        }
-        self.place_by_table::<K>(byte)
+        before_end(self.place_or_beyond::<K>(byte), self.edges)
     }
 
     /// Like `target_within`, for two edges. The offset is read in any case, so as not to wait for

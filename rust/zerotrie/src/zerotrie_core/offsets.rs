@@ -2,18 +2,19 @@
 //! The offsets of a branch. Their bytes are in blocks: the highest bytes of all offsets, then the
 //! next bytes, and so on.
 
-/// Reads an offset of up to three bytes, the highest first, one from each block.
+/// Reads an offset of up to three bytes, one from each block. The last one is read first, since it
+/// is beyond the others: if it is in the table, so are they.
 #[inline(always)]
 pub(in crate::made::zerotrie_core) fn short_offset_at(table: &[u8], place: usize, count: usize, width: usize) -> usize {
-    let high = table[place] as usize;
     if width == 1 {
-        return high;
+        return table[place] as usize;
     }
-    let middle = high * 256 + table[count + place] as usize;
     if width == 2 {
-        return middle;
+        let low = table[count + place] as usize;
+        return table[place] as usize * 256 + low;
     }
-    middle * 256 + table[2 * count + place] as usize
+    let low = table[2 * count + place] as usize;
+    (table[place] as usize * 256 + table[count + place] as usize) * 256 + low
 }
 
 /// Like `offset_at`, for any width. Not inlined: few tries have offsets of more than three bytes.

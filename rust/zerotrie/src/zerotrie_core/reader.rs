@@ -56,9 +56,12 @@ fn into_target<'a, 'k, K: ZeroTrieWithOptions>(branch: Branch<'a>, key: &'k [u8]
     let Some((byte, after)) = key.split_first() else {
         return Descent::Answer(None);
     };
-    match branch.follow::<K>(*byte) {
+    let Some(place) = branch.place_of::<K>(*byte) else {
+        return Descent::Answer(None);
+    };
+    match branch.target_at(place) {
         None => Descent::Answer(None),
-        Some((_edge, target)) => Descent::Down(target, after, 1),
+        Some(target) => Descent::Down(target, after, 1),
     }
 }
 
