@@ -704,8 +704,9 @@ zerotrie_status zerotrie_build_many(zerotrie_kind_number kind, const uint8_t *ke
  *     status = zerotrie_combine(ZEROTRIE_UNION, ZEROTRIE_SUM, shards, 3, ZEROTRIE_PERFECT_HASH,
  *                               out, sizeof out, &len);
  *
- * As much room as all tries have is mostly enough. A call costs about a build of the pairs, and for
- * each key a comparison with the next key of each trie. Allocates.
+ * As much room as all tries have is mostly enough. Where tries share no keys, a call costs about two
+ * builds of all pairs if there are two, and four if there are forty: each key is compared with the
+ * next key of each trie. Keys that they share cost more, as each pair is listed. Allocates.
  */
 ZEROTRIE_ANSWERS
 zerotrie_status zerotrie_combine(zerotrie_selection selection, zerotrie_rule rule,
