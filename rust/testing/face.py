@@ -52,7 +52,6 @@ INSTEAD = {
     "Combined::new Diff::new Merge::new SortedSlice::new KeysByValue::new",
     "`Option`, and `take`": "ZeroTrieStream::end ZeroTrieSorted::end",
     "a failed allocation ends the program": "ListError Error",
-    "`wanted` of an automaton": "ZeroTrieStream::advance_node ZeroTrieStream::next_branch ZeroTrieStream::pass",
     "`seal` and `open` of what is sealed": "open seal open_index seal_index",
     "`opened` of an index": "OpenedIndex::new",
     "`stream` of a cursor": "ZeroTrieCursor::iter AsciiCursor::iter HashedCursor::iter",

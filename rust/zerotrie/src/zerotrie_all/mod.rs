@@ -111,8 +111,8 @@ pub mod bytes {
         bytes_within, bytes_within_as, encoded_len, fill_from_end, fill_from_end_as,
     };
     pub use crate::zerotrie_core::{
-        Branch, ByteSet, CursorPlace, Fault, FaultCause, LookUps, Node, Nodes, Part, Reached,
-        SpanCursor, Visit, count_pairs, first_fault, first_key_of, first_node, get, get_counted,
+        Branch, ByteSet, CursorPlace, Fault, FaultCause, LookUps, Node, Nodes, Part, SpanCursor,
+        Visit, count_pairs, first_fault, first_key_of, first_node, get, get_counted,
         is_well_formed, is_well_formed_counted, longest_prefix, longest_prefix_at, plain_encode,
         probe, read_varint_meta2, read_varint_meta3, step, take_value, write_varint_meta2,
         write_varint_meta3,

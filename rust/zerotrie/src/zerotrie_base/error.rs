@@ -86,7 +86,7 @@ impl ZeroTrieBuildError {
             ZeroTrieBuildError::CapacityExceeded =>
                 "take the kind of extended capacity, or fewer pairs or suffixes",
             ZeroTrieBuildError::CouldNotSolvePerfectHash =>
-                "take a kind without hashed tables, or change a key",
+                "for keys of random bytes, build an index, or write them in hex in a kind without hashed tables; else change a key",
             ZeroTrieBuildError::MixedCase => "lower-case the keys first",
             ZeroTrieBuildError::IllegalDelimiter => "take a delimiter that is in none of them",
             ZeroTrieBuildError::DuplicateKey => "give each key once",

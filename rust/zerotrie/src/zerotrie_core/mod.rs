@@ -47,7 +47,7 @@ pub use plain::plain_encode;
 pub use prefixes::{CommonPrefixes, longest_prefix};
 pub use reader::{get, get_counted};
 pub use span_cursor::{ByteProbeResult, SpanCursor};
-pub use stream::{Reached, ZeroTrieStream};
+pub use stream::ZeroTrieStream;
 pub use trie::{Trie, TrieRef};
 pub use values::{ZeroTrieValues, first_key_of};
 pub use walk::{Nodes, Part, Visit, count_pairs};

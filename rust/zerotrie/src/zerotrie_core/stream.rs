@@ -11,7 +11,6 @@ mod open_branches;
 mod opened;
 
 use crate::zerotrie_core::branch::Branch;
-use crate::zerotrie_core::byte_set::ByteSet;
 use crate::zerotrie_core::here::Here;
 use crate::zerotrie_core::node::{Node, first_node};
 use crate::zerotrie_core::span_cursor::SpanCursor;
@@ -19,19 +18,6 @@ use open_branches::OpenBranches;
 use opened::OpenBranch;
 use crate::rstd::alloc::{AllocError, Allocator, Global};
 use crate::zerotrie_base::{ZeroTrieBuilderOptions, ZeroTrieWithOptions, by_kind, folded};
-
-/// What a stream comes to when it moves by one node.
-#[derive(Clone, Copy, Debug, PartialEq, Eq)]
-pub enum Reached {
-    /// A pair: the current key, and its value.
-    Pair,
-    /// Other bytes of the current key after this many, and no pair yet.
-    Bytes(usize),
-    /// The targets of a branch, each after the current key and its edge.
-    Branch,
-    /// No pair is left.
-    End,
-}
 
 /// Lists the pairs of a trie, one after another, each key borrowed from one buffer. A value comes
 /// before what follows it, and the targets of a branch come in the order of its table.
@@ -86,45 +72,6 @@ impl<'a, A: Allocator> ZeroTrieStream<'a, A> {
         Ok(true)
     }
 
-    /// Moves by one node: to the value of the current key, to more bytes of the keys that come
-    /// next, or to the targets of a branch. An error ends the stream.
-    ///
-    /// ```
-    /// # use zerotrie::{rstd::examples::*, zerotrie_core::*, zerotrie_base::*};
-    /// // the keys "ab", "ac" and "b" with values 1, 2 and 3
-    /// let bytes = b"\xC2ab\x06\xC2bc\x01\x81\x82\x83";
-    /// let mut pairs = ZeroTrieStream::new::<Simple>(Global, bytes);
-    /// assert_eq!(pairs.advance_node()?, Reached::Branch);
-    /// assert_eq!(pairs.advance_node()?, Reached::Bytes(0));
-    /// assert_eq!(pairs.key(), b"a".as_slice());
-    /// pairs.skip(1);
-    /// assert_eq!(pairs.advance_node()?, Reached::Bytes(0));
-    /// assert_eq!(pairs.key(), b"b".as_slice());
-    /// assert_eq!(pairs.advance_node()?, Reached::Pair);
-    /// assert_eq!(pairs.value(), 3);
-    /// assert_eq!(pairs.advance_node()?, Reached::End);
-    /// # Ok::<(), Fail>(())
-    /// ```
-    ///
-    /// So a program can skip the keys with some beginning before it reads any of them. Calls of
-    /// `advance` may come between. The only error is a failed allocation for a longer key or a
-    /// deeper branch.
-    pub fn advance_node(&mut self) -> Result<Reached, AllocError> {
-        if self.ended {
-            return Ok(Reached::End);
-        }
-        self.ended = true;
-        let reached = next_node_of(
-            self.options,
-            &mut self.here,
-            &mut self.key,
-            &mut self.value,
-            &mut self.branches,
-        )?;
-        self.ended = matches!(reached, Reached::End);
-        Ok(reached)
-    }
-
     /// Returns the key of the current pair, the one that the last call of `advance` moved to.
     /// Before the first call and after the end, it is not a key of the trie.
     #[inline]
@@ -159,40 +106,6 @@ impl<'a, A: Allocator> ZeroTrieStream<'a, A> {
     pub fn skip(&mut self, depth: usize) {
         self.here = Here::nowhere();
         self.branches.leave(depth.min(self.key.len()));
-    }
-
-    /// Returns after how many bytes of the key the branch is whose target comes next, or `None` if
-    /// the next node is no target's.
-    #[inline]
-    pub fn next_branch(&self) -> Option<usize> {
-        if self.ended || !self.here.rest.is_empty() {
-            return None;
-        }
-        self.branches.next_depth()
-    }
-
-    /// Skips targets of the branch after the first `depth` bytes of the key, up to the next one
-    /// whose edge is in the set. The key and its value stay.
-    ///
-    /// ```
-    /// # use zerotrie::{rstd::examples::*, zerotrie_core::*, zerotrie_base::*};
-    /// // the keys "ab", "ac" and "b" with values 1, 2 and 3
-    /// let bytes = b"\xC2ab\x06\xC2bc\x01\x81\x82\x83";
-    /// let mut pairs = ZeroTrieStream::new::<Simple>(Global, bytes);
-    /// assert_eq!(pairs.advance_node()?, Reached::Branch);
-    /// assert_eq!(pairs.next_branch(), Some(0));
-    /// pairs.pass(0, &ByteSet::from_bytes(b"bcd"));
-    /// assert!(pairs.advance()?);
-    /// assert_eq!(pairs.key(), b"b".as_slice());
-    /// # Ok::<(), Fail>(())
-    /// ```
-    ///
-    /// It reads no node of them, only their edges and offsets. If a target of another branch comes
-    /// next, or none, it does nothing.
-    pub fn pass(&mut self, depth: usize, wanted: &ByteSet) {
-        if !self.ended && self.here.rest.is_empty() {
-            self.branches.pass(depth, wanted);
-        }
     }
 
     /// Lists nothing more.
@@ -552,66 +465,4 @@ fn next_value_of<'a, A: Allocator>(
     branches: &mut OpenBranches<'a, A>,
 ) -> Result<Option<usize>, AllocError> {
     by_kind!(options.kind(), next_value::<_, A>(here, key, branches))
-}
-
-/// Enters the next target of the open branches. The key gets its edge, and the literals that
-/// follow.
-#[inline(always)]
-fn enter_next<'a, A: Allocator>(
-    here: &mut Here<'a>,
-    key: &mut Vec<u8, A>,
-    branches: &mut OpenBranches<'a, A>,
-) -> Result<Reached, AllocError> {
-    if !branches.has_target() {
-        return Ok(Reached::End);
-    }
-    let kept = branches.depth();
-    *here = push_run(branches.enter(key)?, key)?;
-    Ok(Reached::Bytes(kept))
-}
-
-/// Moves over the next node. The value is written if the node is one.
-fn next_node<'a, K: ZeroTrieWithOptions, A: Allocator>(
-    here: &mut Here<'a>,
-    key: &mut Vec<u8, A>,
-    value: &mut usize,
-    branches: &mut OpenBranches<'a, A>,
-) -> Result<Reached, AllocError> {
-    let kept = key.len();
-    match first_node::<K>(here.rest) {
-        None => enter_next(here, key, branches),
-        Some(Node::Value(number, after)) => {
-            *here = here.behind(after);
-            *value = number;
-            Ok(Reached::Pair)
-        }
-        Some(Node::Literal(_byte, _after)) => {
-            *here = push_literals(*here, key)?;
-            Ok(Reached::Bytes(kept))
-        }
-        Some(Node::Span(run, after)) => {
-            key.extend_from_slice(run)?;
-            *here = here.behind(after);
-            Ok(Reached::Bytes(kept))
-        }
-        Some(Node::Branch(branch)) => {
-            branches.open(OpenBranch::new(*here, branch, kept))?;
-            *here = Here::nowhere();
-            Ok(Reached::Branch)
-        }
-    }
-}
-
-/// Calls `next_node` for the kind that the options name.
-fn next_node_of<'a, A: Allocator>(
-    options: ZeroTrieBuilderOptions,
-    here: &mut Here<'a>,
-    key: &mut Vec<u8, A>,
-    value: &mut usize,
-    branches: &mut OpenBranches<'a, A>,
-) -> Result<Reached, AllocError> {
-    by_kind!(
-        options.kind(),
-        next_node::<_, A>(here, key, value, branches)
-    )
 }

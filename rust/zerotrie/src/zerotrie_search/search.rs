@@ -3,10 +3,9 @@
 
 use crate::rstd::prelude::*;
 use crate::zerotrie_search::automaton::Automaton;
-use crate::zerotrie_search::sorted::ZeroTrieSorted;
+use crate::zerotrie_search::sorted::{Reached, ZeroTrieSorted};
 use crate::zerotrie_search::trail::{Verdict, last_state, read};
 use crate::rstd::alloc::{AllocError, Allocator, Global};
-use crate::zerotrie_core::Reached;
 
 /// Lists the pairs of a sorted listing whose keys an automaton accepts, in the order of bytes, each key
 /// borrowed from one buffer.

@@ -18,10 +18,10 @@ use seek::seek_of;
 use crate::rstd::alloc::{AllocError, Allocator, Global};
 use crate::rstd::cmp::Ordering;
 use crate::rstd::ops::Bound;
+pub(in crate::made::zerotrie_search) use walk::Reached;
 use walk::{next_node_of, next_pair_of};
 use crate::zerotrie_core::{
-    ByteSet, Reached, TrieKind, ZeroTrieBuilderOptions, ZeroTrieWithOptions, by_kind,
-    is_well_formed,
+    ByteSet, TrieKind, ZeroTrieBuilderOptions, ZeroTrieWithOptions, by_kind, is_well_formed,
 };
 
 /// Lists the pairs of a trie of any kind in the order of bytes, each key borrowed from one buffer.

@@ -2,7 +2,6 @@
 //! The branches that a stream has opened.
 
 use crate::rstd::prelude::*;
-use crate::zerotrie_core::byte_set::ByteSet;
 use crate::zerotrie_core::here::Here;
 use crate::zerotrie_core::stream::opened::OpenBranch;
 use crate::rstd::alloc::{AllocError, Allocator};
@@ -24,12 +23,6 @@ impl<'a, A: Allocator> OpenBranches<'a, A> {
         }
     }
 
-    /// Returns after how many bytes of the key the innermost branch is.
-    #[inline(always)]
-    pub(in crate::made::zerotrie_core) fn depth(&self) -> usize {
-        self.top.depth
-    }
-
     /// Leaves the innermost branch if none of its targets is left, and returns whether any branch
     /// has one.
     #[inline(always)]
@@ -43,27 +36,6 @@ impl<'a, A: Allocator> OpenBranches<'a, A> {
                 true
             }
             None => false,
-        }
-    }
-
-    /// Returns after how many bytes of the key the innermost branch is that has a target left.
-    #[inline(always)]
-    pub(in crate::made::zerotrie_core) fn next_depth(&self) -> Option<usize> {
-        if self.top.has_next() {
-            return Some(self.top.depth);
-        }
-        match self.outer.as_slice().split_last() {
-            Some((outer, _others)) => Some(outer.depth),
-            None => None,
-        }
-    }
-
-    /// Passes the next targets whose edges are not in the set, of the innermost branch that has one
-    /// left, if that is after this many bytes of the key.
-    #[inline(always)]
-    pub(in crate::made::zerotrie_core) fn pass(&mut self, depth: usize, wanted: &ByteSet) {
-        if self.has_target() && self.top.depth == depth {
-            self.top.pass(wanted);
         }
     }
 

@@ -2,7 +2,6 @@
 //! One branch that a stream has opened.
 
 use crate::zerotrie_core::branch::Branch;
-use crate::zerotrie_core::byte_set::ByteSet;
 use crate::zerotrie_core::here::Here;
 use crate::zerotrie_core::offsets::{begin_at, end_at, offsets_and_targets};
 
@@ -77,19 +76,5 @@ impl<'a> OpenBranch<'a> {
             tail: self.tail,
         };
         targets.part(self.begin, end)
-    }
-
-    /// Passes the next targets whose edges are not in the set. If the offsets of one fall, none is
-    /// left.
-    #[inline(always)]
-    pub(in crate::made::zerotrie_core) fn pass(&mut self, wanted: &ByteSet) {
-        while self.next < self.edges && !wanted.has(self.behind[self.next]) {
-            let Some(target) = self.target() else {
-                self.next = self.edges;
-                return;
-            };
-            self.begin += target.rest.len();
-            self.next += 1;
-        }
     }
 }

@@ -4,9 +4,20 @@
 use crate::rstd::prelude::*;
 use crate::zerotrie_search::sorted::fork::{Fork, climb};
 use crate::rstd::alloc::{AllocError, Allocator};
-use crate::zerotrie_core::{
-    Node, Reached, ZeroTrieBuilderOptions, ZeroTrieWithOptions, by_kind, first_node,
-};
+use crate::zerotrie_core::{Node, ZeroTrieBuilderOptions, ZeroTrieWithOptions, by_kind, first_node};
+
+/// What a listing comes to when it moves by one node.
+#[derive(Clone, Copy, Debug)]
+pub(in crate::made::zerotrie_search) enum Reached {
+    /// A pair: the current key, and its value.
+    Pair,
+    /// Other bytes of the current key after this many, and no pair yet.
+    Bytes(usize),
+    /// The targets of a branch, each after the current key and its edge.
+    Branch,
+    /// No pair is left.
+    End,
+}
 
 /// Enters the next target of the open branches. The key gets its edge.
 #[inline(always)]
